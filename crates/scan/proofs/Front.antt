@@ -1,0 +1,33 @@
+-- A buffer whose front is cleared.
+use Prim.Native.Nat.{ℕ, _+_, min, _≤_, _<_}
+use native.Mathlib.Omega.{arith}
+use mathlib.Core.Path.{_≡_, refl, sym, ap, _∙_}
+use mathlib.Core.List.{List, _++_}
+use lib.ListN.{length, set, drop, replicate, length-append, length-replicate, length-drop, drop-of-length-le}
+use borrow.Author.Fill.{fill-none, fill-more}
+use Rattle.scan.specs.Front.{cleared}
+
+-- a front that the buffer has
+pub cleared-whole : (n : ℕ) (words : List ℕ) → n ≤ length words → cleared n words ≡ replicate n 0 ++ drop n words
+unfolding cleared
+cleared-whole n words l = let e : min n (length words) ≡ n = omega arith in rw e
+
+pub cleared-length : (n : ℕ) (words : List ℕ) → length (cleared n words) ≡ length words
+unfolding cleared
+cleared-length n words = simp (length-append, length-replicate, length-drop) (omega arith)
+
+-- ---- the turns of the loop
+
+pub cleared-none : (words : List ℕ) → words ≡ cleared 0 words
+cleared-none words = fill-none words 0 ∙ sym (cleared-whole 0 words (omega arith))
+
+pub cleared-more : (i : ℕ) (words : List ℕ) → i < length words → set (cleared i words) i 0 ≡ cleared (i + 1) words
+cleared-more i words l =
+    ap (λ (w : List ℕ). set w i 0) (cleared-whole i words (omega arith)) ∙ fill-more i 0 words l ∙ sym (cleared-whole (i + 1) words (omega arith))
+
+-- a loop that met the buffer's end
+pub cleared-past : (i n : ℕ) (words : List ℕ) → length words ≤ i → i ≤ n → cleared i words ≡ cleared n words
+unfolding cleared
+cleared-past i n words h l =
+    let e : min i (length words) ≡ min n (length words) = omega arith in
+    rw (e, drop-of-length-le words h, drop-of-length-le words {i = n} (omega arith))

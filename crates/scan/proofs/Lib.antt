@@ -1,0 +1,9 @@
+pub mod Tests
+pub mod First
+pub mod Every
+pub mod Count
+pub mod Sum
+pub mod Greatest
+pub mod Least
+pub mod Tabulate
+pub mod Front

@@ -1,0 +1,61 @@
+-- Tests and their truth: how a Bool is taken apart and put together.
+use mathlib.Core.Path.{_≡_, refl, sym}
+use mathlib.Core.Logic.{_⊎_, inl, inr}
+use mathlib.Core.Bool.{Bool, true, false, _&&_, _||_}
+use Prim.Native.Nat.{ℕ, suc, _≤_, _<_}
+use native.Mathlib.Nat.{eq-or-lt-of-le, le-of-suc-le-suc}
+use native.Mathlib.Omega.{arith}
+
+-- both outcomes of a test, each with its equation
+pub byTest {ℓ} : {C : Type ℓ} (b : Bool) → (b ≡ true → C) → (b ≡ false → C) → C
+byTest true f g = f refl
+byTest false f g = g refl
+
+pub true-false {ℓ} : {C : Type ℓ} (b : Bool) → b ≡ true → b ≡ false → C
+true-false b p q = let z : _≡_ {A = ℕ} 0 1 = cc in absurd (omega arith)
+
+pub not-true→false : (b : Bool) → (b ≡ true → ⊥) → b ≡ false
+not-true→false true h = absurd (h refl)
+not-true→false false h = refl
+
+pub not-false→true : (b : Bool) → (b ≡ false → ⊥) → b ≡ true
+not-false→true true h = refl
+not-false→true false h = absurd (h refl)
+
+pub iff→eq : (a b : Bool) → (a ≡ true → b ≡ true) → (b ≡ true → a ≡ true) → a ≡ b
+iff→eq true b f g = sym (f refl)
+iff→eq false true f g = g refl
+iff→eq false false f g = refl
+
+pub and-left : (a b : Bool) → (a && b) ≡ true → a ≡ true
+and-left true b e = refl
+and-left false b e = e
+
+pub and-right : (a b : Bool) → (a && b) ≡ true → b ≡ true
+and-right true b e = e
+and-right false b e = cc
+
+pub and-both : (a b : Bool) → a ≡ true → b ≡ true → (a && b) ≡ true
+and-both a b p q = cc
+
+pub or-left : (a b : Bool) → a ≡ true → (a || b) ≡ true
+or-left a b p = cc
+
+pub or-right : (a b : Bool) → b ≡ true → (a || b) ≡ true
+or-right true b p = refl
+or-right false b p = p
+
+pub or-cases : (a b : Bool) → (a || b) ≡ true → (a ≡ true) ⊎ (b ≡ true)
+or-cases true b p = inl refl
+or-cases false b p = inr p
+
+pub or-none-left : (a b : Bool) → (a || b) ≡ false → a ≡ false
+or-none-left true b h = h
+or-none-left false b h = refl
+
+pub or-none-right : (a b : Bool) → (a || b) ≡ false → b ≡ false
+or-none-right true b h = cc
+or-none-right false b h = h
+
+pub lt-suc-cases : {i n : ℕ} → i < suc n → (i ≡ n) ⊎ (i < n)
+lt-suc-cases h = eq-or-lt-of-le (le-of-suc-le-suc h)

@@ -1,0 +1,73 @@
+-- `scan::clear_front` meets its contract: when the counter is i the buffer is `cleared i` of what it was.
+use Prim.Native.Nat.{ℕ, _-_, _≤_}
+use borrow.Author.Needs.{needs}
+use native.Mathlib.Omega.{arith}
+use mathlib.Core.Path.{_≡_, ap, sym, _∙_}
+use mathlib.Core.List.{List}
+use lib.ListN.{length, set, length-set}
+use Rattle.scan.specs.Front.{cleared}
+use Rattle.scan.proofs.Front.{cleared-length, cleared-none, cleared-more, cleared-past}
+use Rattle.scan.proofs.clear_front.Statement.{statement}
+use Rattle.scan.proofs.clear_front.Tie as tie
+use Rattle.scan.proofs.clear_front.Reads as reads
+use Rattle.scan.proofs.clear_front.Lts as lts
+
+abbrev Inv-loop : tie.InvT-loop
+Inv-loop words₀ n i₀ words i = (i ≤ n) × (words ≡ cleared i words₀) × (length words ≡ length words₀)
+
+abbrev μ-loop : tie.MeasureT-loop
+μ-loop words₀ n i₀ words i = n - i
+
+loop-holds : tie.Need-loop-holds Inv-loop μ-loop
+loop-holds c = (omega arith, cleared-none _, omega arith)
+
+same-length : tie.Need-same-length Inv-loop μ-loop
+same-length c = search needs
+
+returns : tie.Need-returns Inv-loop μ-loop
+returns c = c .before .before .loop .inv .1 ∙ cleared-past _ _ _ (omega arith) (omega arith)
+
+mul-words : tie.Need-mul-words Inv-loop μ-loop
+mul-words c = search needs
+
+slice-write-words : tie.Need-slice-write-words Inv-loop μ-loop
+slice-write-words c = search needs
+
+add-i : tie.Need-add-i Inv-loop μ-loop
+add-i c = omega arith
+
+loop-less : tie.Need-loop-less Inv-loop μ-loop
+loop-less c = omega arith
+
+loop-again : tie.Need-loop-again Inv-loop μ-loop
+loop-again c =
+    let w = c .before .before .loop in (
+      omega arith,
+      ap (λ (l : List ℕ). set l (w .i) 0) (w .inv .1) ∙ cleared-more _ _ (omega arith),
+      simp length-set (w .inv .2),
+    )
+
+same-length-2 : tie.Need-same-length-2 Inv-loop μ-loop
+same-length-2 c = search needs
+
+returns-2 : tie.Need-returns-2 Inv-loop μ-loop
+returns-2 c =
+    let e : c .before .loop .i ≡ c .before .before .args .n = omega arith in
+    rw (← e) (c .before .loop .inv .1)
+
+pub clear-front-spec : {M : Type 1} → statement M
+clear-front-spec =
+    tie.close
+    (tie.spec
+    Inv-loop
+    μ-loop
+    loop-holds
+    same-length
+    returns
+    mul-words
+    slice-write-words
+    add-i
+    loop-less
+    loop-again
+    same-length-2
+    returns-2)
