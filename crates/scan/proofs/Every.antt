@@ -3,8 +3,8 @@ use Prim.Native.Nat.{ℕ, zero, suc, _+_, _<_}
 use native.Mathlib.Numerals.{add-one}
 use native.Mathlib.Omega.{arith}
 use mathlib.Core.Path.{_≡_, refl}
-use mathlib.Core.Logic.{_⊎_, inl, inr, ⊎-elim}
-use mathlib.Core.Bool.{Bool, true, false, _||_}
+use mathlib.Core.Logic.{⊎-elim}
+use mathlib.Core.Bool.{Bool, true, false}
 use Rattle.scan.specs.Scan.{all, any}
 use Rattle.scan.proofs.Tests.{and-left, and-right, and-both, or-left, or-right, or-cases, true-false, lt-suc-cases, not-true→false}
 
@@ -52,3 +52,11 @@ any-ext f g (suc n) h = cc (h n (omega arith), any-ext f g n (λ i l. h i (omega
 pub all-more : (f : ℕ → Bool) (i : ℕ) → all f i ≡ true → f i ≡ true → all f (i + 1) ≡ true
 unfolding all
 all-more f i h e = rw (add-one) (and-both (all f i) (f i) h e)
+
+pub any-none-yet : (f : ℕ → Bool) → any f 0 ≡ false
+unfolding any
+any-none-yet f = refl
+
+pub any-more : (f : ℕ → Bool) (i : ℕ) → any f i ≡ false → f i ≡ false → any f (i + 1) ≡ false
+unfolding any
+any-more f i h e = rw (add-one, h) e

@@ -1,13 +1,13 @@
 -- A buffer whose front is cleared.
+-- a front that the buffer has
 use Prim.Native.Nat.{ℕ, _+_, min, _≤_, _<_}
 use native.Mathlib.Omega.{arith}
-use mathlib.Core.Path.{_≡_, refl, sym, ap, _∙_}
+use mathlib.Core.Path.{_≡_, sym, ap, _∙_}
 use mathlib.Core.List.{List, _++_}
 use lib.ListN.{length, set, drop, replicate, length-append, length-replicate, length-drop, drop-of-length-le}
 use borrow.Author.Fill.{fill-none, fill-more}
 use Rattle.scan.specs.Front.{cleared}
 
--- a front that the buffer has
 pub cleared-whole : (n : ℕ) (words : List ℕ) → n ≤ length words → cleared n words ≡ replicate n 0 ++ drop n words
 unfolding cleared
 cleared-whole n words l = let e : min n (length words) ≡ n = omega arith in rw e

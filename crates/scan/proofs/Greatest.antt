@@ -1,14 +1,14 @@
 -- The greatest value: a bound on each, and attained.
-use mathlib.Core.Path.{_≡_, refl}
-use mathlib.Core.Logic.{_⊎_, inl, inr, ⊎-elim}
+-- a turn of a loop
 use Prim.Native.Nat.{ℕ, zero, suc, _+_, _≤_, _<_, max}
 use native.Mathlib.Numerals.{add-one}
 use native.Mathlib.Omega.{arith}
 use native.Mathlib.Decide.{decLt}
+use mathlib.Core.Path.{_≡_}
+use mathlib.Core.Logic.{⊎-elim}
 use Rattle.scan.specs.Scan.{greatest}
 use Rattle.scan.proofs.Tests.{lt-suc-cases}
 
--- a turn of a loop
 pub greatest-more : (f : ℕ → ℕ) (i : ℕ) → greatest f (i + 1) ≡ max (greatest f i) (f i)
 unfolding greatest
 greatest-more f i = rw (add-one)

@@ -1,14 +1,14 @@
 -- The least index that passes.
 use Prim.Native.Nat.{ℕ, _≤_, _<_}
 use native.Mathlib.Omega.{arith}
-use mathlib.Core.Path.{_≡_, refl, sym, ap, _∙_}
+use mathlib.Core.Path.{_≡_, refl, ap}
 use mathlib.Core.Bool.{Bool, true, false}
 use mathlib.Core.Option.{Option, none, some, Option·getD}
-use lib.Dec.{ltb, leb}
+use lib.Dec.{leb}
 use borrow.Author.Tests.{leb-true, leb-false}
-use Rattle.scan.specs.Scan.{when, first, passing, least}
+use Rattle.scan.specs.Scan.{first, passing, least}
 use Rattle.scan.proofs.Tests.{byTest, true-false}
-use Rattle.scan.proofs.First.{when-some, when-none, when-hit, when-miss, first-at, first-all, first-hit, first-empty, first-ext}
+use Rattle.scan.proofs.First.{when-some, when-none, first-at, first-all, first-ext}
 
 passing-some : (f : ℕ → Bool) (i a : ℕ) → passing f i ≡ some a → (f i ≡ true) × (i ≡ a)
 unfolding passing

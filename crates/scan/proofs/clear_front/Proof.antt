@@ -1,16 +1,14 @@
 -- `scan::clear_front` meets its contract: when the counter is i the buffer is `cleared i` of what it was.
 use Prim.Native.Nat.{ℕ, _-_, _≤_}
-use borrow.Author.Needs.{needs}
 use native.Mathlib.Omega.{arith}
-use mathlib.Core.Path.{_≡_, ap, sym, _∙_}
+use mathlib.Core.Path.{_≡_, ap, _∙_}
 use mathlib.Core.List.{List}
 use lib.ListN.{length, set, length-set}
+use borrow.Author.Needs.{needs}
 use Rattle.scan.specs.Front.{cleared}
-use Rattle.scan.proofs.Front.{cleared-length, cleared-none, cleared-more, cleared-past}
+use Rattle.scan.proofs.Front.{cleared-none, cleared-more, cleared-past}
 use Rattle.scan.proofs.clear_front.Statement.{statement}
 use Rattle.scan.proofs.clear_front.Tie as tie
-use Rattle.scan.proofs.clear_front.Reads as reads
-use Rattle.scan.proofs.clear_front.Lts as lts
 
 abbrev Inv-loop : tie.InvT-loop
 Inv-loop words₀ n i₀ words i = (i ≤ n) × (words ≡ cleared i words₀) × (length words ≡ length words₀)

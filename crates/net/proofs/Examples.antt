@@ -1,0 +1,11 @@
+-- The table of worked nets holds: one computation of the definitions.
+use mathlib.Core.Path.{_≡_, refl}
+use Rattle.scan.specs.Scan.{orElse, when, found, first, all, any}
+use Rattle.table.specs.Table.{keyAt, valueAt, entryWith, entryOf}
+use Rattle.net.specs.Net.{placeCount, transitionCount, entryCount, entryKey, entryWeight, keyLimit, takenKey, weightAt, isPlace, isTransition, taken, takesNothing, isSource, hasSource}
+use Rattle.net.specs.Check.{sizesPass, weightFails, shapeFault, keyFails, entryFault, entriesFault, netFault, netReply}
+use Rattle.net.specs.Examples.{table, repliesTo, answersOf}
+
+pub table-holds : repliesTo table ≡ answersOf table
+unfolding orElse when found first all any keyAt valueAt entryWith entryOf placeCount transitionCount entryCount entryKey entryWeight keyLimit takenKey weightAt isPlace isTransition taken takesNothing isSource hasSource sizesPass weightFails shapeFault keyFails entryFault entriesFault netFault netReply
+table-holds = refl

@@ -1,0 +1,78 @@
+-- 1 and 2: the sizes and the length of a net.
+use Prim.Native.Nat.{ℕ, _+_, _*_, _≤_}
+use native.Mathlib.Omega.{arith}
+use native.Mathlib.Nat.{mul-le-mul}
+use mathlib.Core.Path.{_≡_}
+use mathlib.Core.List.{List}
+use mathlib.Core.Bool.{true}
+use mathlib.Core.Option.{none}
+use lib.ListN.{length, getD}
+use borrow.Author.Tests.{leb-true, eqb-true, not-false, le-leb, le-ltb, eq-eqb}
+use Rattle.scan.specs.Scan.{orElse, when}
+use Rattle.scan.proofs.Tests.{and-left, and-right, and-both}
+use Rattle.scan.proofs.First.{orElse-left, orElse-right, when-none}
+use Rattle.net.specs.Net.{placeCount, transitionCount, entryCount, keyLimit}
+use Rattle.net.specs.Check.{sizesPass, shapeFault}
+use Rattle.net.specs.Demands.{SizesPass, ShapePasses}
+
+pub sizes-out : (net : List ℕ) → sizesPass (placeCount net) (transitionCount net) (entryCount net) ≡ true → SizesPass net
+unfolding sizesPass keyLimit
+sizes-out net h = record {
+  some-place = leb-true _ _ (search (and-left, and-right));
+  few-places = leb-true _ _ (search (and-left, and-right));
+  some-transition = leb-true _ _ (search (and-left, and-right));
+  few-transitions = leb-true _ _ (search (and-left, and-right));
+  few-entries = leb-true _ _ (search (and-left, and-right));
+}
+
+pub sizes-in : (net : List ℕ) → SizesPass net → sizesPass (placeCount net) (transitionCount net) (entryCount net) ≡ true
+unfolding sizesPass keyLimit
+sizes-in net s =
+    let a = le-leb _ _ (s .some-place) in
+    let b = le-leb _ _ (s .few-places) in
+    let c = le-leb _ _ (s .some-transition) in
+    let d = le-leb _ _ (s .few-transitions) in
+    let e = le-leb _ _ (s .few-entries) in
+    search and-both depth 12
+
+pub shape-out : (net : List ℕ) → shapeFault net ≡ none → ShapePasses net
+unfolding shapeFault
+shape-out net h = record {
+  sizes = sizes-out net (not-false _ (when-none _ _ (orElse-left _ _ (orElse-right _ _ h))));
+  whole = eqb-true _ _ (not-false _ (when-none _ _ (orElse-right _ _ (orElse-right _ _ h))));
+}
+
+pub shape-in : (net : List ℕ) → ShapePasses net → shapeFault net ≡ none
+unfolding shapeFault orElse when
+shape-in net s =
+    rw (le-ltb (length net) 3 (omega (arith, s .whole)), sizes-in net (s .sizes), eq-eqb (length net) (3 + 2 * entryCount net) (s .whole))
+
+-- every key is below this, whatever the sizes
+pub limit-high : (net : List ℕ) → SizesPass net → keyLimit net ≤ 2080
+unfolding keyLimit
+limit-high net s = let a : 2 * transitionCount net + 1 ≤ 65 = omega (arith, s .few-transitions) in mul-le-mul a (s .few-places)
+
+-- the same about the words themselves, as the code reads them
+pub record Known (net : List ℕ) : Type 0 where
+  pub long : length net ≡ 3 + 2 * getD net 2 0
+  pub some-place : 1 ≤ getD net 0 0
+  pub few-places : getD net 0 0 ≤ 32
+  pub some-transition : 1 ≤ getD net 1 0
+  pub few-transitions : getD net 1 0 ≤ 32
+  pub few-keys : (2 * getD net 1 0 + 1) * getD net 0 0 ≤ 2080
+  pub few-entries : getD net 2 0 ≤ 2080
+
+pub known : (net : List ℕ) → shapeFault net ≡ none → Known net
+unfolding placeCount transitionCount entryCount keyLimit
+known net h =
+    let s = shape-out net h in
+    let l = limit-high net (s .sizes) in
+    record {
+      long = s .whole;
+      some-place = s .sizes .some-place;
+      few-places = s .sizes .few-places;
+      some-transition = s .sizes .some-transition;
+      few-transitions = s .sizes .few-transitions;
+      few-keys = l;
+      few-entries = omega (arith, s .sizes .few-entries);
+    }

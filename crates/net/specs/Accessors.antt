@@ -1,0 +1,35 @@
+-- What the net's accessors answer on any words: the weight that bisection finds, 0 where 1 or 2 refuses the net.
+-- On an accepted net that is document 01's weight (Demands, `AccessorsRight`).
+use Prim.Native.Nat.{ℕ, _+_, _*_}
+use mathlib.Core.List.{List}
+use mathlib.Core.Bool.{Bool, cond, not, _&&_}
+use Rattle.scan.specs.Scan.{found}
+use Rattle.table.specs.Bisection.{lookUp}
+use Rattle.table.specs.declared.Found.{Found}
+use Rattle.table.specs.declared.Found.the-variants.{At, Nothing}
+use Rattle.net.specs.Net.{placeCount, transitionCount, entryCount, entryWeight, isPlace, isTransition}
+use Rattle.net.specs.Check.{shapeFault}
+
+module _ (net : List ℕ) where
+  abbrev pub weightFound : Found → ℕ
+  weightFound (At i) = entryWeight net i
+  weightFound Nothing = 0
+
+  unfoldable pub weightReply : ℕ → ℕ
+  weightReply key = weightFound (lookUp net 3 (entryCount net) key)
+
+  -- row t of the keys is what t takes, row T + t what t puts, row 2 × T what the places start with
+  unfoldable pub rowReply : ℕ → ℕ → ℕ
+  rowReply row p = cond (isPlace net p) (weightReply (row * placeCount net + p)) 0
+
+  unfoldable pub shaped : Bool
+  shaped = not (found (shapeFault net))
+
+  unfoldable pub takenReply : ℕ → ℕ → ℕ
+  takenReply t p = cond (shaped && isTransition net t) (rowReply t p) 0
+
+  unfoldable pub putReply : ℕ → ℕ → ℕ
+  putReply t p = cond (shaped && isTransition net t) (rowReply (transitionCount net + t) p) 0
+
+  unfoldable pub startReply : ℕ → ℕ
+  startReply p = cond shaped (rowReply (2 * transitionCount net) p) 0

@@ -1,0 +1,59 @@
+-- Worked nets with the answers that document 01 asks for: the nets of its list, and the boundaries.
+use Prim.Native.Nat.{ℕ}
+use mathlib.Core.List.{List, [], _∷_}
+use Rattle.net.specs.Refusal.{refusal}
+use Rattle.net.specs.Check.{netReply}
+use Rattle.net.specs.declared.Position.the-variants.{Nothing, Entry}
+use Rattle.net.specs.declared.NetAnswer.{NetAnswer}
+use Rattle.net.specs.declared.NetAnswer.the-variants.{Accepted, Refused}
+
+pub record Example : Type 0 where
+  pub net : List ℕ
+  pub answer : NetAnswer
+
+abbrev pub _answers_ : List ℕ → NetAnswer → Example
+net answers answer = record { net = net; answer = answer }
+
+infix 3 _answers_
+abbrev pub table : List Example
+table =
+    -- the nets of document 01's list
+    (1 ∷ 1 ∷ 0 ∷ [] answers Accepted) ∷
+    (1 ∷ 2 ∷ 2 ∷ 1 ∷ 2 ∷ 1 ∷ 1 ∷ [] answers Accepted) ∷
+    (1 ∷ 3 ∷ 3 ∷ 1 ∷ 2 ∷ 3 ∷ 1 ∷ 1 ∷ 1 ∷ [] answers Accepted) ∷
+    (1 ∷ 2 ∷ 3 ∷ 1 ∷ 2 ∷ 3 ∷ 1 ∷ 1 ∷ 1 ∷ [] answers Accepted) ∷
+    (1 ∷ 2 ∷ 2 ∷ 1 ∷ 2 ∷ 2 ∷ 1 ∷ [] answers Accepted) ∷
+    (1 ∷ 2 ∷ 3 ∷ 1 ∷ 3 ∷ 4 ∷ 1 ∷ 1 ∷ 1 ∷ [] answers Accepted) ∷
+    (1 ∷ 2 ∷ 3 ∷ 1 ∷ 2 ∷ 4 ∷ 1 ∷ 1 ∷ 16777216 ∷ [] answers Accepted) ∷
+    -- P and T
+    (32 ∷ 32 ∷ 0 ∷ [] answers Accepted) ∷
+    (33 ∷ 32 ∷ 0 ∷ [] answers Refused (refusal 2 Nothing)) ∷
+    (32 ∷ 33 ∷ 0 ∷ [] answers Refused (refusal 2 Nothing)) ∷
+    (0 ∷ 32 ∷ 0 ∷ [] answers Refused (refusal 2 Nothing)) ∷
+    (32 ∷ 0 ∷ 0 ∷ [] answers Refused (refusal 2 Nothing)) ∷
+    -- K at its limit, where every transition takes something, and one more
+    (1 ∷ 1 ∷ 3 ∷ 0 ∷ 1 ∷ 2 ∷ 1 ∷ 1 ∷ 1 ∷ [] answers Refused (refusal 5 Nothing)) ∷
+    (1 ∷ 1 ∷ 4 ∷ 0 ∷ 1 ∷ 2 ∷ 3 ∷ 1 ∷ 1 ∷ 1 ∷ 1 ∷ [] answers Refused (refusal 2 Nothing)) ∷
+    -- the length, one less and one more
+    (1 ∷ 1 ∷ [] answers Refused (refusal 1 Nothing)) ∷
+    (1 ∷ 1 ∷ 1 ∷ 2 ∷ [] answers Refused (refusal 1 Nothing)) ∷
+    (1 ∷ 1 ∷ 1 ∷ 2 ∷ 1 ∷ 1 ∷ [] answers Refused (refusal 1 Nothing)) ∷
+    -- a key at the limit and one less; equal keys
+    (1 ∷ 1 ∷ 1 ∷ 3 ∷ 1 ∷ [] answers Refused (refusal 3 (Entry 0))) ∷
+    (1 ∷ 1 ∷ 1 ∷ 2 ∷ 1 ∷ [] answers Accepted) ∷
+    (1 ∷ 2 ∷ 2 ∷ 2 ∷ 2 ∷ 1 ∷ 1 ∷ [] answers Refused (refusal 3 (Entry 1))) ∷
+    -- a weight at the limit, one more, and 0
+    (1 ∷ 1 ∷ 1 ∷ 2 ∷ 1000000000 ∷ [] answers Accepted) ∷
+    (1 ∷ 1 ∷ 1 ∷ 2 ∷ 1000000001 ∷ [] answers Refused (refusal 4 (Entry 0))) ∷
+    (1 ∷ 1 ∷ 1 ∷ 2 ∷ 0 ∷ [] answers Refused (refusal 4 (Entry 0))) ∷
+    -- a transition with no keys at all is a source; one that only takes is none
+    (1 ∷ 2 ∷ 1 ∷ 1 ∷ 1 ∷ [] answers Accepted) ∷
+    (1 ∷ 1 ∷ 1 ∷ 0 ∷ 1 ∷ [] answers Refused (refusal 5 Nothing)) ∷ []
+
+abbrev pub repliesTo : List Example → List NetAnswer
+repliesTo [] = []
+repliesTo (e ∷ es) = netReply (e .net) ∷ repliesTo es
+
+abbrev pub answersOf : List Example → List NetAnswer
+answersOf [] = []
+answersOf (e ∷ es) = e .answer ∷ answersOf es

@@ -1,0 +1,160 @@
+-- Bisection, turn by turn for any test; and, where the test passes up to some place and not from there on, that place.
+-- So the look-up among rising keys is the entry with the key.
+-- ---- the turns of the loop
+use Prim.Native.Nat.{ℕ, zero, suc, _+_, _-_, _≤_, _<_}
+use native.Mathlib.Omega.{arith}
+use native.Mathlib.Decide.{decLt}
+use mathlib.Core.Path.{_≡_, refl, sym, ap, _∙_}
+use mathlib.Core.List.{List}
+use mathlib.Core.Bool.{Bool, true, false, cond, _&&_}
+use lib.ListN.{length}
+use lib.Dec.{ltb, leb, eqb}
+use borrow.Author.Tests.{ltb-true, ltb-false, lt-ltb, le-ltb, le-leb, lt-leb, leb-true, eq-eqb, ne-eqb, eqb-true}
+use Rattle.scan.proofs.Tests.{byTest, true-false, not-true→false, and-left, and-right, and-both}
+use Rattle.table.specs.Table.{keyAt, entryOf, Rising}
+use Rattle.table.specs.Bisection.{middle, bisect, keyBelow, lowerBound, lookUp, foundOf}
+use Rattle.table.specs.declared.Found.the-variants.{At, Nothing}
+use Rattle.table.proofs.Table.{rising, entry-at, entry-absent}
+
+module _ (f : ℕ → Bool) where
+  pub bisect-met : (n low high : ℕ) → high ≤ low → bisect f n low high ≡ low
+  unfolding bisect
+  bisect-met zero low high h = refl
+  bisect-met (suc n) low high h = rw (le-ltb low high h)
+
+  bisect-up : (n low high : ℕ) → low < high → f (middle low high) ≡ true → bisect f (suc n) low high ≡ bisect f n (middle low high + 1) high
+  unfolding bisect
+  bisect-up n low high l h = rw (lt-ltb low high l, h)
+
+  bisect-down : (n low high : ℕ) → low < high → f (middle low high) ≡ false → bisect f (suc n) low high ≡ bisect f n low (middle low high)
+  unfolding bisect
+  bisect-down n low high l h = rw (lt-ltb low high l, h)
+
+  -- more turns than needed change nothing
+  bisect-turns : (n m low high : ℕ) → high - low ≤ n → high - low ≤ m → bisect f n low high ≡ bisect f m low high
+  bisect-turns zero m low high a b = bisect-met zero low high (omega arith) ∙ sym (bisect-met m low high (omega arith))
+  bisect-turns (suc n) zero low high a b = bisect-met (suc n) low high (omega arith) ∙ sym (bisect-met zero low high (omega arith))
+  bisect-turns (suc n) (suc m) low high a b =
+      elim (decLt low high) [
+        | yes l ↦ byTest (f (middle low high))
+            (λ h. bisect-up n low high l h ∙ bisect-turns n m (middle low high + 1) high (omega arith) (omega arith) ∙ sym (bisect-up m low high l h))
+            (λ h. bisect-down n low high l h ∙ bisect-turns n m low (middle low high) (omega arith) (omega arith) ∙ sym (bisect-down m low high l h))
+        | no l ↦ bisect-met (suc n) low high (omega arith) ∙ sym (bisect-met (suc m) low high (omega arith))
+      ]
+
+  pub turn-up : (n low high : ℕ) → low < high → high - low ≤ n → f (middle low high) ≡ true → bisect f n low high ≡ bisect f n (middle low high + 1) high
+  turn-up n low high l b h = bisect-turns n (suc n) low high b (omega arith) ∙ bisect-up n low high l h
+
+  pub turn-down : (n low high : ℕ) → low < high → high - low ≤ n → f (middle low high) ≡ false → bisect f n low high ≡ bisect f n low (middle low high)
+  turn-down n low high l b h = bisect-turns n (suc n) low high b (omega arith) ∙ bisect-down n low high l h
+
+-- ---- the place at which a test turns
+
+-- f passes below r and fails from r to n
+pub record Turns (f : ℕ → Bool) (n r : ℕ) : Type 0 where
+  pub within : r ≤ n
+  pub below : (i : ℕ) → i < r → f i ≡ true
+  pub above : (i : ℕ) → r ≤ i → i < n → f i ≡ false
+
+module _ (f : ℕ → Bool) (n : ℕ) (falling : (i j : ℕ) → i < j → j < n → f j ≡ true → f i ≡ true) where
+  below-middle : (m i : ℕ) → m < n → f m ≡ true → i < m + 1 → f i ≡ true
+  below-middle m i l h k = elim (decLt i m) [ yes p ↦ falling i m p l h | no p ↦ let e : i ≡ m = omega arith in rw e h ]
+
+  above-middle : (m i : ℕ) → f m ≡ false → m ≤ i → i < n → f i ≡ false
+  above-middle m i h k l = not-true→false (f i) (λ t. elim (decLt m i) [
+    | yes p ↦ true-false (f m) (falling m i p l t) h
+    | no p ↦ let e : i ≡ m = omega arith in true-false (f m) (rw e at t) h
+  ])
+
+  bisect-turns-at : (k low high : ℕ) → high - low ≤ k → low ≤ high → high ≤ n → ((i : ℕ) → i < low → f i ≡ true)
+      → ((i : ℕ) → high ≤ i → i < n → f i ≡ false) → Turns f n (bisect f k low high)
+  bisect-turns-at zero low high d a b under over = rw (bisect-met f zero low high (omega arith)) (record {
+    within = omega arith;
+    below = under;
+    above = λ i h l. over i (omega arith) l;
+  })
+  bisect-turns-at (suc k) low high d a b under over =
+      elim (decLt low high) [
+        | yes l ↦ byTest (f (middle low high))
+            (λ h. rw (bisect-up f k low high l h) (bisect-turns-at k (middle low high + 1) high (omega arith) (omega arith) b
+            (λ i m. below-middle (middle low high) i (omega arith) h m) over))
+            (λ h. rw (bisect-down f k low high l h) (bisect-turns-at k low (middle low high) (omega arith) (omega arith) (omega arith) under
+            (λ i m p. above-middle (middle low high) i h m p)))
+        | no l ↦ rw (bisect-met f (suc k) low high (omega arith)) (record { within = omega arith; below = under; above = λ i h p. over i (omega arith) p })
+      ]
+
+  pub bisect-finds : Turns f n (bisect f n 0 n)
+  bisect-finds = bisect-turns-at n 0 n (omega arith) (omega arith) (omega arith) (λ i l. absurd (omega arith)) (λ i h l. absurd (omega arith))
+
+-- ---- the look-up
+
+module _ (words : List ℕ) (offset entries k : ℕ) where
+  pub lower-bound-fits : lowerBound words offset entries k < entries → offset + entries ≤ length words
+  unfolding lowerBound
+  lower-bound-fits l =
+      byTest (leb (offset + entries) (length words)) (λ h. leb-true (offset + entries) (length words) h) (λ h. absurd (omega (arith, rw h at l)))
+
+  pub lower-bound-bisects : offset + entries ≤ length words → lowerBound words offset entries k ≡ bisect (keyBelow words offset k) entries 0 entries
+  unfolding lowerBound
+  lower-bound-bisects h = rw (le-leb (offset + entries) (length words) h)
+
+  pub lower-bound-unfit : length words < offset + entries → entries ≡ lowerBound words offset entries k
+  unfolding lowerBound
+  lower-bound-unfit h = rw (lt-leb (offset + entries) (length words) h)
+
+  pub look-up-hit : (i : ℕ) → i ≡ lowerBound words offset entries k → i < entries → keyAt words offset i ≡ k → At i ≡ lookUp words offset entries k
+  unfolding lookUp
+  look-up-hit i e l h = rw (← e, lt-ltb i entries l, eq-eqb (keyAt words offset i) k h)
+
+  pub look-up-miss : (i : ℕ) → i ≡ lowerBound words offset entries k → (i < entries → keyAt words offset i ≡ k → ⊥) → Nothing ≡ lookUp words offset entries k
+  unfolding lookUp
+  look-up-miss i e h = rw (← e) (byTest (ltb i entries) (λ q. rw (q, ne-eqb (keyAt words offset i) k (h (ltb-true i entries q)))) (λ q. rw q))
+
+  -- the entry that is found is one of the entries, whatever the keys
+  pub look-up-within : (i : ℕ) → lookUp words offset entries k ≡ At i → i < entries
+  unfolding lookUp
+  look-up-within i e = go (ltb r entries) refl (eqb (keyAt words offset r) k) e
+    where
+      r : ℕ
+      r = lowerBound words offset entries k
+
+      go : (a : Bool) → ltb r entries ≡ a → (b : Bool) → cond (a && b) (At r) Nothing ≡ At i → i < entries
+      go true p true h = let q : r ≡ i = cc in omega (arith, ltb-true r entries p)
+      go true p false h = absurd (let z : _≡_ {A = ℕ} 0 1 = cc in omega arith)
+      go false p b h = absurd (let z : _≡_ {A = ℕ} 0 1 = cc in omega arith)
+
+  -- below the place the keys are below the one asked for, from there on they are not
+  pub record LowerBound (r : ℕ) : Type 0 where
+    pub within : r ≤ entries
+    pub below : (i : ℕ) → i < r → keyAt words offset i < k
+    pub above : (i : ℕ) → r ≤ i → i < entries → k ≤ keyAt words offset i
+
+  module _ (up : Rising words offset entries) (fits : offset + entries ≤ length words) where
+    pub lower-bound : LowerBound (lowerBound words offset entries k)
+    unfolding keyBelow
+    lower-bound =
+        let t = bisect-finds (keyBelow words offset k) entries
+        (λ i j l m h. lt-ltb (keyAt words offset i) k (let a = rising words offset entries up i j l m in omega (arith, ltb-true (keyAt words offset j) k h))) in
+        rw (lower-bound-bisects fits) (record {
+          within = t .within;
+          below = λ i l. ltb-true (keyAt words offset i) k (t .below i l);
+          above = λ i l m. ltb-false (keyAt words offset i) k (t .above i l m);
+        })
+
+    -- the look-up is the entry with the key
+    pub look-up : lookUp words offset entries k ≡ foundOf (entryOf words offset entries k)
+    look-up =
+        let r = lowerBound words offset entries k in
+        let b = lower-bound in
+        byTest (ltb r entries && eqb (keyAt words offset r) k)
+        (λ h. let l : r < entries = ltb-true r entries (and-left (ltb r entries) _ h) in
+        let e : keyAt words offset r ≡ k = eqb-true _ k (and-right (ltb r entries) _ h) in
+        sym (look-up-hit r refl l e) ∙ ap foundOf (sym (entry-at words offset entries up r k l e)))
+        (λ h. let away : r < entries → keyAt words offset r ≡ k → ⊥ = λ l e. true-false _ (and-both _ _ (lt-ltb r entries l) (eq-eqb _ k e)) h in
+        sym (look-up-miss r refl away) ∙ ap foundOf (sym (entry-absent words offset entries k (λ i l e. elim (decLt i r) [
+          | yes m ↦ let a = b .below i m in omega arith
+          | no m ↦ elim (decLt r i) [
+            | yes m′ ↦ let a = rising words offset entries up r i m′ l in let c = b .above r (omega arith) (omega arith) in omega arith
+            | no m′ ↦ let q : i ≡ r = omega arith in away (omega arith) (rw q at e)
+          ]
+        ]))))

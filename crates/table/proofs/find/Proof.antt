@@ -1,0 +1,42 @@
+-- `table::find` meets its contract.
+use native.Mathlib.Omega.{arith}
+use borrow.Author.Needs.{needs}
+use Rattle.table.specs.Table.{keyAt}
+use Rattle.table.proofs.Bisection.{lower-bound-fits, look-up-hit, look-up-miss}
+use Rattle.table.proofs.find.Statement.{statement}
+use Rattle.table.proofs.find.Tie as tie
+
+lower-bound-requires : tie.Need-lower-bound-requires
+lower-bound-requires c κs = search needs
+
+returns : tie.Need-returns
+returns c = look-up-miss _ _ _ _ _ (c .before .lower-bound .ensures) (λ l. absurd (omega arith))
+
+add-if2 : tie.Need-add-if2
+add-if2 c = let h = lower-bound-fits _ _ _ _ (rw (c .before .lower-bound .ensures) at (c .if1 .left)) in omega arith
+
+mul-if2 : tie.Need-mul-if2
+mul-if2 c = let h = lower-bound-fits _ _ _ _ (rw (c .before .lower-bound .ensures) at (c .if1 .left)) in omega arith
+
+shared-slice-read-if2 : tie.Need-shared-slice-read-if2
+shared-slice-read-if2 c = let h = lower-bound-fits _ _ _ _ (rw (c .before .before .lower-bound .ensures) at (c .before .if1 .left)) in omega arith
+
+returns-2 : tie.Need-returns-2
+unfolding keyAt
+returns-2 c = look-up-hit _ _ _ _ _ (c .before .before .before .lower-bound .ensures) (c .before .before .if1 .left) (c .if2 .taken)
+
+returns-3 : tie.Need-returns-3
+unfolding keyAt
+returns-3 c = look-up-miss _ _ _ _ _ (c .before .before .before .lower-bound .ensures) (λ l. c .if2 .left)
+
+pub find-spec : {M : Type 1} → statement M
+find-spec =
+    tie.close
+    (tie.spec
+    lower-bound-requires
+    returns
+    add-if2
+    mul-if2
+    shared-slice-read-if2
+    returns-2
+    returns-3)

@@ -1,0 +1,95 @@
+-- `table::lower_bound` meets its contract: each turn of the loop is a turn of `bisect`.
+use Prim.Native.Nat.{_-_, _≤_}
+use native.Mathlib.Omega.{arith}
+use mathlib.Core.Path.{_≡_, refl, sym, _∙_}
+use borrow.Author.Needs.{needs}
+use borrow.Author.Tests.{lt-ltb, le-ltb}
+use Rattle.table.specs.Table.{keyAt}
+use Rattle.table.specs.Bisection.{bisect, keyBelow}
+use Rattle.table.proofs.Bisection.{turn-up, turn-down, bisect-met, lower-bound-bisects, lower-bound-unfit}
+use Rattle.table.proofs.lower_bound.Statement.{statement}
+use Rattle.table.proofs.lower_bound.Tie as tie
+
+abbrev Inv-loop : tie.InvT-loop
+Inv-loop words offset entries key low₀ high₀ low high =
+    (low ≤ high) × (high ≤ entries) × (bisect (keyBelow words offset key) entries low high ≡ bisect (keyBelow words offset key) entries 0 entries)
+
+abbrev μ-loop : tie.MeasureT-loop
+μ-loop words offset entries key low₀ high₀ low high = high - low
+
+returns : tie.Need-returns Inv-loop μ-loop
+returns c = lower-bound-unfit _ _ _ _ (omega arith)
+
+sub-if2 : tie.Need-sub-if2 Inv-loop μ-loop
+sub-if2 c = search needs
+
+returns-2 : tie.Need-returns-2 Inv-loop μ-loop
+returns-2 c = lower-bound-unfit _ _ _ _ (omega arith)
+
+loop-holds : tie.Need-loop-holds Inv-loop μ-loop
+loop-holds c = (omega arith, omega arith, refl)
+
+sub-middle : tie.Need-sub-middle Inv-loop μ-loop
+sub-middle c = search needs
+
+add-middle : tie.Need-add-middle Inv-loop μ-loop
+add-middle c = search needs
+
+add-if3 : tie.Need-add-if3 Inv-loop μ-loop
+add-if3 c = search needs
+
+mul-if3 : tie.Need-mul-if3 Inv-loop μ-loop
+mul-if3 c = search needs
+
+shared-slice-read-if3 : tie.Need-shared-slice-read-if3 Inv-loop μ-loop
+shared-slice-read-if3 c = search needs
+
+add-low : tie.Need-add-low Inv-loop μ-loop
+add-low c = search needs
+
+loop-less : tie.Need-loop-less Inv-loop μ-loop
+loop-less c = search needs
+
+loop-again : tie.Need-loop-again Inv-loop μ-loop
+unfolding keyBelow keyAt
+loop-again c = (
+  omega arith,
+  omega arith,
+  sym (turn-up _ _ _ _ (c .before .before .loop-test .taken) (omega arith) (lt-ltb _ _ (c .if3 .taken))) ∙ c .before .before .before .loop .inv .2,
+)
+
+loop-less-2 : tie.Need-loop-less-2 Inv-loop μ-loop
+loop-less-2 c = search needs
+
+loop-again-2 : tie.Need-loop-again-2 Inv-loop μ-loop
+unfolding keyBelow keyAt
+loop-again-2 c = (
+  omega arith,
+  omega arith,
+  sym (turn-down _ _ _ _ (c .before .before .loop-test .taken) (omega arith) (le-ltb _ _ (c .if3 .left))) ∙ c .before .before .before .loop .inv .2,
+)
+
+returns-3 : tie.Need-returns-3 Inv-loop μ-loop
+returns-3 c = sym (bisect-met _ _ _ _ (c .loop-test .left)) ∙ c .before .loop .inv .2 ∙ sym (lower-bound-bisects _ _ _ _ (omega arith))
+
+pub lower-bound-spec : {M : Type 1} → statement M
+lower-bound-spec =
+    tie.close
+    (tie.spec
+    Inv-loop
+    μ-loop
+    returns
+    sub-if2
+    returns-2
+    loop-holds
+    sub-middle
+    add-middle
+    add-if3
+    mul-if3
+    shared-slice-read-if3
+    add-low
+    loop-less
+    loop-again
+    loop-less-2
+    loop-again-2
+    returns-3)

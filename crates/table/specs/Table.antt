@@ -1,0 +1,25 @@
+-- Keyed words: from an offset on, as many keys as there are entries, then as many values.
+use Prim.Native.Nat.{ℕ, _+_, _<_}
+use mathlib.Core.List.{List}
+use mathlib.Core.Option.{Option}
+use lib.ListN.{getD}
+use lib.Dec.{eqb}
+use Rattle.scan.specs.Scan.{when, first}
+
+module _ (words : List ℕ) (offset : ℕ) where
+  unfoldable pub keyAt : ℕ → ℕ
+  keyAt i = getD words (offset + i) 0
+
+  unfoldable pub valueAt : ℕ → ℕ → ℕ
+  valueAt entries i = getD words (offset + entries + i) 0
+
+  unfoldable pub entryWith : ℕ → ℕ → Option ℕ
+  entryWith key i = when (eqb (keyAt i) key) i
+
+  -- the first of the entries with a key, or none
+  unfoldable pub entryOf : ℕ → ℕ → Option ℕ
+  entryOf entries key = first (entryWith key) entries
+
+  -- the keys rise strictly
+  pub record Rising (entries : ℕ) : Type 0 where
+    pub above : (i : ℕ) → i + 1 < entries → keyAt i < keyAt (i + 1)
