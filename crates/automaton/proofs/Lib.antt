@@ -1,0 +1,4 @@
+pub mod Automaton
+pub mod Rounds
+pub mod Reach
+pub mod Lead
