@@ -2,3 +2,9 @@ pub mod Automaton
 pub mod Rounds
 pub mod Reach
 pub mod Lead
+pub mod Targets
+pub mod Leader
+pub mod Refinement
+pub mod Same
+pub mod Equivalence
+pub mod Classes
