@@ -8,3 +8,13 @@ pub mod Refinement
 pub mod Same
 pub mod Equivalence
 pub mod Classes
+pub mod Before
+pub mod BreadthFirst
+pub mod Unique
+pub mod Index
+pub mod Search
+pub mod Quotient
+pub mod Kept
+pub mod Minimal
+pub mod Fewest
+pub mod MinimalBy
