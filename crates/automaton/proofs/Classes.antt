@@ -17,10 +17,13 @@ use Rattle.automaton.proofs.Refinement.{leaders→stable, stable-is-las
 use Rattle.automaton.proofs.Same.{sameIn-label, sameIn-arcs, sameIn-suc, sameIn-down, sameIn-equivalence}
 use Rattle.automaton.proofs.Equivalence.{sameIn-falling}
 
+abbrev pub OneLeader : Automaton → ℕ → ℕ → ℕ → Type 0
+OneLeader A k n m = leader A k n ≡ leader A k m
+
 module _ (A : Automaton) where
   pub same-leader : (k n m : ℕ) → sameClass (leader A k) n m ≡ sameIn A k n m
   unfolding leader sameClass
-  same-leader k n m = unfold sameClass in (leader-test (sameIn A k) (sameIn-equivalence A k) n m)
+  same-leader k n m = leader-test (sameIn A k) (sameIn-equivalence A k) n m
 
   pub leader↔sameIn : (k n m : ℕ) → (leader A k n ≡ leader A k m) ↔ (sameIn A k n m ≡ true)
   unfolding leader
@@ -40,21 +43,22 @@ module _ (A : Automaton) where
       (unfold agree in (all-out (agree A (sameIn A k) n m) (A .transitions) (and-right (sameIn A k n m) (all (agree A (sameIn A k) n m) (A .transitions)) e) t l))))
 
   -- one leader, and the targets' leaders are equal or both missing
-  pub sameIn-suc↔leaders : (k n m : ℕ) → (sameIn A (suc k) n m ≡ true) ↔ ((leader A k n ≡ leader A k m) × ((t : ℕ) → t < A .transitions → Targets (λ a b. leader A k a ≡ leader A k b) (A .arc n t) (A .arc m t)))
+  pub sameIn-suc↔leaders : (k n m : ℕ)
+      → (sameIn A (suc k) n m ≡ true) ↔ (OneLeader A k n m × ((t : ℕ) → t < A .transitions → Targets (OneLeader A k) (A .arc n t) (A .arc m t)))
   sameIn-suc↔leaders k n m = (
     λ e. (
       leader↔sameIn k n m .1 (sameIn-down A k n m e),
-      λ t l. targets-map (Holds (sameIn A k)) (λ a b. leader A k a ≡ leader A k b) (λ a b r. leader↔sameIn k a b .1 r) (A .arc n t) (A .arc m t) (sameIn-arcs A k n m e t l),
+      λ t l. targets-map (Holds (sameIn A k)) (OneLeader A k) (λ a b. leader↔sameIn k a b .1) (A .arc n t) (A .arc m t) (sameIn-arcs A k n m e t l),
     ),
     λ (e, h). sameIn-suc A k n m (sameIn-label A k n m (leader↔sameIn k n m .0 e))
-        (λ t l. targets-map (λ a b. leader A k a ≡ leader A k b) (Holds (sameIn A k)) (λ a b r. leader↔sameIn k a b .0 r) (A .arc n t) (A .arc m t) (h t l)),
+        (λ t l. targets-map (OneLeader A k) (Holds (sameIn A k)) (λ a b. leader↔sameIn k a b .0) (A .arc n t) (A .arc m t) (h t l)),
   )
 
   module _ (c : Closed A) where
     -- ---- a table that holds the leaders of round k
 
     module _ (k : ℕ) (class : ℕ → ℕ) (is : (n : ℕ) → n < A .nodes → class n ≡ leader A k n) where
-      class-same : (n m : ℕ) → n < A .nodes → m < A .nodes → sameClass class n m ≡ sameIn A k n m
+      pub class-same : (n m : ℕ) → n < A .nodes → m < A .nodes → sameClass class n m ≡ sameIn A k n m
       class-same n m ln lm = unfold sameClass in (rw (is n ln, is m lm)) ∙ same-leader k n m
 
       pub refined-same : (n m : ℕ) → n < A .nodes → m < A .nodes → refined A class n m ≡ sameIn A (suc k) n m
@@ -73,15 +77,19 @@ module _ (A : Automaton) where
     -- ---- the last round
 
     -- a round that changes no leader
-    pub leaders-last : (k : ℕ) → ((n : ℕ) → n < A .nodes → leader A (suc k) n ≡ leader A k n) → (n m : ℕ) → n < A .nodes → m < A .nodes → same A n m ≡ sameClass (leader A k) n m
+    pub leaders-last : (k : ℕ) → ((n : ℕ) → n < A .nodes → leader A (suc k) n ≡ leader A k n)
+        → (n m : ℕ) → n < A .nodes → m < A .nodes → same A n m ≡ sameClass (leader A k) n m
     unfolding same leader
     leaders-last k h n m ln lm =
-        stable-is-last (sameIn A) (A .nodes) (sameIn-falling A c) k (leaders→stable (sameIn A) (A .nodes) (sameIn-falling A c) k h) n m ln lm ∙ sym (same-leader k n m)
+        stable-is-last (sameIn A) (A .nodes) (sameIn-falling A c) k (leaders→stable (sameIn A) (A .nodes) (sameIn-falling A c) k h) n m ln lm ∙
+        sym (same-leader k n m)
 
     -- or as many rounds as there are nodes
     pub leaders-enough : (n m : ℕ) → same A n m ≡ sameClass (leader A (A .nodes)) n m
     unfolding same
     leaders-enough n m = sym (same-leader (A .nodes) n m)
+
+    -- ---- the tables, each from the one before it
 
     pub classes-at : (k n : ℕ) → n < A .nodes → getD (classes A k) n 0 ≡ leader A k n
     unfolding classes

@@ -67,6 +67,7 @@ module _ (A M : Automaton) (f : ℕ → ℕ) (Q : Quotient A M f) where
   }
 
   -- a way to a goal stays one
-  pub quotient-leads : (goal goal′ : ℕ → Bool) → ((n : ℕ) → Reachable A n → goal n ≡ true → goal′ (f n) ≡ true) → (n : ℕ) → Reachable A n → Leads A goal n → Leads M goal′ (f n)
+  pub quotient-leads : (goal goal′ : ℕ → Bool) → ((n : ℕ) → Reachable A n → goal n ≡ true → goal′ (f n) ≡ true)
+      → (n : ℕ) → Reachable A n → Leads A goal n → Leads M goal′ (f n)
   unfolding Leads
   quotient-leads goal goal′ h n r (σ, m, e, g) = (σ, f m, quotient-follow σ n r ∙ ap (Option·map f) e, h m (follow-reachable A σ n m r e) g)

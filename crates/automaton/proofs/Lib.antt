@@ -13,6 +13,7 @@ pub mod BreadthFirst
 pub mod Unique
 pub mod Index
 pub mod Search
+pub mod Turns
 pub mod Quotient
 pub mod Kept
 pub mod Minimal

@@ -1,7 +1,7 @@
 -- Any test that agrees with `same` on the nodes makes the same minimal automaton: the table of leaders of the last round does.
 use Prim.Native.Nat.{ℕ, zero, suc, _<_}
 use native.Mathlib.Omega.{arith}
-use mathlib.Core.Path.{_≡_, refl, ap, _∙_}
+use mathlib.Core.Path.{_≡_, refl, sym, ap, _∙_}
 use mathlib.Core.Bool.{Bool, cond}
 use mathlib.Core.List.{List, []}
 use mathlib.Core.Option.{none, Option·map}
@@ -11,10 +11,11 @@ use borrow.Author.Tests.{ltb-true}
 use Rattle.scan.proofs.Tests.{byTest}
 use Rattle.scan.proofs.Least.{least-ext}
 use Rattle.automaton.specs.Automaton.{Automaton, Closed, byArc}
-use Rattle.automaton.specs.Equivalence.{same}
+use Rattle.automaton.specs.Equivalence.{sameIn, same, leaderBy, leader, sameClass, refined}
 use Rattle.automaton.specs.BreadthFirst.{classAt, indexOf, enter, expand, explored, order}
 use Rattle.automaton.specs.Quotient.{merged, minimalBy, minimal}
 use Rattle.automaton.proofs.Automaton.{arc-cases}
+use Rattle.automaton.proofs.Classes.{same-leader, class-same, refined-leader, leaders-last}
 use Rattle.automaton.proofs.Index.{enter-cases, snoc-all}
 
 -- every element is a node
@@ -68,9 +69,15 @@ module _ (A : Automaton) (c : Closed A) (r s : ℕ → ℕ → Bool) (agree : (n
 
   merged-agrees : (xs : List ℕ) → Nodes A xs → merged r A xs ≡ merged s A xs
   unfolding merged Nodes
-  merged-agrees xs h = λ i. record { nodes = length xs; transitions = A .transitions; arc = λ n t. arcs n t i; label = λ n. cond (ltb n (length xs)) (A .label (getD xs n 0)) [] }
+  merged-agrees xs h = λ i. record {
+    nodes = length xs;
+    transitions = A .transitions;
+    arc = λ n t. arcs n t i;
+    label = λ n. cond (ltb n (length xs)) (A .label (getD xs n 0)) [];
+  }
     where
-      arcs : (n t : ℕ) → cond (ltb n (length xs)) (Option·map (indexOf r xs) (A .arc (getD xs n 0) t)) none ≡ cond (ltb n (length xs)) (Option·map (indexOf s xs) (A .arc (getD xs n 0) t)) none
+      arcs : (n t : ℕ)
+          → cond (ltb n (length xs)) (Option·map (indexOf r xs) (A .arc (getD xs n 0) t)) none ≡ cond (ltb n (length xs)) (Option·map (indexOf s xs) (A .arc (getD xs n 0) t)) none
       arcs n t =
           byTest (ltb n (length xs))
           (λ q. rw q (arc-cases (A .arc (getD xs n 0) t) (λ a. rw a)
@@ -84,3 +91,20 @@ module _ (A : Automaton) (c : Closed A) (r s : ℕ → ℕ → Bool) (agree : (n
 pub minimalBy-minimal : (A : Automaton) → Closed A → (r : ℕ → ℕ → Bool) → ((n m : ℕ) → n < A .nodes → m < A .nodes → r n m ≡ same A n m) → minimalBy r A ≡ minimal A
 unfolding minimal
 minimalBy-minimal A c r h = minimalBy-agrees A c r (same A) h
+
+-- ---- by a table that holds the leaders of round k
+
+module _ (A : Automaton) (c : Closed A) (k : ℕ) (class : ℕ → ℕ) (is : (n : ℕ) → n < A .nodes → class n ≡ leader A k n) where
+  -- a round more changes nothing
+  pub minimalBy-stable : ((n : ℕ) → n < A .nodes → leaderBy (refined A class) n ≡ class n) → minimalBy (sameClass class) A ≡ minimal A
+  minimalBy-stable h =
+      minimalBy-minimal A c (sameClass class)
+      (λ n m ln lm. class-same A c k class is n m ln lm ∙ sym (same-leader A k n m) ∙ sym (leaders-last A c k unchanged n m ln lm))
+    where
+      unchanged : (n : ℕ) → n < A .nodes → leader A (suc k) n ≡ leader A k n
+      unchanged n l = sym (refined-leader A c k class is n l) ∙ h n l ∙ is n l
+
+  -- or as many rounds as there are nodes were made
+  pub minimalBy-rounds : k ≡ A .nodes → minimalBy (sameClass class) A ≡ minimal A
+  unfolding same
+  minimalBy-rounds e = minimalBy-minimal A c (sameClass class) (λ n m ln lm. class-same A c k class is n m ln lm ∙ ap (λ (j : ℕ). sameIn A j n m) e)

@@ -1,4 +1,4 @@
--- The minimal automaton is the quotient of the reached nodes by equivalence, and is in canonical form.
+-- The minimal automaton is the quotient of the reached nodes by equivalence, and its numbers are breadth first.
 use Prim.Native.Nat.{ℕ, _<_}
 use native.Mathlib.Omega.{arith}
 use mathlib.Core.Path.{_≡_, refl, sym, _∙_}
@@ -45,7 +45,10 @@ module _ (A : Automaton) where
 
   pub minimal-confined : Confined (minimal A)
   unfolding minimal minimalBy merged
-  minimal-confined = record { arcs = λ i t l. rw (le-ltb i (length (order (same A) A)) l); labels = λ i l. rw (le-ltb i (length (order (same A) A)) l) }
+  minimal-confined = record {
+    arcs = λ i t l. rw (le-ltb i (length (order (same A) A)) l);
+    labels = λ i l. rw (le-ltb i (length (order (same A) A)) l);
+  }
 
 module _ (fire : List ℕ → ℕ → List ℕ) (A : Automaton) (c : Closed A) (f : Fires fire A) where
   E : IsEquivalence (same A)

@@ -67,8 +67,10 @@ module _ (E : ℕ → ℕ → ℕ → Bool) (N : ℕ) (F : Falling E N) where
       leaders : (n : ℕ) → n < N → leaderBy (E (suc k)) n ≡ leaderBy (E k) n
       leaders n l =
           let a : ℕ = leaderBy (E (suc k)) n in
-          let led : leads (E k) a ≡ true = low a (omega (arith, leader-le (E (suc k)) n)) (eq-eqb (leaderBy (E (suc k)) a) a (leader-of-leader (E (suc k)) (F .equivalence (suc k)) n)) in
-          sym (eqb-true (leaderBy (E k) a) a led) ∙ leader-of-equivalent (E k) (F .equivalence k) a n (F .down k a n (leader-member (E (suc k)) (F .equivalence (suc k)) n))
+          let own : leaderBy (E (suc k)) a ≡ a = leader-of-leader (E (suc k)) (F .equivalence (suc k)) n in
+          let led : leads (E k) a ≡ true = low a (omega (arith, leader-le (E (suc k)) n)) (eq-eqb (leaderBy (E (suc k)) a) a own) in
+          let member : E k a n ≡ true = F .down k a n (leader-member (E (suc k)) (F .equivalence (suc k)) n) in
+          sym (eqb-true (leaderBy (E k) a) a led) ∙ leader-of-equivalent (E k) (F .equivalence k) a n member
 
   stable-or : (k : ℕ) → Stable E N k ⊎ (k ≤ classes E N k)
   stable-or zero = inr zero-le

@@ -1,7 +1,7 @@
 -- There is one canonical automaton for each class of roots: two with equivalent roots are equal.
 use Prim.Native.Nat.{ℕ, zero, suc, _-_, _≤_, _<_}
 use native.Mathlib.Omega.{arith}
-use mathlib.Core.Path.{_≡_, sym, _∙_}
+use mathlib.Core.Path.{_≡_, sym, ap, _∙_}
 use mathlib.Core.List.{List}
 use mathlib.Core.Option.{some}
 use lib.Dec.{ltb}
@@ -27,7 +27,8 @@ module _ (fire : List ℕ → ℕ → List ℕ) (A B : Automaton) (cA : Canonica
   unfolding Reduced
   paired-number k m l P e = cB .reduced k m (P .node) l (equivalent-trans B A B k k m (equivalent-sym A B k k (P .equivalent)) e)
 
-  -- k is discovered in A from p by u, and that arc of B leads to m
+  -- ---- all nodes below k are paired, and k is discovered in A from p by u
+
   module _ (k : ℕ) (z : 0 < k) (l : k < A .nodes) (below : (j : ℕ) → j < k → j < A .nodes → Paired j) (p u : ℕ) (lp : p < k) (D : Discovery A k p u) where
     -- no arc of B that comes before leads to k
     not-earlier : (q v : ℕ) → Before q v p u → B .arc q v ≡ some k → ⊥
@@ -41,6 +42,7 @@ module _ (fire : List ℕ → ℕ → List ℕ) (A B : Automaton) (cA : Canonica
         let same : m ≡ k = paired-number m k (cB .closed .lands q v k (P .node) e) (below m low lm) (equivalent-sym B A k m x) in
         omega arith
 
+    -- that arc of B leads to m: it cannot be lower, nor higher
     module _ (m : ℕ) (lm : m < B .nodes) (b : B .arc p u ≡ some m) (e : Equivalent A B k m) where
       not-lower : m < k → ⊥
       unfolding Reduced
@@ -82,27 +84,29 @@ module _ (fire : List ℕ → ℕ → List ℕ) (A B : Automaton) (cA : Canonica
   pub unique-nodes : A .nodes ≡ B .nodes
   unique-nodes = omega (arith, fewer fire A B cA cB e, fewer fire B A cB cA (equivalent-sym A B 0 0 e))
 
-  unique-arc : (i t : ℕ) → A .arc i t ≡ B .arc i t
-  unique-arc i t =
-      byTest (ltb i (A .nodes))
-      (λ q.
-      let l : i < A .nodes = ltb-true i (A .nodes) q in
-      let P : Paired fire A B cA cB i = paired fire A B cA cB e i l in
-      targets-cases (Equivalent A B) (A .arc i t) (B .arc i t) (equivalent-targets fire A B (cA .fires) (cB .fires) i i l (P .node) (P .equivalent) t)
-      (λ p r. p ∙ sym r)
-      (λ a b p r x.
-      let same : a ≡ b = paired-number fire A B cA cB a b (cB .closed .lands i t b (P .node) r) (paired fire A B cA cB e a (cA .closed .lands i t a l p)) x in
-      p ∙ (rw same (sym r))))
-      (λ q.
-      let l : A .nodes ≤ i = ltb-false i (A .nodes) q in
-      cA .confined .arcs i t l ∙ sym (cB .confined .arcs i t (omega (arith, unique-nodes))))
+  pub unique-arc : (i t : ℕ) → A .arc i t ≡ B .arc i t
+  unique-arc i t = byTest (ltb i (A .nodes)) (λ q. at-node (ltb-true i (A .nodes) q)) (λ q. past (ltb-false i (A .nodes) q))
+    where
+      one-number : i < A .nodes → (a b : ℕ) → A .arc i t ≡ some a → B .arc i t ≡ some b → Equivalent A B a b → a ≡ b
+      one-number l a b p r x =
+          let P : Paired fire A B cA cB i = paired fire A B cA cB e i l in
+          paired-number fire A B cA cB a b (cB .closed .lands i t b (P .node) r) (paired fire A B cA cB e a (cA .closed .lands i t a l p)) x
 
-  unique-label : (i : ℕ) → A .label i ≡ B .label i
-  unique-label i =
-      byTest (ltb i (A .nodes)) (λ q. paired fire A B cA cB e i (ltb-true i (A .nodes) q) .equivalent .labels)
-      (λ q.
-      let l : A .nodes ≤ i = ltb-false i (A .nodes) q in
-      cA .confined .labels i l ∙ sym (cB .confined .labels i (omega (arith, unique-nodes))))
+      at-node : i < A .nodes → A .arc i t ≡ B .arc i t
+      at-node l =
+          let P : Paired fire A B cA cB i = paired fire A B cA cB e i l in
+          targets-cases (Equivalent A B) (A .arc i t) (B .arc i t) (equivalent-targets fire A B (cA .fires) (cB .fires) i i l (P .node) (P .equivalent) t)
+          (λ p r. p ∙ sym r)
+          (λ a b p r x. p ∙ ap some (one-number l a b p r x) ∙ sym r)
+
+      past : A .nodes ≤ i → A .arc i t ≡ B .arc i t
+      past l = cA .confined .arcs i t l ∙ sym (cB .confined .arcs i t (omega (arith, unique-nodes)))
+
+  pub unique-label : (i : ℕ) → A .label i ≡ B .label i
+  unique-label i = byTest (ltb i (A .nodes)) (λ q. paired fire A B cA cB e i (ltb-true i (A .nodes) q) .equivalent .labels) (λ q. past (ltb-false i (A .nodes) q))
+    where
+      past : A .nodes ≤ i → A .label i ≡ B .label i
+      past l = cA .confined .labels i l ∙ sym (cB .confined .labels i (omega (arith, unique-nodes)))
 
   pub unique : A .transitions ≡ B .transitions → A ≡ B
   unique T = λ i. record { nodes = unique-nodes i; transitions = T i; arc = λ n t. unique-arc n t i; label = λ n. unique-label n i }
