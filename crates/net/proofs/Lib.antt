@@ -5,3 +5,4 @@ pub mod Source
 pub mod Accessors
 pub mod Demands
 pub mod Examples
+pub mod Laws

@@ -1,0 +1,92 @@
+-- Minimal automata are smallest: representatives are different nodes, and an automaton with no more nodes than its minimal one is that up to its numbers.
+use Prim.Native.Nat.{ℕ, suc, _≤_, _<_}
+use native.Mathlib.Omega.{arith}
+use mathlib.Core.Path.{_≡_, sym, ap, _∙_, subst}
+use mathlib.Core.Logic.{⊎-elim}
+use mathlib.Core.Bool.{Bool, false, cond}
+use mathlib.Core.List.{List}
+use lib.Dec.{eqb, ltb}
+use borrow.Author.Tests.{eqb-true, eq-eqb, lt-ltb, le-ltb}
+use Rattle.scan.specs.Scan.{any, sum}
+use Rattle.scan.proofs.Tests.{byTest, true-false, lt-suc-cases}
+use Rattle.scan.proofs.Every.{any-in, any-out}
+use Rattle.scan.proofs.Count.{pigeonhole}
+use Rattle.scan.proofs.Sum.{sum-distinct}
+use Rattle.automaton.specs.Automaton.{Automaton, Closed}
+use Rattle.automaton.specs.Reach.{Reachable}
+use Rattle.automaton.specs.Equivalence.{Equivalent, Fires}
+use Rattle.automaton.specs.Quotient.{minimal, number, representative, Quotient, Renumbering}
+use Rattle.automaton.proofs.Quotient.{representative-node, representative-reachable, number-representative, quotient}
+use Rattle.automaton.proofs.Minimal.{equivalent→minimal-equal}
+
+-- N different numbers below N are all of them
+pub distinct-all : (f : ℕ → ℕ) (N : ℕ) → ((i : ℕ) → i < N → f i < N) → ((i j : ℕ) → i < j → j < N → f i ≡ f j → ⊥) → (v : ℕ) → v < N → (i : ℕ) × (i < N) × (f i ≡ v)
+distinct-all f N h d v l =
+    byTest (any hits N) (λ e. let (i, li, q) = any-out hits N e in (i, li, eqb-true (f i) v q)) (λ e. absurd (one-more e))
+  where
+    hits : ℕ → Bool
+    hits i = eqb (f i) v
+
+    -- f, and v behind it
+    g : ℕ → ℕ
+    g i = cond (ltb i N) (f i) v
+
+    old : (i : ℕ) → i < N → g i ≡ f i
+    old i li = rw (lt-ltb i N li)
+
+    new : g N ≡ v
+    new = rw (le-ltb N N (omega arith))
+
+    one-more : any hits N ≡ false → ⊥
+    one-more e =
+        let over : suc N ≤ N = pigeonhole g (suc N) N
+        (λ i li. ⊎-elim (λ (q : i ≡ N). rw (q, new) l) (λ (m : i < N). rw (old i m) (h i m)) (lt-suc-cases li))
+        (λ i j ij lj q. ⊎-elim
+        (λ (x : j ≡ N). true-false (any hits N) (any-in hits N i (omega arith) (eq-eqb (f i) v (sym (old i (omega arith)) ∙ q ∙ ap g x ∙ new))) e)
+        (λ (m : j < N). d i j ij m (sym (old i (omega arith)) ∙ q ∙ old j m)) (lt-suc-cases lj)) in
+        omega arith
+
+module _ (fire : List ℕ → ℕ → List ℕ) (A : Automaton) (c : Closed A) (f : Fires fire A) where
+  pub representative-injective : (i j : ℕ) → i < (minimal A) .nodes → j < (minimal A) .nodes → representative A i ≡ representative A j → i ≡ j
+  representative-injective i j li lj e = sym (number-representative fire A c f i li) ∙ ap (number A) e ∙ number-representative fire A c f j lj
+
+  distinct : (i j : ℕ) → i < j → j < (minimal A) .nodes → representative A i ≡ representative A j → ⊥
+  distinct i j ij lj e = let q : i ≡ j = representative-injective i j (omega arith) lj e in omega arith
+
+  -- what is counted at every node comes to no more over the classes
+  pub minimal-sum : (d : ℕ → ℕ) → sum (λ i. d (representative A i)) ((minimal A) .nodes) ≤ sum d (A .nodes)
+  minimal-sum d = sum-distinct d (representative A) ((minimal A) .nodes) (A .nodes) (representative-node fire A c f) distinct
+
+  -- ---- as many nodes
+
+  module _ (e : (minimal A) .nodes ≡ A .nodes) where
+    -- every node stands for its class
+    own-representative : (n : ℕ) → n < A .nodes → (number A n < (minimal A) .nodes) × (representative A (number A n) ≡ n)
+    own-representative n l =
+        let (i, li, q) = distinct-all (representative A) (A .nodes) (λ i li. representative-node fire A c f i (rw e li)) (λ i j ij lj. distinct i j ij (rw e lj)) n l in
+        let m : i < (minimal A) .nodes = rw e li in
+        let p : number A n ≡ i = ap (number A) (sym q) ∙ number-representative fire A c f i m in
+        (rw p m, ap (representative A) p ∙ q)
+
+    pub minimal-renumbering : Renumbering A (minimal A) (number A)
+    minimal-renumbering = record {
+      root = Q .root;
+      node = λ n l. own-representative n l .0;
+      injective = λ n m ln lm q. sym (own-representative n ln .1) ∙ ap (representative A) q ∙ own-representative m lm .1;
+      onto = λ i l. (representative A i, representative-node fire A c f i l, number-representative fire A c f i l);
+      arcs = λ n t l. Q .arcs n t (reached n l);
+      labels = λ n l. Q .labels n (reached n l);
+    }
+      where
+        Q : Quotient A (minimal A) (number A)
+        Q = quotient fire A c f
+
+        reached : (n : ℕ) → n < A .nodes → Reachable A n
+        reached n l = rw (← own-representative n l .1) (representative-reachable fire A c f (number A n) (own-representative n l .0))
+
+-- an automaton with an equivalent root and as few nodes is the minimal one up to the numbers of its nodes
+pub fewest-renumbering : (fire : List ℕ → ℕ → List ℕ) (A B : Automaton) → Closed A → Closed B → Fires fire A → Fires fire B → A .transitions ≡ B .transitions
+    → Equivalent A B 0 0 → B .nodes ≡ (minimal A) .nodes → Renumbering B (minimal A) (number B)
+fewest-renumbering fire A B cA cB fA fB T e N =
+    let q : minimal A ≡ minimal B = equivalent→minimal-equal fire A B cA cB fA fB T e in
+    subst (λ (M : Automaton). Renumbering B M (number B)) (sym q) (minimal-renumbering fire B cB fB (sym (N ∙ ap (λ (M : Automaton). M .nodes) q)))

@@ -1,0 +1,95 @@
+-- The minimal automaton allows what the automaton allows, is canonical and its own minimal automaton, and two are equal exactly where the roots are equivalent.
+use Prim.Native.Nat.{ℕ, _≤_, _<_}
+use mathlib.Core.Path.{_≡_, sym, ap, _∙_, subst}
+use mathlib.Core.Logic.{_↔_}
+use mathlib.Core.List.{List}
+use mathlib.Core.Option.{Option·map}
+use lib.Dec.{ltb}
+use borrow.Author.Tests.{ltb-true, ltb-false}
+use Rattle.scan.proofs.Tests.{byTest}
+use Rattle.automaton.specs.Automaton.{Automaton, Closed, SameLists}
+use Rattle.automaton.specs.Reach.{Reachable}
+use Rattle.automaton.specs.Equivalence.{Equivalent, Fires, same}
+use Rattle.automaton.specs.Quotient.{merged, minimalBy, minimal, number, representative, Quotient, Canonical}
+use Rattle.automaton.proofs.Reach.{root-reachable}
+use Rattle.automaton.proofs.Equivalence.{equivalent-sym, equivalent-trans, same-equivalence}
+use Rattle.automaton.proofs.BreadthFirst.{breadth-first-reachable}
+use Rattle.automaton.proofs.Unique.{unique, unique-nodes}
+use Rattle.automaton.proofs.Search.{order-short}
+use Rattle.automaton.proofs.Quotient.{minimal-transitions, minimal-arc, minimal-confined, minimal-breadth-first, quotient}
+use Rattle.automaton.proofs.Kept.{quotient-root, quotient-reduced, quotient-lands, quotient-fires}
+
+module _ (fire : List ℕ → ℕ → List ℕ) (A : Automaton) (c : Closed A) (f : Fires fire A) where
+  Q : Quotient A (minimal A) (number A)
+  Q = quotient fire A c f
+
+  pub minimal-closed : Closed (minimal A)
+  minimal-closed = record {
+    root = rw (Q .root) at (Q .node 0 (root-reachable A));
+    lands = quotient-lands A (minimal A) (number A) Q;
+    bounded = λ i t l.
+        byTest (ltb i ((minimal A) .nodes))
+        (λ q. minimal-arc A i t (ltb-true i ((minimal A) .nodes) q) ∙
+        ap (Option·map (number A)) (c .bounded (representative A i) t (rw (minimal-transitions A) at l)))
+        (λ q. minimal-confined A .arcs i t (ltb-false i ((minimal A) .nodes) q));
+  }
+
+  pub minimal-canonical : Canonical fire (minimal A)
+  minimal-canonical = record {
+    closed = minimal-closed;
+    fires = quotient-fires A (minimal A) (number A) Q fire c f;
+    breadthFirst = minimal-breadth-first fire A c f;
+    reduced = quotient-reduced A (minimal A) (number A) Q;
+    confined = minimal-confined A;
+  }
+
+  pub minimal-equivalent : Equivalent (minimal A) A 0 0
+  minimal-equivalent = quotient-root A (minimal A) (number A) Q
+
+  pub minimal-reachable : (i : ℕ) → i < (minimal A) .nodes → Reachable (minimal A) i
+  minimal-reachable = breadth-first-reachable (minimal A) (minimal-breadth-first fire A c f)
+
+  pub minimal-size : (minimal A) .nodes ≤ A .nodes
+  unfolding minimal minimalBy merged
+  minimal-size = order-short (same A) A c (same-equivalence A .reflexive)
+
+-- ---- canonical automata
+
+-- a canonical automaton is its own minimal automaton
+pub canonical-minimal : (fire : List ℕ → ℕ → List ℕ) (A : Automaton) → Canonical fire A → minimal A ≡ A
+canonical-minimal fire A C =
+    unique fire (minimal A) A (minimal-canonical fire A (C .closed) (C .fires)) C (minimal-equivalent fire A (C .closed) (C .fires)) (minimal-transitions A)
+
+pub minimal-idempotent : (fire : List ℕ → ℕ → List ℕ) (A : Automaton) → Closed A → Fires fire A → minimal (minimal A) ≡ minimal A
+minimal-idempotent fire A c f = canonical-minimal fire (minimal A) (minimal-canonical fire A c f)
+
+-- ---- two automata
+
+module _ (fire : List ℕ → ℕ → List ℕ) (A B : Automaton) (cA : Closed A) (cB : Closed B) (fA : Fires fire A) (fB : Fires fire B) where
+  roots : Equivalent A B 0 0 → Equivalent (minimal A) (minimal B) 0 0
+  roots e =
+      equivalent-trans (minimal A) A (minimal B) 0 0 0 (minimal-equivalent fire A cA fA)
+      (equivalent-trans A B (minimal B) 0 0 0 e (equivalent-sym (minimal B) B 0 0 (minimal-equivalent fire B cB fB)))
+
+  pub equivalent→minimal-equal : A .transitions ≡ B .transitions → Equivalent A B 0 0 → minimal A ≡ minimal B
+  equivalent→minimal-equal T e =
+      unique fire (minimal A) (minimal B) (minimal-canonical fire A cA fA) (minimal-canonical fire B cB fB) (roots e)
+      (minimal-transitions A ∙ T ∙ sym (minimal-transitions B))
+
+  pub minimal-equal→equivalent : minimal A ≡ minimal B → Equivalent A B 0 0
+  minimal-equal→equivalent e =
+      equivalent-trans A (minimal A) B 0 0 0 (equivalent-sym (minimal A) A 0 0 (minimal-equivalent fire A cA fA))
+      (subst (λ (M : Automaton). Equivalent M B 0 0) (sym e) (minimal-equivalent fire B cB fB))
+
+  -- "Two are equal" exactly where the roots have equal labels and allow the same lists.
+  pub minimal-equal↔equivalent : A .transitions ≡ B .transitions → (minimal A ≡ minimal B) ↔ Equivalent A B 0 0
+  minimal-equal↔equivalent T = (minimal-equal→equivalent, equivalent→minimal-equal T)
+
+  -- with equal labels at the roots: exactly where every list is allowed by both or by neither
+  pub minimal-equal↔lists : A .transitions ≡ B .transitions → A .label 0 ≡ B .label 0 → (minimal A ≡ minimal B) ↔ SameLists A B 0 0
+  minimal-equal↔lists T l = (λ e. minimal-equal→equivalent e .lists, λ s. equivalent→minimal-equal T (record { labels = l; lists = s }))
+
+  -- no automaton with an equivalent root has fewer nodes
+  pub minimal-fewest : Equivalent A B 0 0 → (minimal A) .nodes ≤ B .nodes
+  minimal-fewest e =
+      rw (unique-nodes fire (minimal A) (minimal B) (minimal-canonical fire A cA fA) (minimal-canonical fire B cB fB) (roots e)) (minimal-size fire B cB fB)

@@ -1,0 +1,5 @@
+pub mod Automaton
+pub mod Reach
+pub mod Equivalence
+pub mod BreadthFirst
+pub mod Quotient

@@ -1,0 +1,69 @@
+-- What the crates above use of a net: its sizes, the range of its weights, and that nothing else has a weight.
+-- They stand on these and on the accessors' contracts, and open no definition of the net.
+use Prim.Native.Nat.{ℕ, _≤_}
+use native.Mathlib.Omega.{arith}
+use mathlib.Core.Path.{_≡_, refl}
+use mathlib.Core.List.{List}
+use mathlib.Core.Bool.{Bool, true, false, cond, _&&_, and-false}
+use lib.Dec.{ltb}
+use borrow.Author.Tests.{le-ltb}
+use Rattle.net.specs.Net.{placeCount, transitionCount, weightAt, takenKey, putKey, startKey, isPlace, isTransition, taken, put, start}
+use Rattle.net.specs.Check.{netReply}
+use Rattle.net.specs.Demands.{SizesPass, IsNet, HasSource}
+use Rattle.net.specs.declared.NetAnswer.the-variants.{Accepted}
+use Rattle.net.proofs.Entries.{EntriesPass, weight-small}
+use Rattle.net.proofs.Demands.{accepted-exactly}
+
+-- ---- outside the net
+
+module _ (net : List ℕ) where
+  pub taken-no-transition : (t p : ℕ) → transitionCount net ≤ t → taken net t p ≡ 0
+  unfolding taken isTransition
+  taken-no-transition t p l = rw (le-ltb t (transitionCount net) l)
+
+  pub taken-no-place : (t p : ℕ) → placeCount net ≤ p → taken net t p ≡ 0
+  unfolding taken isPlace
+  taken-no-place t p l = rw (le-ltb p (placeCount net) l, and-false (isTransition net t))
+
+  pub put-no-transition : (t p : ℕ) → transitionCount net ≤ t → put net t p ≡ 0
+  unfolding put isTransition
+  put-no-transition t p l = rw (le-ltb t (transitionCount net) l)
+
+  pub put-no-place : (t p : ℕ) → placeCount net ≤ p → put net t p ≡ 0
+  unfolding put isPlace
+  put-no-place t p l = rw (le-ltb p (placeCount net) l, and-false (isTransition net t))
+
+  pub start-no-place : (p : ℕ) → placeCount net ≤ p → start net p ≡ 0
+  unfolding start isPlace
+  start-no-place p l = rw (le-ltb p (placeCount net) l)
+
+-- ---- an accepted net
+
+guarded : (b : Bool) (w : ℕ) → w ≤ 1000000000 → cond b w 0 ≤ 1000000000
+guarded true w h = h
+guarded false w h = omega arith
+
+module _ (net : List ℕ) (accepted : netReply net ≡ Accepted) where
+  is-net : IsNet net
+  is-net = accepted-exactly net .0 accepted
+
+  passes : EntriesPass net
+  passes = record { shape = is-net .shape; each = is-net .entries }
+
+  pub sizes : SizesPass net
+  sizes = is-net .shape .sizes
+
+  pub some-source : HasSource net
+  some-source = is-net .source
+
+  pub taken-most : (t p : ℕ) → taken net t p ≤ 1000000000
+  unfolding taken
+  taken-most t p = guarded (isTransition net t && isPlace net p) _ (weight-small net passes (takenKey net t p))
+
+  pub put-most : (t p : ℕ) → put net t p ≤ 1000000000
+  unfolding put
+  put-most t p = guarded (isTransition net t && isPlace net p) _ (weight-small net passes (putKey net t p))
+
+  pub start-most : (p : ℕ) → start net p ≤ 1000000000
+  unfolding start
+  start-most p = guarded (isPlace net p) _ (weight-small net passes (startKey net p))
