@@ -14,7 +14,7 @@ use Rattle.scan.proofs.First.{orElse-left, orElse-right, orElse-next, orElse-hi
 use Rattle.scan.proofs.Every.{all-in, all-out, any-in, any-out}
 use Rattle.net.specs.Refusal.{refusal}
 use Rattle.net.specs.Net.{placeCount, transitionCount, entryCount, takesNothing, isSource, hasSource}
-use Rattle.net.specs.Check.{sizesPass, shapeFault, entryFault, entriesFault, netFault, answerOf, netReply}
+use Rattle.net.specs.Check.{sizesPass, shapeFault, entryFault, entriesFault, netFault, verdictOf, netReply}
 use Rattle.net.specs.Demands.{SizesPass, EntryPasses, ShapePasses, HasSource, IsNet, FirstFault, under-three, size, ragged, order, weight, no-source, AcceptedExactly, RefusedExactly, AccessorsMean}
 use Rattle.net.specs.declared.Position.the-variants.{Nothing}
 use Rattle.net.specs.declared.Refusal.{Refusal}
@@ -116,11 +116,11 @@ module _ (net : List ℕ) where
 
 pub accepted-exactly : AcceptedExactly
 unfolding netReply
-accepted-exactly net = (λ h. fault-none net (answer-none _ h), λ n. ap answerOf (none-fault net n))
+accepted-exactly net = (λ h. fault-none net (answer-none _ h), λ n. ap verdictOf (none-fault net n))
 
 pub refused-exactly : RefusedExactly
 unfolding netReply
-refused-exactly net r = (λ h. fault-first net r (answer-some _ r h), λ f. ap answerOf (first-fault net r f))
+refused-exactly net r = (λ h. fault-first net r (answer-some _ r h), λ f. ap verdictOf (first-fault net r f))
 
 pub accessors-mean : AccessorsMean
 unfolding netReply netFault

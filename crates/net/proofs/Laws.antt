@@ -10,7 +10,7 @@ use borrow.Author.Tests.{le-ltb}
 use Rattle.net.specs.Net.{placeCount, transitionCount, weightAt, takenKey, putKey, startKey, isPlace, isTransition, taken, put, start}
 use Rattle.net.specs.Check.{netReply}
 use Rattle.net.specs.Demands.{SizesPass, IsNet, HasSource}
-use Rattle.net.specs.declared.NetAnswer.the-variants.{Accepted}
+use Rattle.net.specs.declared.Verdict.the-variants.{Accepted}
 use Rattle.net.proofs.Entries.{EntriesPass, weight-small}
 use Rattle.net.proofs.Demands.{accepted-exactly}
 

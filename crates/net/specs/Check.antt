@@ -10,8 +10,8 @@ use Rattle.net.specs.Refusal.{refusal}
 use Rattle.net.specs.Net.{placeCount, transitionCount, entryCount, entryKey, entryWeight, keyLimit, hasSource}
 use Rattle.net.specs.declared.Position.the-variants.{Nothing, Entry}
 use Rattle.net.specs.declared.Refusal.{Refusal}
-use Rattle.net.specs.declared.NetAnswer.{NetAnswer}
-use Rattle.net.specs.declared.NetAnswer.the-variants.{Accepted, Refused}
+use Rattle.net.specs.declared.Verdict.{Verdict}
+use Rattle.net.specs.declared.Verdict.the-variants.{Accepted, Refused}
 
 -- "P places, 1 to 32; T transitions, 1 to 32; K at most (2 × T + 1) × P"
 unfoldable pub sizesPass : ℕ → ℕ → ℕ → Bool
@@ -44,10 +44,10 @@ module _ (net : List ℕ) where
   unfoldable pub netFault : Option Refusal
   netFault = orElse entriesFault (when (not (hasSource net)) (refusal 5 Nothing))
 
-abbrev pub answerOf : Option Refusal → NetAnswer
-answerOf none = Accepted
-answerOf (some r) = Refused r
+abbrev pub verdictOf : Option Refusal → Verdict
+verdictOf none = Accepted
+verdictOf (some r) = Refused r
 
 -- what the net check answers
-unfoldable pub netReply : List ℕ → NetAnswer
-netReply net = answerOf (netFault net)
+unfoldable pub netReply : List ℕ → Verdict
+netReply net = verdictOf (netFault net)

@@ -10,7 +10,7 @@ use Rattle.net.specs.Check.{netReply}
 use Rattle.net.specs.Accessors.{takenReply, putReply, startReply}
 use Rattle.net.specs.declared.Position.the-variants.{Nothing, Entry}
 use Rattle.net.specs.declared.Refusal.{Refusal}
-use Rattle.net.specs.declared.NetAnswer.the-variants.{Accepted, Refused}
+use Rattle.net.specs.declared.Verdict.the-variants.{Accepted, Refused}
 
 -- ---- the clauses of a net
 

@@ -4,14 +4,14 @@ use mathlib.Core.List.{List, [], _∷_}
 use Rattle.net.specs.Refusal.{refusal}
 use Rattle.net.specs.Check.{netReply}
 use Rattle.net.specs.declared.Position.the-variants.{Nothing, Entry}
-use Rattle.net.specs.declared.NetAnswer.{NetAnswer}
-use Rattle.net.specs.declared.NetAnswer.the-variants.{Accepted, Refused}
+use Rattle.net.specs.declared.Verdict.{Verdict}
+use Rattle.net.specs.declared.Verdict.the-variants.{Accepted, Refused}
 
 pub record Example : Type 0 where
   pub net : List ℕ
-  pub answer : NetAnswer
+  pub answer : Verdict
 
-abbrev pub _answers_ : List ℕ → NetAnswer → Example
+abbrev pub _answers_ : List ℕ → Verdict → Example
 net answers answer = record { net = net; answer = answer }
 
 infix 3 _answers_
@@ -50,10 +50,10 @@ table =
     (1 ∷ 2 ∷ 1 ∷ 1 ∷ 1 ∷ [] answers Accepted) ∷
     (1 ∷ 1 ∷ 1 ∷ 0 ∷ 1 ∷ [] answers Refused (refusal 5 Nothing)) ∷ []
 
-abbrev pub repliesTo : List Example → List NetAnswer
+abbrev pub repliesTo : List Example → List Verdict
 repliesTo [] = []
 repliesTo (e ∷ es) = netReply (e .net) ∷ repliesTo es
 
-abbrev pub answersOf : List Example → List NetAnswer
+abbrev pub answersOf : List Example → List Verdict
 answersOf [] = []
 answersOf (e ∷ es) = e .answer ∷ answersOf es

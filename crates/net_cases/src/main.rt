@@ -1,6 +1,5 @@
 // Prints what the net check answers for nets that its proved table leaves out, and the weights of one of them.
 use libc::STDOUT_FILENO;
-use net::NetAnswer;
 use net::Position;
 
 fn print_kind(at: Position) {
@@ -25,14 +24,8 @@ fn print_position(number: u32, at: Position) {
 }
 
 fn print_check(net: &[u32]) {
-    match net::check(net) {
-        NetAnswer::Accepted => print_position(0, Position::Nothing),
-        NetAnswer::Refused(r) => {
-            let at = r.at;
-            print_position(r.number, at)
-        }
-    }
-    ;
+    let verdict = net::check(net);
+    print_position(verdict.number(), verdict.at());
 }
 
 // What t takes from and puts into place p.
