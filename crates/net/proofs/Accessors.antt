@@ -1,4 +1,4 @@
--- On a net that passes 1 to 4 the weight that bisection finds is the weight at the key.
+-- On a net that passes 1 to 4 the weight that bisection finds is the weight at the key, one by one and a row at once.
 use Prim.Native.Nat.{ℕ, _+_, _*_}
 use mathlib.Core.Path.{_≡_, refl, ap, _∙_}
 use mathlib.Core.List.{List}
@@ -10,11 +10,12 @@ use Rattle.table.specs.Bisection.{foundOf}
 use Rattle.table.proofs.Bisection.{look-up}
 use Rattle.net.specs.Net.{placeCount, transitionCount, entryCount, weightOf, weightAt, takenKey, putKey, startKey, isPlace, isTransition, taken, put, start}
 use Rattle.net.specs.Check.{shapeFault}
-use Rattle.net.specs.Accessors.{weightFound, weightReply, rowReply, shaped, takenReply, putReply, startReply}
+use Rattle.net.specs.Accessors.{weightFound, weightReply, rowReply, shaped, takenReply, putReply, startReply, takenRowReply, putRowReply, startRowReply}
 use Rattle.net.specs.Demands.{AccessorsRight}
 use Rattle.net.specs.declared.Refusal.{Refusal}
 use Rattle.net.proofs.Shape.{shape-in}
 use Rattle.net.proofs.Entries.{EntriesPass, entries-rise, entries-fit}
+use Rattle.net.proofs.Rows.{row-right, row-guarded}
 
 pub shaped-true : (net : List ℕ) → shapeFault net ≡ none → shaped net ≡ true
 unfolding shaped found
@@ -35,13 +36,16 @@ both-tests true b x = refl
 both-tests false b x = refl
 
 pub accessors-right : (net : List ℕ) → EntriesPass net → AccessorsRight net
-unfolding takenReply putReply startReply rowReply taken put start takenKey putKey startKey
+unfolding takenReply putReply startReply takenRowReply putRowReply startRowReply rowReply taken put start takenKey putKey startKey
 accessors-right net e =
     let s = shaped-true net (shape-in net (e .shape)) in
     record {
       takes = λ t p. rw (s, weight-right net e (t * placeCount net + p)) (both-tests (isTransition net t) (isPlace net p) _);
       puts = λ t p. rw (s, weight-right net e ((transitionCount net + t) * placeCount net + p)) (both-tests (isTransition net t) (isPlace net p) _);
       starts = λ p. rw (s, weight-right net e (2 * transitionCount net * placeCount net + p));
+      takes-row = λ t. rw s (row-guarded net e (isTransition net t) t (taken net t) (λ p. refl));
+      puts-row = λ t. rw s (row-guarded net e (isTransition net t) (transitionCount net + t) (put net t) (λ p. refl));
+      starts-row = rw s (row-right net e (2 * transitionCount net) (start net) (λ p. refl));
     }
 
 pub shaped-false : (net : List ℕ) (r : Refusal) → shapeFault net ≡ some r → shaped net ≡ false

@@ -2,6 +2,7 @@ pub mod Answer
 pub mod Shape
 pub mod Entries
 pub mod Source
+pub mod Rows
 pub mod Accessors
 pub mod Demands
 pub mod Examples

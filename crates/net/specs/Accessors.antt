@@ -1,10 +1,13 @@
--- What the net's accessors answer on any words: the weight that bisection finds, 0 where 1 or 2 refuses the net.
--- On an accepted net that is document 01's weight (Demands, `AccessorsRight`).
-use Prim.Native.Nat.{ℕ, _+_, _*_}
+-- What the net's accessors answer on any words: the weight that bisection finds, and the row that one walk
+-- from there finds; 0 where 1 or 2 refuses the net.
+-- On an accepted net these are document 01's weights (Demands, `AccessorsRight`).
+use Prim.Native.Nat.{ℕ, zero, suc, _+_, _*_}
 use mathlib.Core.List.{List}
 use mathlib.Core.Bool.{Bool, cond, not, _&&_}
-use Rattle.scan.specs.Scan.{found}
+use lib.ListN.{replicate}
+use Rattle.scan.specs.Scan.{found, tabulate}
 use Rattle.table.specs.Bisection.{lookUp}
+use Rattle.table.specs.Row.{rowEntry}
 use Rattle.table.specs.declared.Found.{Found}
 use Rattle.table.specs.declared.Found.the-variants.{At, Nothing}
 use Rattle.net.specs.Net.{placeCount, transitionCount, entryCount, entryWeight, isPlace, isTransition}
@@ -33,3 +36,25 @@ module _ (net : List ℕ) where
 
   unfoldable pub startReply : ℕ → ℕ
   startReply p = cond shaped (rowReply (2 * transitionCount net) p) 0
+
+  -- ---- a row at once, place by place
+
+  -- the weight of an entry that is told as 1 plus its index, or as 0 where there is none
+  unfoldable pub weightTold : ℕ → ℕ
+  weightTold zero = 0
+  weightTold (suc i) = entryWeight net i
+
+  unfoldable pub rowWeight : ℕ → ℕ → ℕ
+  rowWeight row p = weightTold (rowEntry net 3 (entryCount net) (row * placeCount net) (placeCount net) p)
+
+  unfoldable pub rowWeights : ℕ → List ℕ
+  rowWeights row = tabulate (rowWeight row) 32
+
+  unfoldable pub takenRowReply : ℕ → List ℕ
+  takenRowReply t = cond (shaped && isTransition net t) (rowWeights t) (replicate 32 0)
+
+  unfoldable pub putRowReply : ℕ → List ℕ
+  putRowReply t = cond (shaped && isTransition net t) (rowWeights (transitionCount net + t)) (replicate 32 0)
+
+  unfoldable pub startRowReply : List ℕ
+  startRowReply = cond shaped (rowWeights (2 * transitionCount net)) (replicate 32 0)

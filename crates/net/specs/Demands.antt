@@ -4,10 +4,11 @@ use mathlib.Core.Path.{_≡_}
 use mathlib.Core.Logic.{_↔_}
 use mathlib.Core.List.{List}
 use lib.ListN.{length}
+use Rattle.scan.specs.Scan.{tabulate}
 use Rattle.net.specs.Refusal.{refusal}
 use Rattle.net.specs.Net.{placeCount, transitionCount, entryCount, entryKey, entryWeight, keyLimit, taken, put, start}
 use Rattle.net.specs.Check.{netReply}
-use Rattle.net.specs.Accessors.{takenReply, putReply, startReply}
+use Rattle.net.specs.Accessors.{takenReply, putReply, startReply, takenRowReply, putRowReply, startRowReply}
 use Rattle.net.specs.declared.Position.the-variants.{Nothing, Entry}
 use Rattle.net.specs.declared.Refusal.{Refusal}
 use Rattle.net.specs.declared.Verdict.the-variants.{Accepted, Refused}
@@ -71,6 +72,9 @@ pub record AccessorsRight (net : List ℕ) : Type 0 where
   pub takes : (t p : ℕ) → takenReply net t p ≡ taken net t p
   pub puts : (t p : ℕ) → putReply net t p ≡ put net t p
   pub starts : (p : ℕ) → startReply net p ≡ start net p
+  pub takes-row : (t : ℕ) → takenRowReply net t ≡ tabulate (taken net t) 32
+  pub puts-row : (t : ℕ) → putRowReply net t ≡ tabulate (put net t) 32
+  pub starts-row : startRowReply net ≡ tabulate (start net) 32
 
 abbrev pub AccessorsMean : Type 0
 AccessorsMean = (net : List ℕ) → netReply net ≡ Accepted → AccessorsRight net

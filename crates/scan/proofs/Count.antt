@@ -3,6 +3,7 @@ use Prim.Native.Nat.{ℕ, zero, suc, _+_, _≤_, _<_, zero-le}
 use native.Mathlib.Nat.{add-zero, add-suc}
 use native.Mathlib.Numerals.{add-one}
 use native.Mathlib.Omega.{arith}
+use native.Mathlib.Decide.{decLt}
 use mathlib.Core.Path.{_≡_, refl}
 use mathlib.Core.Logic.{⊎-elim}
 use mathlib.Core.Bool.{Bool, true, false}
@@ -90,3 +91,18 @@ pigeonhole f k n h d = omega (arith, many k h d, count-le (hit k) n)
           (not-true→false (hit k (f k)) (λ e. let (i, p, q) = any-out (is (f k)) k e in d i k p (omega arith) (eqb-true (f i) (f k) q)))
           (any-in (is (f k)) (suc k) k (omega arith) (eq-eqb (f k) (f k) refl)),
     )
+
+pub count-full : (f : ℕ → Bool) (n : ℕ) → ((i : ℕ) → i < n → f i ≡ true) → count f n ≡ n
+unfolding count bit
+count-full f zero h = refl
+count-full f (suc n) h = rw (h n (omega arith)) (let z = count-full f n (λ i l. h i (omega arith)) in omega arith)
+
+-- what passes below r and not from there on is passed by r indices
+pub count-prefix : (f : ℕ → Bool) (n r : ℕ) → r ≤ n → ((i : ℕ) → i < r → f i ≡ true) → ((i : ℕ) → r ≤ i → i < n → f i ≡ false) → count f n ≡ r
+unfolding count bit
+count-prefix f zero r l below above = omega arith
+count-prefix f (suc n) r l below above =
+    elim (decLt n r) [
+      | yes p ↦ let e : r ≡ suc n = omega arith in rw (below n p) (let z = count-full f n (λ i m. below i (omega arith)) in omega arith)
+      | no p ↦ rw (above n (omega arith) (omega arith)) (let z = count-prefix f n r (omega arith) below (λ i m k. above i m (omega arith)) in omega arith)
+    ]

@@ -43,6 +43,9 @@ any-out f (suc n) e =
 pub any-none : (f : ℕ → Bool) (n : ℕ) → ((i : ℕ) → i < n → f i ≡ false) → any f n ≡ false
 any-none f n h = not-true→false (any f n) (λ e. let (i, l, q) = any-out f n e in true-false (f i) q (h i l))
 
+pub any-before : (f : ℕ → Bool) (n : ℕ) → any f n ≡ false → (i : ℕ) → i < n → f i ≡ false
+any-before f n h i l = not-true→false (f i) (λ e. true-false (any f n) (any-in f n i l e) h)
+
 pub any-ext : (f g : ℕ → Bool) (n : ℕ) → ((i : ℕ) → i < n → f i ≡ g i) → any f n ≡ any g n
 unfolding any
 any-ext f g zero h = refl

@@ -4,10 +4,11 @@ use native.Mathlib.Omega.{arith}
 use mathlib.Core.Path.{_≡_, refl, ap}
 use mathlib.Core.Bool.{Bool, true, false}
 use mathlib.Core.Option.{Option, none, some, Option·getD}
-use lib.Dec.{leb}
-use borrow.Author.Tests.{leb-true, leb-false}
-use Rattle.scan.specs.Scan.{first, passing, least}
+use lib.Dec.{ltb, leb}
+use borrow.Author.Tests.{ltb-true, ltb-false, leb-true, leb-false}
+use Rattle.scan.specs.Scan.{any, first, passing, least}
 use Rattle.scan.proofs.Tests.{byTest, true-false}
+use Rattle.scan.proofs.Every.{any-before}
 use Rattle.scan.proofs.First.{when-some, when-none, first-at, first-all, first-ext}
 
 passing-some : (f : ℕ → Bool) (i a : ℕ) → passing f i ≡ some a → (f i ≡ true) × (i ≡ a)
@@ -52,3 +53,20 @@ least-of f n i e =
 pub least-ext : (f g : ℕ → Bool) (n : ℕ) → ((i : ℕ) → i < n → f i ≡ g i) → least f n ≡ least g n
 unfolding least passing
 least-ext f g n h = ap (λ (o : Option ℕ). Option·getD o n) (first-ext (passing f) (passing g) n (λ i l. rw (h i l)))
+
+-- ---- a loop that looks for it
+
+pub least-unique : (f : ℕ → Bool) (n i : ℕ) → Least f n i → least f n ≡ i
+least-unique f n i h =
+    let top = least-le f n in
+    byTest (ltb (least f n) i) (λ q. let l = ltb-true (least f n) i q in true-false (f (least f n)) (least-hit f n (omega (arith, h .within))) (h .low _ l))
+    (λ q. byTest (ltb i (least f n)) (λ r. let l = ltb-true i (least f n) r in true-false (f i) (h .hit (omega arith)) (least-low f n i l))
+    (λ r. let a = ltb-false (least f n) i q in let b = ltb-false i (least f n) r in omega arith))
+
+-- left at an index that passes
+pub least-found : (f : ℕ → Bool) (n i : ℕ) → any f i ≡ false → f i ≡ true → i < n → least f n ≡ i
+least-found f n i h e l = least-unique f n i (record { within = omega arith; hit = λ _. e; low = any-before f i h })
+
+-- run out
+pub least-none : (f : ℕ → Bool) (n : ℕ) → any f n ≡ false → least f n ≡ n
+least-none f n h = least-unique f n n (record { within = omega arith; hit = λ l. absurd (omega arith); low = any-before f n h })

@@ -1,11 +1,11 @@
 -- A function's values as a list: its length, its elements, and the table that a loop fills.
-use Prim.Native.Nat.{ℕ, zero, suc, _+_, _<_}
+use Prim.Native.Nat.{ℕ, zero, suc, _+_, _≤_, _<_}
 use native.Mathlib.Omega.{arith}
 use mathlib.Core.Path.{_≡_, refl, sym, _∙_}
 use mathlib.Core.Logic.{⊎-elim}
 use mathlib.Core.List.{List, [], _∷_}
-use lib.ListN.{length, getD, set, length-append, List·getD-append}
-use lib.Seq.{getD-at, ext-getD, getD-set-same, getD-set-other}
+use lib.ListN.{length, getD, set, take, length-append, List·getD-append}
+use lib.Seq.{getD-at, ext-getD, getD-set-same, getD-set-other, getD-take, length-take-le}
 use borrow.Author.Count.{below-more}
 use Rattle.scan.specs.Scan.{tabulate}
 use Rattle.scan.proofs.Tests.{lt-suc-cases}
@@ -32,6 +32,12 @@ module _ {A : Type 0} where
   unfolding tabulate
   tabulate-ext f g zero h = refl
   tabulate-ext f g (suc n) h = rw (h n (omega arith), tabulate-ext f g n (λ i l. h i (omega arith)))
+
+  -- the front of a table is the shorter table
+  pub take-tabulate : (f : ℕ → A) (n m : ℕ) → n ≤ m → take n (tabulate f m) ≡ tabulate f n
+  take-tabulate f n m l =
+      tabulate-is f (f 0) n (take n (tabulate f m)) (length-take-le n (tabulate f m) (rw (tabulate-length f m) l))
+      (λ i k. getD-take n (tabulate f m) i (f 0) k ∙ tabulate-at f (f 0) m i (omega arith))
 
 -- one more element stored: what holds of each below i holds of each below i + 1
 pub stored-more : (f : ℕ → ℕ) (l : List ℕ) (i v : ℕ) → ((j : ℕ) → j < i → getD l j 0 ≡ f j) → i < length l → v ≡ f i → (j : ℕ) → j < i + 1 → getD (set l i v) j 0 ≡ f j

@@ -7,6 +7,7 @@ use native.Mathlib.Decide.{decLt}
 use mathlib.Core.Path.{_≡_, refl, sym, ap, _∙_}
 use mathlib.Core.List.{List}
 use mathlib.Core.Bool.{Bool, true, false, cond, _&&_}
+use mathlib.Core.Option.{none, some}
 use lib.ListN.{length}
 use lib.Dec.{ltb, leb, eqb}
 use borrow.Author.Tests.{ltb-true, ltb-false, lt-ltb, le-ltb, le-leb, lt-leb, leb-true, eq-eqb, ne-eqb, eqb-true}
@@ -88,6 +89,10 @@ module _ (f : ℕ → Bool) (n : ℕ) (falling : (i j : ℕ) → i < j → j < n
 
 -- ---- the look-up
 
+found-cond : (b : Bool) (i : ℕ) → cond b (At i) Nothing ≡ foundOf (cond b (some i) none)
+found-cond true i = refl
+found-cond false i = refl
+
 module _ (words : List ℕ) (offset entries k : ℕ) where
   pub lower-bound-fits : lowerBound words offset entries k < entries → offset + entries ≤ length words
   unfolding lowerBound
@@ -129,6 +134,21 @@ module _ (words : List ℕ) (offset entries k : ℕ) where
     pub below : (i : ℕ) → i < r → keyAt words offset i < k
     pub above : (i : ℕ) → r ≤ i → i < entries → k ≤ keyAt words offset i
 
+  -- where keys rise, only the entry at that place can have the key
+  pub lower-bound-entry : Rising words offset entries → (r : ℕ) → LowerBound r
+      → entryOf words offset entries k ≡ cond (ltb r entries && eqb (keyAt words offset r) k) (some r) none
+  lower-bound-entry up r b =
+      byTest (ltb r entries && eqb (keyAt words offset r) k)
+      (λ h. rw h (entry-at words offset entries up r k (ltb-true r entries (and-left (ltb r entries) _ h)) (eqb-true _ k (and-right (ltb r entries) _ h))))
+      (λ h. let away : r < entries → keyAt words offset r ≡ k → ⊥ = λ l e. true-false _ (and-both _ _ (lt-ltb r entries l) (eq-eqb _ k e)) h in
+      rw h (entry-absent words offset entries k (λ i l e. elim (decLt i r) [
+        | yes m ↦ let a = b .below i m in omega arith
+        | no m ↦ elim (decLt r i) [
+          | yes m′ ↦ let a = rising words offset entries up r i m′ l in let c = b .above r (omega arith) (omega arith) in omega arith
+          | no m′ ↦ let q : i ≡ r = omega arith in away (omega arith) (rw q at e)
+        ]
+      ])))
+
   module _ (up : Rising words offset entries) (fits : offset + entries ≤ length words) where
     pub lower-bound : LowerBound (lowerBound words offset entries k)
     unfolding keyBelow
@@ -143,18 +163,7 @@ module _ (words : List ℕ) (offset entries k : ℕ) where
 
     -- the look-up is the entry with the key
     pub look-up : lookUp words offset entries k ≡ foundOf (entryOf words offset entries k)
+    unfolding lookUp
     look-up =
         let r = lowerBound words offset entries k in
-        let b = lower-bound in
-        byTest (ltb r entries && eqb (keyAt words offset r) k)
-        (λ h. let l : r < entries = ltb-true r entries (and-left (ltb r entries) _ h) in
-        let e : keyAt words offset r ≡ k = eqb-true _ k (and-right (ltb r entries) _ h) in
-        sym (look-up-hit r refl l e) ∙ ap foundOf (sym (entry-at words offset entries up r k l e)))
-        (λ h. let away : r < entries → keyAt words offset r ≡ k → ⊥ = λ l e. true-false _ (and-both _ _ (lt-ltb r entries l) (eq-eqb _ k e)) h in
-        sym (look-up-miss r refl away) ∙ ap foundOf (sym (entry-absent words offset entries k (λ i l e. elim (decLt i r) [
-          | yes m ↦ let a = b .below i m in omega arith
-          | no m ↦ elim (decLt r i) [
-            | yes m′ ↦ let a = rising words offset entries up r i m′ l in let c = b .above r (omega arith) (omega arith) in omega arith
-            | no m′ ↦ let q : i ≡ r = omega arith in away (omega arith) (rw q at e)
-          ]
-        ]))))
+        found-cond (ltb r entries && eqb (keyAt words offset r) k) r ∙ ap foundOf (sym (lower-bound-entry up r lower-bound))
