@@ -1,0 +1,16 @@
+pub mod Lists
+pub mod Gather
+pub mod Encoding
+pub mod Entries
+pub mod Encoded
+pub mod Reading
+pub mod Decoded
+pub mod Recoded
+pub mod Length
+pub mod Schedule
+pub mod Minimal
+pub mod Form
+pub mod Buffers
+pub mod Demands
+pub mod Examples
+pub mod Nine

@@ -1,0 +1,182 @@
+-- The minimal form of an accepted sheet: its graph is the minimal automaton, it is accepted, and two are equal exactly where the roots allow the same lists.
+-- ---- a schedule that a sheet can say
+use Prim.Native.Nat.{ℕ, _+_, _*_, _≤_, _<_}
+use native.Mathlib.Omega.{arith}
+use mathlib.Core.Path.{_≡_, refl, sym, ap, _∙_, subst}
+use mathlib.Core.Logic.{_↔_}
+use mathlib.Core.List.{List}
+use lib.ListN.{length}
+use Rattle.automaton.specs.Automaton.{Automaton, Closed, SameLists}
+use Rattle.automaton.specs.BreadthFirst.{BreadthFirst}
+use Rattle.automaton.specs.Equivalence.{Equivalent, Fires}
+use Rattle.automaton.specs.Quotient.{minimal, number, representative, Quotient, Renumbering}
+use Rattle.automaton.proofs.Quotient.{minimal-transitions, minimal-label, minimal-confined, minimal-breadth-first, representative-node, quotient}
+use Rattle.automaton.proofs.Minimal.{minimal-closed, minimal-equivalent, minimal-size, minimal-idempotent, minimal-equal↔lists, minimal-fewest}
+use Rattle.automaton.proofs.Fewest.{fewest-renumbering}
+use Rattle.net.proofs.Laws.{sizes}
+use Rattle.sequential.specs.Petri.{PetriNet, petriNet, fire}
+use Rattle.sequential.specs.Words.{nodeCount, entryCount, graph}
+use Rattle.sequential.specs.Schedule.{IsSchedule}
+use Rattle.sequential.specs.Demands.{Accepts}
+use Rattle.sequential.proofs.Demands.{accepted-exactly}
+use Rattle.minimal.specs.Encoding.{held, encode}
+use Rattle.minimal.specs.Minimal.{minimalForm}
+use Rattle.minimal.specs.Demands.{Accepted, SameFirings, Encodable, QuotientForm, Fewest}
+use Rattle.minimal.proofs.Encoded.{encoded-length, encoded-entries, encoded-passes}
+use Rattle.minimal.proofs.Decoded.{decode-encode}
+use Rattle.minimal.proofs.Recoded.{encode-decode, decoded-encodable}
+use Rattle.minimal.proofs.Length.{minimal-keys}
+use Rattle.minimal.proofs.Schedule.{schedule-fires, quotient-schedule}
+
+module _ (N : PetriNet) (A : Automaton) (E : Encodable N A) (s : IsSchedule N A) where
+  fires : Fires (fire N) A
+  fires = schedule-fires N A s
+
+  pub minimal-encodable : Encodable N (minimal A)
+  minimal-encodable = record {
+    transitions = minimal-transitions A ∙ E .transitions;
+    few-nodes = omega (arith, minimal-size (fire N) A (E .closed) fires, E .few-nodes);
+    few-entries = omega (arith, minimal-keys N (fire N) A (E .closed) fires, E .few-entries);
+    closed = minimal-closed (fire N) A (E .closed) fires;
+    confined = minimal-confined A;
+    places = λ i l. ap length (minimal-label A i l) ∙ E .places (representative A i) (node i l);
+    most = λ i p l m. unfold held in (rw (minimal-label A i l) (unfold held in (E .most (representative A i) p (node i l) m)));
+  }
+    where
+      node : (i : ℕ) → i < (minimal A) .nodes → representative A i < A .nodes
+      node i l = representative-node (fire N) A (E .closed) fires i l
+
+  pub minimal-schedule : IsSchedule N (minimal A)
+  minimal-schedule = quotient-schedule N A (minimal A) (number A) (quotient (fire N) A (E .closed) fires) (E .closed) s
+
+-- ---- an accepted sheet
+
+module _ (net sheet : List ℕ) (h : Accepted net sheet) where
+  abbrev N : PetriNet
+  N = petriNet net
+
+  abbrev A : Automaton
+  A = graph (petriNet net) sheet
+
+  accepts : Accepts net sheet
+  accepts = accepted-exactly net sheet .0 h
+
+  some-transition : 0 < petriNet net .transitions
+  some-transition = sizes net (accepts .net-accepted) .some-transition
+
+  some-place : 0 < petriNet net .places
+  some-place = sizes net (accepts .net-accepted) .some-place
+
+  pub accepted-encodable : Encodable (petriNet net) (graph (petriNet net) sheet)
+  accepted-encodable = decoded-encodable N sheet some-transition some-place (accepts .words)
+
+  pub accepted-closed : Closed (graph (petriNet net) sheet)
+  accepted-closed = accepted-encodable .closed
+
+  pub accepted-fires : Fires (fire (petriNet net)) (graph (petriNet net) sheet)
+  accepted-fires = schedule-fires N A (accepts .schedule)
+
+  form-encodable : Encodable N (minimal A)
+  form-encodable = minimal-encodable N A accepted-encodable (accepts .schedule)
+
+  -- the graph that the minimal form says is the minimal automaton
+  pub form-graph : graph (petriNet net) (minimalForm net sheet) ≡ minimal (graph (petriNet net) sheet)
+  unfolding minimalForm
+  form-graph = decode-encode N (minimal A) some-transition form-encodable
+
+  pub form-accepted : Accepted net (minimalForm net sheet)
+  form-accepted = accepted-exactly net (minimalForm net sheet) .1 (record {
+    net-accepted = accepts .net-accepted;
+    words = unfold minimalForm in (encoded-passes N (minimal A) form-encodable);
+    schedule = subst (IsSchedule N) (sym form-graph) (minimal-schedule N A accepted-encodable (accepts .schedule));
+  })
+
+  pub form-lists : SameFirings net (minimalForm net sheet) sheet
+  unfolding SameLists
+  form-lists = subst (λ (M : Automaton). SameLists M A 0 0) (sym form-graph) (minimal-equivalent (fire N) A accepted-closed accepted-fires .lists)
+
+  -- ---- its length
+
+  form-entries : entryCount (minimalForm net sheet) ≤ entryCount sheet
+  unfolding minimalForm
+  form-entries =
+      omega (
+        arith,
+        encoded-entries N (minimal A),
+        minimal-keys N (fire N) A accepted-closed accepted-fires,
+        encoded-entries N A,
+        ap entryCount (encode-decode N sheet some-transition some-place (accepts .words)),
+      )
+
+  form-length : length (minimalForm net sheet) ≡ 2 + 2 * entryCount (minimalForm net sheet)
+  unfolding minimalForm
+  form-length = encoded-length N (minimal A)
+
+  pub form-no-longer : length (minimalForm net sheet) ≤ length sheet
+  form-no-longer = omega (arith, form-length, form-entries, accepts .words .shape .whole)
+
+  pub form-short : length (minimalForm net sheet) ≤ 8194
+  form-short = omega (arith, form-length, form-entries, accepts .words .shape .few-entries)
+
+  -- ---- its graph
+
+  pub form-quotient : QuotientForm (petriNet net) sheet (minimalForm net sheet)
+  form-quotient = record {
+    number = number A;
+    quotient = subst (λ (M : Automaton). Quotient A M (number A)) (sym form-graph) (quotient (fire N) A accepted-closed accepted-fires);
+    breadthFirst = subst BreadthFirst (sym form-graph) (minimal-breadth-first (fire N) A accepted-closed accepted-fires);
+    encoded = ap (encode N) form-graph ∙ unfold minimalForm in refl;
+  }
+
+  pub form-twice : minimalForm net (minimalForm net sheet) ≡ minimalForm net sheet
+  unfolding minimalForm
+  form-twice = ap (encode N) (ap minimal form-graph ∙ minimal-idempotent (fire N) A accepted-closed accepted-fires)
+
+-- ---- two accepted sheets
+
+module _ (net x y : List ℕ) (hx : Accepted net x) (hy : Accepted net y) where
+  abbrev G : List ℕ → Automaton
+  G sheet = graph (petriNet net) sheet
+
+  one-start : (G x) .label 0 ≡ (G y) .label 0
+  one-start = accepts net x hx .schedule .starts ∙ sym (accepts net y hy .schedule .starts)
+
+  one-net : (G x) .transitions ≡ (G y) .transitions
+  unfolding graph
+  one-net = refl
+
+  automata : (minimal (G x) ≡ minimal (G y)) ↔ SameLists (G x) (G y) 0 0
+  automata =
+      minimal-equal↔lists (fire (petriNet net)) (G x) (G y) (accepted-closed net x hx) (accepted-closed net y hy) (accepted-fires net x hx) (accepted-fires net y hy)
+      one-net one-start
+
+  -- equal words say equal graphs
+  pub forms-equal : (minimalForm net x ≡ minimalForm net y) ↔ SameFirings net x y
+  unfolding SameLists
+  forms-equal = (
+    λ e. automata .0 (sym (form-graph net x hx) ∙ ap G e ∙ form-graph net y hy),
+    λ s. unfold minimalForm in (ap (encode (petriNet net)) (automata .1 s)),
+  )
+
+  -- no sheet that allows the same lists has fewer nodes
+  pub form-fewest : SameFirings net x y → Fewest (petriNet net) (minimalForm net x) y
+  form-fewest s = record {
+    fewest = rw nodes fewer;
+    renumbered = λ e. (
+      number (G y),
+      subst (λ (M : Automaton). Renumbering (G y) M (number (G y))) (sym (form-graph net x hx))
+          (fewest-renumbering F (G x) (G y) (accepted-closed net x hx) (accepted-closed net y hy) (accepted-fires net x hx) (accepted-fires net y hy) one-net same (unfold graph in (e ∙ nodes))),
+    );
+  }
+    where
+      F : List ℕ → ℕ → List ℕ
+      F = fire (petriNet net)
+
+      same : Equivalent (G x) (G y) 0 0
+      same = record { labels = one-start; lists = unfold SameLists in s }
+
+      fewer : (minimal (G x)) .nodes ≤ nodeCount y
+      fewer = unfold graph in (minimal-fewest F (G x) (G y) (accepted-closed net x hx) (accepted-closed net y hy) (accepted-fires net x hx) (accepted-fires net y hy) same)
+
+      nodes : nodeCount (minimalForm net x) ≡ (minimal (G x)) .nodes
+      nodes = unfold graph in (ap (λ (M : Automaton). M .nodes) (form-graph net x hx))

@@ -1,0 +1,66 @@
+-- The nine-node sheet and its minimal form: by a table of classes, which one round leaves as it is.
+use Prim.Native.Nat.{ℕ}
+use native.Mathlib.Omega.{arith}
+use mathlib.Core.Path.{_≡_, refl, sym, ap, _∙_}
+use mathlib.Core.List.{List, [], _∷_}
+use mathlib.Core.Option.{none}
+use lib.ListN.{getD}
+use Rattle.scan.specs.Scan.{orElse, when, found, first, all, passing, least, tabulate}
+use Rattle.scan.proofs.Tabulate.{tabulate-at}
+use Rattle.table.specs.Table.{keyAt, valueAt, entryWith, entryOf}
+use Rattle.automaton.specs.Automaton.{Automaton, Closed}
+use Rattle.automaton.specs.Equivalence.{equalLabels, agree, sameIn, leaderBy, inClass, sameClass, refined, classes}
+use Rattle.automaton.specs.BreadthFirst.{classAt, indexOf, enter, expand, explored, order}
+use Rattle.automaton.specs.Quotient.{merged, minimalBy, minimal}
+use Rattle.automaton.proofs.Classes.{classes-at}
+use Rattle.automaton.proofs.MinimalBy.{minimalBy-stable}
+use Rattle.net.specs.Net.{placeCount, transitionCount}
+use Rattle.sequential.specs.Petri.{PetriNet, petriNet}
+use Rattle.sequential.proofs.Words.{words-out}
+use Rattle.sequential.proofs.Entries.{graph-closed}
+use Rattle.minimal.specs.Minimal.{minimalForm}
+use Rattle.minimal.specs.Examples.{netQ, nine, nineForm}
+use Rattle.sequential.specs.Words as words
+use Rattle.sequential.specs.Check as check
+use Rattle.minimal.specs.Encoding as encoding
+
+abbrev N : PetriNet
+N = petriNet netQ
+
+abbrev A : Automaton
+A = words.graph (petriNet netQ) nine
+
+-- no two nodes are in one class
+abbrev own : List ℕ
+own = 0 ∷ 1 ∷ 2 ∷ 3 ∷ 4 ∷ 5 ∷ 6 ∷ 7 ∷ 8 ∷ []
+
+abbrev class : ℕ → ℕ
+class n = getD own n 0
+
+passes : check.wordsFault N nine ≡ none
+unfolding orElse when first keyAt valueAt placeCount transitionCount words.nodeCount words.entryCount words.entryKey words.entryValue words.arcKeys words.keyLimit check.sizesPass check.shapeFault check.targetFails check.countFails check.keyFails check.valueFails check.entryFault check.wordsFault
+passes = refl
+
+closed : Closed A
+closed = graph-closed N nine (unfold transitionCount in (omega arith)) (words-out N nine passes)
+
+by-labels : classes A 0 ≡ own
+unfolding orElse when first passing least tabulate keyAt valueAt entryWith entryOf equalLabels sameIn leaderBy inClass classes placeCount transitionCount words.nodeCount words.entryCount words.entryValue words.isNode words.entryWithKey words.arcKeys words.countKey words.count words.marking words.graph
+by-labels = refl
+
+by-arcs : tabulate (leaderBy (refined A class)) (A .nodes) ≡ own
+unfolding orElse when found first all passing least tabulate keyAt valueAt entryWith entryOf agree leaderBy inClass sameClass refined placeCount transitionCount words.nodeCount words.entryCount words.entryValue words.isNode words.entryWithKey words.arcKey words.arcEntry words.arc words.graph
+by-arcs = refl
+
+is-minimal : minimalBy (sameClass class) A ≡ minimal A
+is-minimal =
+    minimalBy-stable A closed 0 class (λ n l. sym (ap (λ (x : List ℕ). getD x n 0) by-labels) ∙ classes-at A closed 0 n l)
+    (λ n l. sym (tabulate-at (leaderBy (refined A class)) 0 (A .nodes) n l) ∙ ap (λ (x : List ℕ). getD x n 0) by-arcs)
+
+words-of-it : encoding.encode N (minimalBy (sameClass class) A) ≡ nineForm
+unfolding orElse when found first all passing least tabulate keyAt valueAt entryWith entryOf sameClass classAt indexOf enter expand explored order merged minimalBy placeCount transitionCount words.nodeCount words.entryCount words.entryKey words.entryValue words.isNode words.entryWithKey words.arcKeys words.arcKey words.countKey words.arcEntry words.arc words.count words.marking words.graph encoding.gather encoding.gatherRows encoding.keyOfArc encoding.held encoding.keyOfCount encoding.valueOfCount encoding.keys encoding.values encoding.encode
+words-of-it = refl
+
+pub nine-holds : minimalForm netQ nine ≡ nineForm
+unfolding minimalForm
+nine-holds = ap (encoding.encode N) (sym is-minimal) ∙ words-of-it

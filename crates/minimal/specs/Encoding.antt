@@ -1,0 +1,53 @@
+-- Document 01, "The sheet as words", from the graph to the words: V, K, then K rising keys, then K values.
+use Prim.Native.Nat.{ℕ, zero, suc, _+_, _*_}
+use mathlib.Core.List.{List, [], _∷_, _++_}
+use mathlib.Core.Option.{Option, none, some}
+use lib.ListN.{length, getD}
+use lib.Dec.{ltb}
+use Rattle.scan.specs.Scan.{when, found}
+use Rattle.automaton.specs.Automaton.{Automaton}
+use Rattle.sequential.specs.Petri.{PetriNet}
+
+-- ---- what is found, in order
+
+abbrev pub listOf : Option ℕ → List ℕ
+listOf none = []
+listOf (some x) = x ∷ []
+
+-- all that f finds over 0, 1, .., n - 1
+unfoldable pub gather : (ℕ → Option ℕ) → ℕ → List ℕ
+gather f zero = []
+gather f (suc n) = gather f n ++ listOf (f n)
+
+-- all that f finds over the rows 0, 1, .., n - 1 of so many columns, row by row
+unfoldable pub gatherRows : (ℕ → ℕ → Option ℕ) → ℕ → ℕ → List ℕ
+gatherRows f columns zero = []
+gatherRows f columns (suc n) = gatherRows f columns n ++ gather (f n) columns
+
+-- ---- the words of an automaton whose nodes have arcs by N's transitions and counts of N's places
+
+module _ (N : PetriNet) (A : Automaton) where
+  -- "Key n × T + t: from node n, firing t leads to the node that the value names"; "An absent arc key is no arc"
+  unfoldable pub keyOfArc : ℕ → ℕ → Option ℕ
+  keyOfArc n t = when (found (A .arc n t)) (n * N .transitions + t)
+
+  unfoldable pub held : ℕ → ℕ → ℕ
+  held n p = getD (A .label n) p 0
+
+  -- "Key V × T + n × P + p: at node n, place p holds the value"; "an absent count is 0"
+  unfoldable pub keyOfCount : ℕ → ℕ → Option ℕ
+  keyOfCount n p = when (ltb 0 (held n p)) (A .nodes * N .transitions + n * N .places + p)
+
+  unfoldable pub valueOfCount : ℕ → ℕ → Option ℕ
+  valueOfCount n p = when (ltb 0 (held n p)) (held n p)
+
+  -- "Keys rise strictly": the arcs node by node and by rising transition, then the counts node by node and by rising place
+  unfoldable pub keys : List ℕ
+  keys = gatherRows keyOfArc (N .transitions) (A .nodes) ++ gatherRows keyOfCount (N .places) (A .nodes)
+
+  unfoldable pub values : List ℕ
+  values = gatherRows (A .arc) (N .transitions) (A .nodes) ++ gatherRows valueOfCount (N .places) (A .nodes)
+
+  -- "A sheet is V, K, then K keys, then K values."
+  unfoldable pub encode : List ℕ
+  encode = A .nodes ∷ length keys ∷ (keys ++ values)

@@ -1,0 +1,5 @@
+pub mod Encoding
+pub mod Minimal
+pub mod Form
+pub mod Demands
+pub mod Examples

@@ -1,0 +1,8 @@
+// The minimal form of a schedule (document 01: short form).
+use net::Refusal;
+
+// What the minimal form's call answers: the length in words of what it wrote, or a refusal.
+pub enum FormAnswer {
+    Written(usize),
+    Refused(Refusal),
+}

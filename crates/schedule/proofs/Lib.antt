@@ -1,0 +1,16 @@
+pub mod Readable
+pub mod Rows
+pub mod NetRows
+pub mod Choices
+pub mod Nodes
+pub mod Arcs
+pub mod Marks
+pub mod Judged
+pub mod Walks
+pub mod RunEnds
+pub mod Scratch
+pub mod BoundRows
+pub mod Walkers
+pub mod Folded
+pub mod Replies
+pub mod CallDemands

@@ -1,0 +1,191 @@
+-- Walks along the arcs: the entry of an arc, the faults of a walker, a single firing, and a list of firings from node 0.
+use Prim.Native.Nat.{ℕ, _+_, _*_, _≤_, _<_}
+use native.Mathlib.Omega.{arith}
+use native.Mathlib.Numerals.{add-one}
+use native.Mathlib.Decide.{decLt}
+use mathlib.Core.Path.{_≡_, refl, sym, ap, _∙_}
+use mathlib.Core.List.{List}
+use mathlib.Core.Bool.{Bool, true, false, cond, not, _&&_, and-false}
+use mathlib.Core.Option.{Option, none, some}
+use lib.ListN.{getD}
+use lib.Dec.{ltb}
+use borrow.Author.Tests.{lt-ltb, le-ltb, le-leb, lt-leb, leb-false, eq-eqb, ne-eqb, eqb-true, not-false}
+use Rattle.scan.specs.Scan.{found, first, tabulate}
+use Rattle.scan.proofs.Tests.{byTest}
+use Rattle.scan.proofs.First.{none-some, orElse-left, orElse-right, orElse-next, orElse-hit, when-hit, when-miss, when-none, first-hit, first-all}
+use Rattle.scan.proofs.Tabulate.{tabulate-at, tabulate-ext}
+use Rattle.table.specs.Bisection.{lookUp, foundOf}
+use Rattle.table.specs.declared.Found.the-variants.{At, Nothing as NotFound}
+use Rattle.table.proofs.Table.{entry-some}
+use Rattle.table.proofs.Bisection.{look-up}
+use Rattle.net.specs.Net.{placeCount}
+use Rattle.net.specs.Refusal.{refusal}
+use Rattle.net.specs.declared.Position.the-variants.{Nothing, Place, Record}
+use Rattle.net.specs.declared.Refusal.{Refusal}
+use Rattle.net.specs.declared.Verdict.{Verdict}
+use Rattle.net.specs.declared.Verdict.the-variants.{Accepted, Refused}
+use Rattle.net.proofs.Laws.{put-no-place, sizes}
+use Rattle.sequential.specs.Petri.{PetriNet, petriNet, fire, firedCount}
+use Rattle.sequential.specs.Words.{nodeCount, entryCount, entryValue, isNode, entryWithKey, arcKey, arcEntry, arc, count, graph}
+use Rattle.sequential.specs.Check.{scheduleReply}
+use Rattle.sequential.specs.Clauses.{WordsPass}
+use Rattle.schedule.specs.Readable.{Readable}
+use Rattle.schedule.specs.Calls.{walker, countFault, walkerFault, stepFault, follows, nextWalker, nodeAfter, firingFault}
+use Rattle.schedule.specs.declared.Walker.{Walker}
+use Rattle.sequential.proofs.Words.{words-in, words-rise, words-fit}
+use Rattle.sequential.proofs.Entries.{graph-closed, marking-at}
+use Rattle.sequential.proofs.Demands.{accepted-exactly}
+
+pub refused-accepted {ℓ} : {C : Type ℓ} (v : Verdict) (r : Refusal) → v ≡ Refused r → v ≡ Accepted → C
+refused-accepted v r p q = let z : _≡_ {A = ℕ} 0 1 = cc in absurd (omega arith)
+
+-- what is accepted is readable
+pub readable : (net sheet : List ℕ) → scheduleReply net sheet ≡ Accepted → Readable net sheet
+readable net sheet h =
+    let a = accepted-exactly net sheet .0 h in
+    record { accepted = a .net-accepted; passes = words-in (petriNet net) sheet (a .words) }
+
+-- ---- the entry of an arc
+
+pub found-at : (o : Option ℕ) (i : ℕ) → foundOf o ≡ At i → o ≡ some i
+found-at none i h = cc
+found-at (some j) i h = cc
+
+pub found-nothing : (o : Option ℕ) → foundOf o ≡ NotFound → o ≡ none
+found-nothing none h = refl
+found-nothing (some j) h = cc
+
+module _ (N : PetriNet) (sheet : List ℕ) (n t : ℕ) where
+  pub entry-outside : N .transitions ≤ t → NotFound ≡ foundOf (arcEntry N sheet n t)
+  unfolding arcEntry
+  entry-outside l = byTest (isNode sheet n) (λ e. rw (e, le-ltb t (N .transitions) l)) (λ e. rw e)
+
+  pub entry-looked-up : WordsPass N sheet → n < nodeCount sheet → t < N .transitions
+      → lookUp sheet 2 (entryCount sheet) (n * N .transitions + t) ≡ foundOf (arcEntry N sheet n t)
+  unfolding arcEntry isNode entryWithKey arcKey
+  entry-looked-up w l m =
+      rw (lt-ltb n (nodeCount sheet) l, lt-ltb t (N .transitions) m)
+      (look-up sheet 2 (entryCount sheet) (n * N .transitions + t) (words-rise N sheet w) (words-fit N sheet w))
+
+  pub entry-low : (i : ℕ) → arcEntry N sheet n t ≡ some i → i < entryCount sheet
+  unfolding arcEntry
+  entry-low i e = go (isNode sheet n && ltb t (N .transitions)) e
+    where
+      go : (a : Bool) → cond a (entryWithKey sheet (arcKey N sheet n t)) none ≡ some i → i < entryCount sheet
+      go true h = entry-some sheet 2 (entryCount sheet) (arcKey N sheet n t) i (unfold entryWithKey in h) .0
+      go false h = none-some none i refl h
+
+  pub entry-leads : (i : ℕ) → arcEntry N sheet n t ≡ some i → arc N sheet n t ≡ some (entryValue sheet i)
+  unfolding arc
+  entry-leads i e = rw e
+
+  pub entry-stays : arcEntry N sheet n t ≡ none → arc N sheet n t ≡ none
+  unfolding arc
+  entry-stays e = rw e
+
+  pub target-node : 0 < N .transitions → WordsPass N sheet → n < nodeCount sheet → (i : ℕ) → arcEntry N sheet n t ≡ some i → entryValue sheet i < nodeCount sheet
+  unfolding graph
+  target-node T w l i e = graph-closed N sheet T w .lands n t (entryValue sheet i) l (entry-leads i e)
+
+-- ---- 18 and 19
+
+module _ (N : PetriNet) (sheet : List ℕ) (w : Walker) where
+  pub no-such-node : nodeCount sheet ≤ w .node → walkerFault N sheet w ≡ some (refusal 18 Nothing)
+  unfolding walkerFault
+  no-such-node l = orElse-hit _ _ _ (when-hit _ _ (le-leb _ _ l))
+
+  pub count-right : (p : ℕ) → getD (w .counts) p 0 ≡ count N sheet (w .node) p → countFault N sheet w p ≡ none
+  unfolding countFault
+  count-right p e = when-miss _ _ (ap not (eq-eqb _ _ e))
+
+  pub count-astray : (p : ℕ) → (getD (w .counts) p 0 ≡ count N sheet (w .node) p → ⊥) → countFault N sheet w p ≡ some (refusal 19 (Place p))
+  unfolding countFault
+  count-astray p e = when-hit _ _ (ap not (ne-eqb _ _ e))
+
+  -- the scan of the counts is left at p, or runs out
+  pub astray-at : w .node < nodeCount sheet → (p : ℕ) → first (countFault N sheet w) p ≡ none → p < 32 → (getD (w .counts) p 0 ≡ count N sheet (w .node) p → ⊥)
+      → walkerFault N sheet w ≡ some (refusal 19 (Place p))
+  unfolding walkerFault
+  astray-at l p h m e = orElse-next _ _ (when-miss _ _ (lt-leb _ _ l)) ∙ first-hit _ p _ h (count-astray p e) 32 m
+
+  pub walker-right : w .node < nodeCount sheet → first (countFault N sheet w) 32 ≡ none → walkerFault N sheet w ≡ none
+  unfolding walkerFault
+  walker-right l h = orElse-next _ _ (when-miss _ _ (lt-leb _ _ l)) ∙ h
+
+  -- where neither refuses, the walker stands at a node and has its counts
+  module _ (h : walkerFault N sheet w ≡ none) where
+    pub walker-node : w .node < nodeCount sheet
+    unfolding walkerFault
+    walker-node = leb-false _ _ (when-none _ _ (orElse-left _ _ h))
+
+    pub walker-counts : (p : ℕ) → p < 32 → getD (w .counts) p 0 ≡ count N sheet (w .node) p
+    unfolding walkerFault countFault
+    walker-counts p l = eqb-true _ _ (not-false _ (when-none _ _ (first-all _ _ (orElse-right _ _ h) p l)))
+
+-- ---- a single firing
+
+pub next-refused : (v : Verdict) (r : Refusal) (net sheet : List ℕ) (w : Walker) (t : ℕ) → v ≡ Refused r → w ≡ nextWalker v net sheet w t
+next-refused v r net sheet w t h = rw h
+
+module _ (N : PetriNet) (sheet : List ℕ) (w : Walker) (t : ℕ) (h : walkerFault N sheet w ≡ none) where
+  pub step-refused : arcEntry N sheet (w .node) t ≡ none → stepFault N sheet w t ≡ some (refusal 20 Nothing)
+  unfolding stepFault found
+  step-refused e = orElse-next _ _ h ∙ when-hit _ _ (rw (entry-stays N sheet (w .node) t e))
+
+  pub step-passes : (i : ℕ) → arcEntry N sheet (w .node) t ≡ some i → stepFault N sheet w t ≡ none
+  unfolding stepFault found
+  step-passes i e = orElse-next _ _ h ∙ when-miss _ _ (rw (entry-leads N sheet (w .node) t i e))
+
+count-outside : (N : PetriNet) (sheet : List ℕ) (n p : ℕ) → N .places ≤ p → count N sheet n p ≡ 0
+unfolding count
+count-outside N sheet n p l = rw (le-ltb p (N .places) l, and-false (isNode sheet n))
+
+module _ (net sheet : List ℕ) (w : Walker) (t : ℕ) (a : scheduleReply net sheet ≡ Accepted) (h : walkerFault (petriNet net) sheet w ≡ none) where
+  -- the target's counts are what firing gives
+  counts-fired : (m : ℕ) → m < nodeCount sheet → arc (petriNet net) sheet (w .node) t ≡ some m → (p : ℕ) → p < 32
+      → count (petriNet net) sheet m p ≡ firedCount (petriNet net) (w .counts) t p
+  unfolding firedCount graph fire
+  counts-fired m k e p l =
+      let N = petriNet net in
+      let n = walker-node N sheet w h in
+      let c = walker-counts N sheet w h p l in
+      elim (decLt p (placeCount net)) [
+        | yes q ↦
+            let s = accepted-exactly net sheet .0 a .schedule .lands (w .node) t m n e in
+            sym (marking-at N sheet m p k q) ∙ ap (λ (x : List ℕ). getD x p 0) s ∙ tabulate-at _ 0 (placeCount net) p q
+            ∙ rw (marking-at N sheet (w .node) p n q, c)
+        | no q ↦
+            let z = count-outside N sheet m p (omega arith) in
+            let y = count-outside N sheet (w .node) p (omega arith) in
+            let x = put-no-place net t p (omega arith) in
+            rw (z, x, c, y) (omega arith)
+      ]
+
+  pub step-lands : (i : ℕ) → arcEntry (petriNet net) sheet (w .node) t ≡ some i
+      → walker (entryValue sheet i) (tabulate (count (petriNet net) sheet (entryValue sheet i)) 32) ≡ follows (petriNet net) sheet w t
+  unfolding follows
+  step-lands i e =
+      let N = petriNet net in
+      let b = accepted-exactly net sheet .0 a in
+      let k = target-node N sheet (w .node) t (sizes net (b .net-accepted) .some-transition) (b .words) (walker-node N sheet w h) i e in
+      rw (entry-leads N sheet (w .node) t i e) (ap (walker (entryValue sheet i)) (tabulate-ext _ _ 32 (counts-fired (entryValue sheet i) k (entry-leads N sheet (w .node) t i e))))
+
+-- ---- a list of firings
+
+module _ (N : PetriNet) (sheet firings : List ℕ) where
+  pub after-none : 0 ≡ nodeAfter N sheet firings 0
+  unfolding nodeAfter
+  after-none = refl
+
+  module _ (i n : ℕ) (e : n ≡ nodeAfter N sheet firings i) where
+    pub after-more : (k : ℕ) → arcEntry N sheet n (getD firings i 0) ≡ some k → entryValue sheet k ≡ nodeAfter N sheet firings (i + 1)
+    unfolding nodeAfter
+    after-more k h = rw (add-one, ← e, entry-leads N sheet n (getD firings i 0) k h)
+
+    pub firing-passes : (k : ℕ) → arcEntry N sheet n (getD firings i 0) ≡ some k → firingFault N sheet firings i ≡ none
+    unfolding firingFault found
+    firing-passes k h = when-miss _ _ (rw (← e, entry-leads N sheet n (getD firings i 0) k h))
+
+    pub firing-fails : arcEntry N sheet n (getD firings i 0) ≡ none → firingFault N sheet firings i ≡ some (refusal 20 (Record i))
+    unfolding firingFault found
+    firing-fails h = when-hit _ _ (rw (← e, entry-stays N sheet n (getD firings i 0) h))

@@ -1,0 +1,147 @@
+-- The tests of the net and of the nodes, and the clauses that they decide.
+use Prim.Native.Nat.{ℕ, zero, suc, _<_}
+use native.Mathlib.Omega.{arith}
+use mathlib.Core.Path.{_≡_, refl, sym, _∙_}
+use mathlib.Core.Logic.{_↔_}
+use mathlib.Core.List.{List}
+use mathlib.Core.Bool.{Bool, true, false, Bool·beq}
+use lib.ListN.{getD}
+use borrow.Author.Tests.{leb-true, leb-false, le-leb, eqb-true, eq-eqb}
+use Rattle.scan.specs.Scan.{found, all}
+use Rattle.scan.proofs.Tests.{byTest, true-false, iff→eq}
+use Rattle.scan.proofs.First.{found-some}
+use Rattle.scan.proofs.Every.{all-in, all-out, any-in, any-out}
+use Rattle.scan.proofs.Least.{least-hit, least-of}
+use Rattle.automaton.specs.Automaton.{Automaton}
+use Rattle.sequential.specs.Petri.{PetriNet, holdsEnough, enabled, takesNothing, isSource, takesAlike, sameChoice}
+use Rattle.sequential.specs.Schedule.{offers, offersAsSource, isAwait, offersSome, firstOffered, offersAsChoice, offersOneChoiceSet, Enabled, Source, SameChoice, Offers, Await, OneChoiceSet}
+use Rattle.sequential.specs.Demands.{Partition}
+
+-- ---- two tests that agree
+
+beq-out : (a b : Bool) → Bool·beq a b ≡ true → a ≡ b
+beq-out true true e = refl
+beq-out true false e = sym e
+beq-out false true e = e
+beq-out false false e = refl
+
+beq-in : (a b : Bool) → a ≡ b → Bool·beq a b ≡ true
+beq-in true b e = rw (← e)
+beq-in false b e = rw (← e)
+
+-- tests that agree decide the same
+agree-out : {A B : Type 0} (a b : Bool) → Bool·beq a b ≡ true → (a ≡ true) ↔ A → (b ≡ true) ↔ B → A ↔ B
+agree-out a b e f g = let q = beq-out a b e in (λ x. g .0 (sym q ∙ f .1 x), λ y. f .0 (q ∙ g .1 y))
+
+agree-in : {A B : Type 0} (a b : Bool) → A ↔ B → (a ≡ true) ↔ A → (b ≡ true) ↔ B → Bool·beq a b ≡ true
+agree-in a b e f g = beq-in a b (iff→eq a b (λ x. g .1 (e .0 (f .0 x))) (λ y. f .1 (e .1 (g .0 y))))
+
+-- an index that does not pass
+pub all-missing : (f : ℕ → Bool) (n : ℕ) → all f n ≡ false → (i : ℕ) × (i < n) × (f i ≡ false)
+unfolding all
+all-missing f zero e = true-false true refl e
+all-missing f (suc n) e = byTest (all f n) (λ p. (n, omega arith, rw p at e)) (λ p. let (i, l, q) = all-missing f n p in (i, omega arith, q))
+
+-- ---- the net
+
+module _ (N : PetriNet) where
+  pub enabled↔ : (m : List ℕ) (t : ℕ) → (enabled N m t ≡ true) ↔ Enabled N m t
+  unfolding enabled holdsEnough
+  enabled↔ m t = (
+    λ e p l. leb-true _ _ (all-out (holdsEnough N m t) (N .places) e p l),
+    λ h. all-in (holdsEnough N m t) (N .places) (λ p l. le-leb _ _ (h p l)),
+  )
+
+  pub enabled-fails : (m : List ℕ) (t : ℕ) → enabled N m t ≡ false → (p : ℕ) × (p < N .places) × (getD m p 0 < N .taken t p)
+  unfolding enabled holdsEnough
+  enabled-fails m t e = let (p, l, q) = all-missing (holdsEnough N m t) (N .places) e in (p, l, leb-false _ _ q)
+
+  pub source↔ : (t : ℕ) → (isSource N t ≡ true) ↔ Source N t
+  unfolding isSource takesNothing
+  source↔ t = (
+    λ e p l. eqb-true _ _ (all-out (takesNothing N t) (N .places) e p l),
+    λ h. all-in (takesNothing N t) (N .places) (λ p l. eq-eqb _ _ (h p l)),
+  )
+
+  pub choice↔ : (t u : ℕ) → (sameChoice N t u ≡ true) ↔ SameChoice N t u
+  unfolding sameChoice takesAlike
+  choice↔ t u = (
+    λ e p l. eqb-true _ _ (all-out (takesAlike N t u) (N .places) e p l),
+    λ h. all-in (takesAlike N t u) (N .places) (λ p l. eq-eqb _ _ (h p l)),
+  )
+
+  -- ---- choice sets
+
+  pub choice-refl : (t : ℕ) → SameChoice N t t
+  choice-refl t p l = refl
+
+  pub choice-sym : (t u : ℕ) → SameChoice N t u → SameChoice N u t
+  choice-sym t u h p l = sym (h p l)
+
+  pub choice-trans : (t u v : ℕ) → SameChoice N t u → SameChoice N u v → SameChoice N t v
+  choice-trans t u v h k p l = h p l ∙ k p l
+
+  pub choice-source : (t u : ℕ) → Source N t → SameChoice N t u ↔ Source N u
+  choice-source t u s = (λ h p l. sym (h p l) ∙ s p l, λ h p l. s p l ∙ sym (h p l))
+
+  pub partition : (t : ℕ) × (t < N .transitions) × Source N t → Partition N
+  partition (t, l, s) = record {
+    means = choice↔;
+    reflexive = λ t. choice↔ t t .1 (choice-refl t);
+    symmetric = λ t u h. choice↔ u t .1 (choice-sym t u (choice↔ t u .0 h));
+    transitive = λ t u v h k. choice↔ t v .1 (choice-trans t u v (choice↔ t u .0 h) (choice↔ u v .0 k));
+    source = (t, l, source↔ t .1 s);
+    sources = λ t u h.
+        let (f, g) = choice-source t u (source↔ t .0 h) in
+        (λ k. source↔ u .1 (f (choice↔ t u .0 k)), λ k. choice↔ t u .1 (g (source↔ u .0 k)));
+  }
+
+-- ---- the nodes
+
+module _ (N : PetriNet) (A : Automaton) where
+  pub offers↔ : (n t : ℕ) → (offers N A n t ≡ true) ↔ Offers N A n t
+  unfolding offers found
+  offers↔ n t = (λ e. found-some (A .arc n t) e, λ (m, e). rw e)
+
+  pub await↔ : (n : ℕ) → (isAwait N A n ≡ true) ↔ Await N A n
+  unfolding isAwait offersAsSource
+  await↔ n = (
+    λ e t l. agree-out _ _ (all-out (offersAsSource N A n) (N .transitions) e t l) (offers↔ n t) (source↔ N t),
+    λ h. all-in (offersAsSource N A n) (N .transitions) (λ t l. agree-in _ _ (h t l) (offers↔ n t) (source↔ N t)),
+  )
+
+  pub some-out : (n : ℕ) → offersSome N A n ≡ true → (t : ℕ) × (t < N .transitions) × Offers N A n t
+  unfolding offersSome
+  some-out n e = let (t, l, q) = any-out (offers N A n) (N .transitions) e in (t, l, offers↔ n t .0 q)
+
+  pub some-in : (n t : ℕ) → t < N .transitions → Offers N A n t → offersSome N A n ≡ true
+  unfolding offersSome
+  some-in n t l h = any-in (offers N A n) (N .transitions) t l (offers↔ n t .1 h)
+
+  -- the first transition offered, where there is one
+  first-offered : (n t : ℕ) → t < N .transitions → Offers N A n t → (firstOffered N A n < N .transitions) × Offers N A n (firstOffered N A n)
+  unfolding firstOffered
+  first-offered n t l h =
+      let k = least-of (offers N A n) (N .transitions) t (offers↔ n t .1 h) in
+      let q : firstOffered N A n < N .transitions = omega arith in
+      (q, offers↔ n (firstOffered N A n) .0 (least-hit (offers N A n) (N .transitions) q))
+
+  -- a node that offers some transition
+  pub one-out : (n : ℕ) → offersSome N A n ≡ true → offersOneChoiceSet N A n ≡ true → OneChoiceSet N A n
+  unfolding offersOneChoiceSet offersAsChoice
+  one-out n s e =
+      let (t, l, h) = some-out n s in
+      let (k, o) = first-offered n t l h in
+      (firstOffered N A n, k, λ u m. agree-out _ _ (all-out (offersAsChoice N A n) (N .transitions) e u m) (offers↔ n u) (choice↔ N (firstOffered N A n) u))
+
+  pub one-some : (n : ℕ) → OneChoiceSet N A n → offersSome N A n ≡ true
+  one-some n (t, l, h) = some-in n t l (h t l .1 (choice-refl N t))
+
+  pub one-in : (n : ℕ) → OneChoiceSet N A n → offersOneChoiceSet N A n ≡ true
+  unfolding offersOneChoiceSet offersAsChoice
+  one-in n (t, l, h) =
+      let (k, o) = first-offered n t l (h t l .1 (choice-refl N t)) in
+      let c : SameChoice N t (firstOffered N A n) = h (firstOffered N A n) k .0 o in
+      all-in (offersAsChoice N A n) (N .transitions) (λ u m. agree-in _ _
+      (λ x. choice-trans N _ t u (choice-sym N t _ c) (h u m .0 x), λ y. h u m .1 (choice-trans N t _ u c y))
+      (offers↔ n u) (choice↔ N (firstOffered N A n) u))

@@ -1,0 +1,122 @@
+-- The entries of arcs and the arcs of the graph are the same thing, and counts are in range.
+use Prim.Native.Nat.{ℕ, _+_, _*_, _/_, _%_, _≤_, _<_}
+use native.Mathlib.Omega.{arith}
+use native.Mathlib.Nat.{div-lt-iff-lt-mul, mul-add-div-right, mul-add-mod-self-right, div-eq-of-lt, mod-eq-of-lt, mod-lt, add-zero, mul-le-mul-right, div-add-mod'}
+use mathlib.Core.Path.{_≡_, refl, sym, ap, _∙_}
+use mathlib.Core.List.{List, []}
+use mathlib.Core.Bool.{Bool, true, false, cond, _&&_}
+use mathlib.Core.Option.{Option, none, some, Option·map}
+use lib.ListN.{length, getD}
+use lib.Dec.{ltb}
+use borrow.Author.Tests.{lt-ltb, le-ltb, ltb-true, ltb-false}
+use Rattle.scan.specs.Scan.{tabulate}
+use Rattle.scan.proofs.Tests.{byTest, and-left, and-right}
+use Rattle.scan.proofs.First.{none-some}
+use Rattle.scan.proofs.Tabulate.{tabulate-at, tabulate-length}
+use Rattle.table.specs.Table.{keyAt, entryOf}
+use Rattle.table.proofs.Table.{entry-at, entry-some}
+use Rattle.automaton.specs.Automaton.{Automaton, Closed}
+use Rattle.sequential.specs.Petri.{PetriNet}
+use Rattle.sequential.specs.Words.{nodeCount, entryCount, entryKey, entryValue, isNode, entryWithKey, valueOf, arcKeys, arcKey, countKey, arcEntry, arc, count, marking, graph}
+use Rattle.sequential.specs.Check.{isArc, arcNode, arcTransition}
+use Rattle.sequential.specs.Clauses.{WordsPass}
+use Rattle.sequential.proofs.Words.{words-rise}
+
+-- ---- rows
+
+pub row-lt : (n d x m : ℕ) → x < d → n < m → n * d + x < m * d
+row-lt n d x m l h = omega (arith, mul-le-mul-right d h, l)
+
+pub row-div : (n d x : ℕ) → x < d → (n * d + x) / d ≡ n
+row-div n d x l = mul-add-div-right (omega arith) n x ∙ rw (div-eq-of-lt l) (add-zero n)
+
+pub row-mod : (n d x : ℕ) → x < d → (n * d + x) % d ≡ x
+row-mod n d x l = mul-add-mod-self-right n d x ∙ mod-eq-of-lt l
+
+-- what an entry says: from node n, t leads to m
+pub record ArcEntry (N : PetriNet) (sheet : List ℕ) (i n t m : ℕ) : Type 0 where
+  pub entry : i < entryCount sheet
+  pub arc : isArc N sheet i ≡ true
+  pub node : arcNode N sheet i ≡ n
+  pub transition : arcTransition N sheet i ≡ t
+  pub target : entryValue sheet i ≡ m
+
+module _ (N : PetriNet) (sheet : List ℕ) (T : 0 < N .transitions) (w : WordsPass N sheet) where
+  -- an arc of the graph stands at an entry
+  pub arc-entry : (n t m : ℕ) → arc N sheet n t ≡ some m → (i : ℕ) × ArcEntry N sheet i n t m
+  unfolding arc arcEntry isNode
+  arc-entry n t m e = go (ltb n (nodeCount sheet)) refl (ltb t (N .transitions)) refl (entryWithKey sheet (arcKey N sheet n t)) refl e
+    where
+      go : (a : Bool) → ltb n (nodeCount sheet) ≡ a → (b : Bool) → ltb t (N .transitions) ≡ b → (o : Option ℕ) → entryWithKey sheet (arcKey N sheet n t) ≡ o
+          → Option·map (entryValue sheet) (cond (a && b) o none) ≡ some m → (i : ℕ) × ArcEntry N sheet i n t m
+      go true p true q none h e = none-some none m refl e
+      go true p true q (some i) h e =
+          let (l, k) = entry-some sheet 2 (entryCount sheet) (n * N .transitions + t) i (unfold entryWithKey arcKey in h) in
+          let lt : t < N .transitions = ltb-true t (N .transitions) q in
+          let ln : n < nodeCount sheet = ltb-true n (nodeCount sheet) p in (
+            i,
+            record {
+              entry = l;
+              arc = unfold isArc arcKeys entryKey in (lt-ltb (keyAt sheet 2 i) (nodeCount sheet * N .transitions) (rw k (row-lt n (N .transitions) t (nodeCount sheet) lt ln)));
+              node = unfold arcNode entryKey in (rw k (row-div n (N .transitions) t lt));
+              transition = unfold arcTransition entryKey in (rw k (row-mod n (N .transitions) t lt));
+              target = cc;
+            },
+          )
+      go true p false q o h e = none-some none m refl e
+      go false p b q o h e = none-some none m refl e
+
+  -- an entry of an arc is an arc of the graph
+  pub entry-arc : (i : ℕ) → i < entryCount sheet → isArc N sheet i ≡ true → arc N sheet (arcNode N sheet i) (arcTransition N sheet i) ≡ some (entryValue sheet i)
+  unfolding arc arcEntry isNode isArc arcNode arcTransition entryWithKey arcKey arcKeys entryKey
+  entry-arc i l h =
+      let k : keyAt sheet 2 i < nodeCount sheet * N .transitions = ltb-true _ _ h in
+      let ln : keyAt sheet 2 i / N .transitions < nodeCount sheet = div-lt-iff-lt-mul T .1 k in
+      let lt : keyAt sheet 2 i % N .transitions < N .transitions = mod-lt (keyAt sheet 2 i) T in
+      rw (lt-ltb _ _ ln, lt-ltb _ _ lt, entry-at sheet 2 (entryCount sheet) (words-rise N sheet w) i _ l (sym (div-add-mod' (keyAt sheet 2 i) (N .transitions))))
+
+  -- an entry of an arc: its node and its target are nodes, its transition a transition
+  pub entry-node : (i : ℕ) → i < entryCount sheet → isArc N sheet i ≡ true → arcNode N sheet i < nodeCount sheet
+  unfolding isArc arcNode arcKeys
+  entry-node i l h = div-lt-iff-lt-mul T .1 (ltb-true _ _ h)
+
+  pub entry-target : (i : ℕ) → i < entryCount sheet → isArc N sheet i ≡ true → entryValue sheet i < nodeCount sheet
+  unfolding isArc
+  entry-target i l h = w .values i l .target (ltb-true _ _ h)
+
+  -- ---- the graph is closed
+
+  arc-outside : (n t : ℕ) → N .transitions ≤ t → arc N sheet n t ≡ none
+  unfolding arc arcEntry
+  arc-outside n t l = byTest (isNode sheet n) (λ e. rw (e, le-ltb t (N .transitions) l)) (λ e. rw e)
+
+  pub graph-closed : Closed (graph N sheet)
+  unfolding graph
+  graph-closed = record {
+    root = w .shape .some-node;
+    lands = λ n t m l e. let (i, a) = arc-entry n t m e in rw (← a .target) (entry-target i (a .entry) (a .arc));
+    bounded = arc-outside;
+  }
+
+  -- ---- counts
+
+  pub count-most : (n p : ℕ) → count N sheet n p ≤ 1000000000
+  unfolding count isNode
+  count-most n p = go (ltb n (nodeCount sheet)) (ltb p (N .places)) (entryWithKey sheet (countKey N sheet n p)) refl
+    where
+      go : (a b : Bool) (o : Option ℕ) → entryWithKey sheet (countKey N sheet n p) ≡ o → cond (a && b) (valueOf sheet o) 0 ≤ 1000000000
+      go true true none h = omega arith
+      go true true (some i) h =
+          let (l, k) = entry-some sheet 2 (entryCount sheet) (countKey N sheet n p) i (unfold entryWithKey in h) in
+          w .values i l .most (unfold entryKey in (rw k (unfold countKey in (omega arith))))
+      go true false o h = omega arith
+      go false b o h = omega arith
+
+-- ---- markings
+
+pub marking-node : (N : PetriNet) (sheet : List ℕ) (n : ℕ) → n < nodeCount sheet → marking N sheet n ≡ tabulate (count N sheet n) (N .places)
+unfolding marking isNode
+marking-node N sheet n l = rw (lt-ltb n (nodeCount sheet) l)
+
+pub marking-at : (N : PetriNet) (sheet : List ℕ) (n p : ℕ) → n < nodeCount sheet → p < N .places → getD (marking N sheet n) p 0 ≡ count N sheet n p
+marking-at N sheet n p l m = ap (λ (x : List ℕ). getD x p 0) (marking-node N sheet n l) ∙ tabulate-at (count N sheet n) 0 (N .places) p m

@@ -1,0 +1,14 @@
+pub mod Verdict
+pub mod Words
+pub mod Entries
+pub mod Clauses
+pub mod Faults
+pub mod Accepted
+pub mod RefusedWords
+pub mod Refused
+pub mod Runs
+pub mod Paths
+pub mod Numbers
+pub mod Bounds
+pub mod Demands
+pub mod Examples

@@ -1,0 +1,110 @@
+-- Lists that a schedule allows: they fire from the initial marking, go on by one choice set, and lead on to an await node.
+use Prim.Native.Nat.{ℕ, _<_}
+use native.Mathlib.Omega.{arith}
+use mathlib.Core.Path.{_≡_, sym, ap, _∙_}
+use mathlib.Core.Logic.{_↔_}
+use mathlib.Core.List.{List, [], _∷_, _++_}
+use mathlib.Core.Bool.{true}
+use mathlib.Core.Option.{some}
+use lib.ListN.{getD}
+use Rattle.scan.proofs.Tabulate.{tabulate-at}
+use Rattle.automaton.specs.Automaton.{Automaton, Closed, follow, allows}
+use Rattle.automaton.specs.Reach.{Reachable}
+use Rattle.automaton.proofs.Automaton.{arc-transition, follow-first, follow-on, follow-snoc, follow-lands, allows-follow, follow-allows}
+use Rattle.sequential.specs.Petri.{PetriNet, initial, firedCount, fire}
+use Rattle.sequential.specs.Schedule.{Enabled, SameChoice, Offers, Await, IsSchedule}
+use Rattle.sequential.specs.Demands.{fireAll, FiresEnabled, fires-none, fires-first, Runs, GoesOn, ReachableMarking, FiresTo, SequentialSchedule}
+use Rattle.sequential.proofs.Clauses.{choice-refl, choice-sym, choice-trans}
+
+-- firing puts and takes, at each place
+pub fires-to : (N : PetriNet) (m : List ℕ) (t : ℕ) (m′ : List ℕ) → Enabled N m t → m′ ≡ fire N m t → FiresTo N m t m′
+unfolding fire firedCount
+fires-to N m t m′ e q = record {
+  enabled = e;
+  balance = λ p l. let x = ap (λ (y : List ℕ). getD y p 0) q ∙ tabulate-at (firedCount N m t) 0 (N .places) p l in omega (arith, e p l);
+  result = q;
+}
+
+module _ (N : PetriNet) (A : Automaton) (c : Closed A) (same : A .transitions ≡ N .transitions) (s : IsSchedule N A) where
+  -- only a transition of the net has an arc
+  arc-below : (n t m : ℕ) → A .arc n t ≡ some m → t < N .transitions
+  arc-below n t m e = rw same at (arc-transition A c n t m e)
+
+  -- ---- firing along a list
+
+  along : (σ : List ℕ) (n m : ℕ) → n < A .nodes → follow A n σ ≡ some m → FiresEnabled N (A .label n) σ × (fireAll N (A .label n) σ ≡ A .label m)
+  unfolding fireAll
+  along [] n m l e = let q : n ≡ m = unfold follow in (cc) in (fires-none _, ap (A .label) q)
+  along (t ∷ σ) n m l e =
+      let (x, a, f) = follow-first A n t m σ e in
+      let (g, h) = along σ x m (c .lands n t x l a) f in
+      let q = s .lands n t x l a in
+      (fires-first _ t σ (arc-below n t x a) (s .enables n t x l a) (rw q at g), rw (← q) h)
+
+  pub from-root : (σ : List ℕ) (m : ℕ) → follow A 0 σ ≡ some m → FiresEnabled N (initial N) σ × (fireAll N (initial N) σ ≡ A .label m)
+  from-root σ m e = rw (s .starts) at (along σ 0 m (c .root) e)
+
+  pub runs : (σ : List ℕ) → allows A 0 σ ≡ true → Runs N A σ
+  runs σ a =
+      let (m, e) = allows-follow A 0 σ a in
+      let (f, h) = from-root σ m e in
+      record { end = m; leads = e; enabled = f; holds = h }
+
+  -- ---- going on
+
+  pub goes-on : (σ : List ℕ) → allows A 0 σ ≡ true → GoesOn N A σ
+  goes-on σ a =
+      let (m, e) = allows-follow A 0 σ a in
+      let (t, l, h) = s .choices m (follow-lands A c σ 0 m (c .root) e) in
+      let by : (u : ℕ) → u < N .transitions → SameChoice N t u → allows A 0 (σ ++ (u ∷ [])) ≡ true
+      = λ u k q. let (x, b) = h u k .1 q in follow-allows A 0 x (σ ++ (u ∷ [])) (follow-snoc A σ 0 m u e ∙ b) in
+      record {
+        end = m;
+        leads = e;
+        member = t;
+        offered = h t l .1 (choice-refl N t);
+        extended = λ u. (
+          λ b. let (x, f) = allows-follow A 0 (σ ++ (u ∷ [])) b in
+              let q = sym (follow-snoc A σ 0 m u e) ∙ f in
+              let k = arc-below m u x q in
+              (k, h u k .0 (x, q)),
+          λ (k, q). by u k q,
+        );
+        goes = by t l (choice-refl N t);
+      }
+
+  -- ---- on to an await node
+
+  pub way : (σ : List ℕ) → allows A 0 σ ≡ true → (τ : List ℕ) × (m : ℕ) × (follow A 0 (σ ++ τ) ≡ some m) × Await N A m
+  way σ a =
+      let (n, e) = allows-follow A 0 σ a in
+      let (τ, m, f, w) = s .returns n (follow-lands A c σ 0 n (c .root) e) in
+      (τ, m, follow-on A σ τ 0 n e ∙ f, w)
+
+  -- ---- the published definition
+
+  marking-reached : (n : ℕ) → n < A .nodes → ReachableMarking N (A .label n)
+  unfolding Reachable
+  marking-reached n l =
+      let (σ, e) = s .reached n l in
+      let (f, h) = from-root σ n e in
+      (σ, f, h)
+
+  -- whichever member of the choice set is offered, the others are those that take as it does
+  one-choice : (n t u : ℕ) → n < A .nodes → u < N .transitions → Offers N A n t → Offers N A n u ↔ SameChoice N t u
+  one-choice n t u l k (m, e) =
+      let (v, j, h) = s .choices n l in
+      let q : SameChoice N v t = h t (arc-below n t m e) .0 (m, e) in
+      (λ o. choice-trans N t v u (choice-sym N v t q) (h u k .0 o), λ x. h u k .1 (choice-trans N v t u q x))
+
+  pub sequential : SequentialSchedule N A
+  sequential = record {
+    root = c .root;
+    steps = λ n t m l e. (arc-below n t m e, c .lands n t m l e);
+    maps = marking-reached;
+    maps-root = s .starts;
+    fires = λ n t m l e. fires-to N _ t _ (s .enables n t m l e) (s .lands n t m l e);
+    chooses = one-choice;
+    sources = s .root-awaits;
+    serves = λ n t l k h. let (σ, m, e, w) = s .returns n l in (σ, m, e, w t k .1 h);
+  }

@@ -1,0 +1,1 @@
+// What a sequential schedule over words is, and what follows of one. Theory only.

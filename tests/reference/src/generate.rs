@@ -1,0 +1,192 @@
+//! Seeded calls of every kind: accepted nets and sheets, damaged ones, words at the limits and
+//! garbage, with walkers, records and buffers that fit or do not.
+
+pub mod damage;
+pub mod rng;
+pub mod schedules;
+pub mod variants;
+
+use crate::call::{Call, Kind};
+use crate::model::{Net, Walker, FORM, LINES, MAX_WEIGHT, SCRATCH};
+use rng::Rng;
+use schedules::{net_words, Schedule};
+
+/// An accepted pair of any family and any variation.
+pub fn schedule(rng: &mut Rng) -> Schedule {
+    let first = schedules::any(rng);
+    variants::varied(rng, first)
+}
+
+/// A net of any sizes with weights found by chance, of which some rows have none; there may be no
+/// source.
+pub fn net(rng: &mut Rng) -> Net {
+    let (places, transitions) = (rng.between(1, LINES), rng.between(1, LINES));
+    let (density, idle) = (rng.below(101), rng.below(60));
+    let mut row = || -> Vec<u64> {
+        let percent = if rng.chance(idle) { 0 } else { density };
+        let mut weight = || u64::from(rng.chance(percent)) * (rng.next() % MAX_WEIGHT + 1);
+        (0..places).map(|_| weight()).collect()
+    };
+    Net {
+        taken: (0..transitions).map(|_| row()).collect(),
+        put: (0..transitions).map(|_| row()).collect(),
+        start: row(),
+    }
+}
+
+/// The words of a net and of a sheet, made from an accepted pair: as they are, with one to three
+/// damages, or one of the two replaced.
+pub fn words(rng: &mut Rng, schedule: &Schedule) -> (Vec<u32>, Vec<u32>) {
+    match rng.below(20) {
+        0..=7 => schedule.words(),
+        8..=13 => broken_clauses(rng, schedule),
+        14..=16 => {
+            let (mut net, mut sheet) =
+                if rng.chance(70) { schedule.words() } else { broken_clauses(rng, schedule) };
+            for _ in 0..rng.between(1, 2) {
+                if rng.chance(40) {
+                    damage::break_words(rng, &mut net, 3);
+                } else {
+                    damage::break_words(rng, &mut sheet, 2);
+                }
+            }
+            (net, sheet)
+        }
+        _ => replaced(rng, schedule),
+    }
+}
+
+fn broken_clauses(rng: &mut Rng, schedule: &Schedule) -> (Vec<u32>, Vec<u32>) {
+    let mut broken = schedule.clone();
+    let damages = if rng.chance(60) { 1 } else { rng.between(2, 3) };
+    for _ in 0..damages {
+        damage::break_clause(rng, &mut broken);
+    }
+    broken.words()
+}
+
+/// An accepted pair of which one has given way to words at the limits, to garbage, to a net found
+/// by chance or to nothing.
+fn replaced(rng: &mut Rng, schedule: &Schedule) -> (Vec<u32>, Vec<u32>) {
+    let (good_net, good_sheet) = schedule.words();
+    match rng.below(12) {
+        0..=2 => (damage::net_at_limits(rng), good_sheet),
+        3..=5 => (good_net, damage::sheet_at_limits(rng)),
+        6 => (net_words(&net(rng)), good_sheet),
+        7 => (damage::garbage(rng), good_sheet),
+        8 => (good_net, damage::garbage(rng)),
+        9 => (damage::garbage(rng), damage::garbage(rng)),
+        10 => (Vec::new(), good_sheet),
+        _ => (good_net, Vec::new()),
+    }
+}
+
+/// A call of any kind.
+pub fn call(rng: &mut Rng) -> Call {
+    let kind = rng.pick(&Kind::ALL);
+    let schedule = schedule(rng);
+    let (mut net_part, sheet_part) = words(rng, &schedule);
+    if !kind.reads_sheet() && rng.chance(30) {
+        net_part = net_words(&net(rng));
+        if rng.chance(50) {
+            damage::break_words(rng, &mut net_part, 3);
+        }
+    }
+    let mut call = Call::new(kind, &net_part, &sheet_part);
+    call.record = record(rng, &schedule);
+    call.walker = walker(rng, &schedule);
+    call.transition = transition(rng, &schedule, call.walker[0]);
+    let needed = match kind {
+        Kind::PlaceBounds | Kind::Run => schedule.net.places(),
+        Kind::ShortForm => schedule.sheet.minimal_form().words().len(),
+        _ => 0,
+    };
+    call.out = buffer(rng, needed);
+    call.scratch = scratch(rng);
+    call
+}
+
+/// Transitions that the sheet allows one after the other, or nearly.
+pub fn record(rng: &mut Rng, schedule: &Schedule) -> Vec<u32> {
+    let length = match rng.below(10) {
+        0 => 0,
+        1 => rng.below(2_000),
+        _ => rng.below(40),
+    };
+    let mut node = 0;
+    let mut record = Vec::new();
+    for _ in 0..length {
+        let t = rng.pick(&schedule.sheet.offered(node));
+        node = schedule.sheet.arcs[node][t].unwrap_or(0);
+        record.push(t as u32);
+    }
+    if rng.chance(30) && length > 0 {
+        let at = rng.below(length);
+        record[at] = stray_transition(rng, schedule);
+    }
+    record
+}
+
+/// A number that may be no transition of the net; T + t is what a careless reader takes for an arc
+/// of the next node.
+fn stray_transition(rng: &mut Rng, schedule: &Schedule) -> u32 {
+    let transitions = schedule.net.transitions();
+    match rng.below(4) {
+        0 => rng.word(),
+        1 => u32::MAX,
+        _ => rng.below(3 * transitions) as u32,
+    }
+}
+
+/// A walker that stands at a node of the sheet with its counts, or nearly.
+fn walker(rng: &mut Rng, schedule: &Schedule) -> Walker {
+    let node = rng.below(schedule.sheet.nodes());
+    let mut walker = [0; 1 + LINES];
+    walker[0] = node as u32;
+    for (word, &count) in walker[1..].iter_mut().zip(&schedule.sheet.counts[node]) {
+        *word = count as u32;
+    }
+    let nodes = schedule.sheet.nodes() as u32;
+    match rng.below(12) {
+        0 => walker[0] = nodes,
+        1 => walker[0] = rng.pick(&[nodes + 1, 128, u32::MAX]),
+        2 => walker[0] = rng.below(nodes as usize) as u32,
+        3 => walker[rng.between(1, LINES)] ^= 1 << rng.below(32),
+        4 => walker[LINES] = walker[LINES].wrapping_add(1),
+        _ => {}
+    }
+    walker
+}
+
+/// A transition that the walker's node offers, or nearly.
+fn transition(rng: &mut Rng, schedule: &Schedule, node: u32) -> u32 {
+    if rng.chance(25) || node as usize >= schedule.sheet.nodes() {
+        return stray_transition(rng, schedule);
+    }
+    rng.pick(&schedule.sheet.offered(node as usize)) as u32
+}
+
+/// An output buffer that holds what is needed, or one word less, or other lengths.
+fn buffer(rng: &mut Rng, needed: usize) -> Vec<u32> {
+    let length = match rng.below(8) {
+        0 => needed.saturating_sub(1),
+        1 => 0,
+        2 => rng.below(needed + 1),
+        3 => needed + 1,
+        4 => needed + rng.below(40),
+        5 => FORM,
+        _ => needed,
+    };
+    rng.words(length)
+}
+
+/// Scratch of 8,192 words, or one less, or others, never cleared.
+fn scratch(rng: &mut Rng) -> Vec<u32> {
+    let length = match rng.below(20) {
+        0 => SCRATCH - 1,
+        1 => rng.below(SCRATCH),
+        2..=4 => SCRATCH + 8,
+        _ => SCRATCH,
+    };
+    rng.words(length)
+}

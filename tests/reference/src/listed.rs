@@ -1,0 +1,113 @@
+//! The sheets of document 01, "Sheets to try" and the nine nodes, with the answers given there.
+
+use crate::call::words;
+use crate::generate::rng::Rng;
+use crate::generate::schedules::{crowded, nine_nodes, ring};
+use crate::model::{self, FORM, SCRATCH};
+use crate::program::printed;
+use crate::tally::Tally;
+
+const A: &str = "1 2 2 1 2 1 1";
+
+/// The starred table: net, sheet, the sheet check's plain numbers.
+const STARRED: [(&str, &str, [u64; 6]); 13] = [
+    ("1 1 0", "1 1 0 0", [0, 0, 0, 1, 1, 1]),
+    (A, "2 3 0 3 5 1 0 1", [0, 0, 0, 2, 2, 1]),
+    (A, "4 6 0 3 4 7 9 11 1 2 3 0 1 1", [0, 0, 0, 4, 4, 2]),
+    (A, "1 0", [11, 3, 0, 0, 0, 0]),
+    (A, "2 2 0 3 1 0", [15, 1, 0, 0, 0, 0]),
+    (A, "3 4 0 3 4 7 1 0 1 1", [16, 3, 2, 0, 0, 0]),
+    ("1 3 3 1 2 3 1 1 1", "2 3 0 4 7 1 0 1", [12, 3, 1, 0, 0, 0]),
+    ("1 3 3 1 2 3 1 1 1", "2 4 0 4 5 7 1 0 0 1", [0, 0, 0, 2, 3, 1]),
+    ("1 2 3 1 2 3 1 1 1", "2 3 0 3 5 1 1 1", [17, 3, 1, 0, 0, 0]),
+    ("1 2 2 1 2 2 1", "2 3 0 3 5 1 0 1", [14, 1, 1, 0, 0, 0]),
+    ("1 2 3 1 3 4 1 1 1", "1 2 1 2 0 1", [13, 3, 0, 0, 0, 0]),
+    ("1 2 3 1 2 4 1 1 16777216", "2 4 0 3 4 5 1 0 16777216 16777217", [0, 0, 0, 2, 2, 1]),
+    ("1 2 3 1 2 4 1 1 16777216", "2 4 0 3 4 5 1 0 16777216 16777216", [15, 1, 0, 0, 0, 0]),
+];
+
+pub fn check(tally: &mut Tally) {
+    for (net, sheet, should) in STARRED {
+        let is = sheet_check(&text_words(net), &text_words(sheet), SCRATCH);
+        tally.same(&format!("net {net}, sheet {sheet}"), is, should);
+    }
+    short_forms(tally);
+    limits(tally);
+    output(tally);
+}
+
+fn text_words(text: &str) -> Vec<u32> {
+    words(text).unwrap_or_default()
+}
+
+fn sheet_check(net: &[u32], sheet: &[u32], scratch: usize) -> [u64; 6] {
+    model::sheet_check(net, sheet, &mut vec![7; scratch])
+}
+
+/// The four nodes become two; the nine stay nine.
+fn short_forms(tally: &mut Tally) {
+    let form = |net: &[u32], sheet: &[u32]| {
+        let mut out = vec![0; FORM];
+        let reply = model::short_form(net, sheet, &mut out, &mut [0; SCRATCH]);
+        out.truncate(reply[3] as usize);
+        (reply[0], out)
+    };
+    let four = text_words(STARRED[2].1);
+    let two = text_words(STARRED[1].1);
+    tally.same("short form of four nodes", form(&text_words(A), &four), (0, two));
+    let (net, sheet) = nine_nodes().words();
+    tally.same("nine nodes checked", sheet_check(&net, &sheet, SCRATCH), [0, 0, 0, 9, 12, 3]);
+    tally.same("short form of nine nodes", form(&net, &sheet).1[0], 9);
+}
+
+/// Each limit is allowed; one more, for scratch one less, is refused by the number given.
+fn limits(tally: &mut Tally) {
+    let lone = text_words("1 1 0 0");
+    let wide = |p: u32, t: u32| sheet_check(&[p, t, 0], &all_home(t), SCRATCH)[0];
+    tally.same("P of 32 and 33", [wide(32, 1), wide(33, 1)], [0, 2]);
+    tally.same("T of 32 and 33", [wide(1, 32), wide(1, 33)], [0, 2]);
+    let (net, ring_128) = ring(&[true; 128], 1).words();
+    let ring_129 = ring(&[true; 129], 1).words().1;
+    let nodes = |sheet: &[u32]| sheet_check(&net, sheet, SCRATCH)[0];
+    tally.same("V of 128 and 129", [nodes(&ring_128), nodes(&ring_129)], [0, 7]);
+    let (net, full) = crowded(&mut Rng::new(0)).words();
+    let mut over = full.clone();
+    over[1] += 1;
+    over.extend([0, 1]);
+    let entries = |sheet: &[u32]| sheet_check(&net, sheet, SCRATCH)[0];
+    tally.same("K", [full[1], over[1]], [4_096, 4_097]);
+    tally.same("K of 4,096 and 4,097", [entries(&full), entries(&over)], [0, 7]);
+    let weight = |w: u32| sheet_check(&[1, 1, 1, 2, w], &[1, 2, 0, 1, 0, w], SCRATCH);
+    tally.same("weight at the limit", weight(1_000_000_000), [0, 0, 0, 1, 1, 1]);
+    tally.same("weight past the limit", weight(1_000_000_001), [4, 1, 0, 0, 0, 0]);
+    let lent = |scratch: usize| sheet_check(&[1, 1, 0], &lone, scratch)[0];
+    tally.same("scratch of 8,192 and 8,191", [lent(8_192), lent(8_191)], [0, 21]);
+}
+
+/// One node with an arc to itself for each of t sources.
+fn all_home(t: u32) -> Vec<u32> {
+    [1, t].into_iter().chain(0..t).chain((0..t).map(|_| 0)).collect()
+}
+
+/// The program's whole output for the four nodes and for a refusal, and how files are read.
+fn output(tally: &mut Tally) {
+    let bytes = |words: &[u32]| -> Vec<u8> { words.iter().flat_map(|w| w.to_le_bytes()).collect() };
+    let net = bytes(&text_words(A));
+    let four = bytes(&text_words(STARRED[2].1));
+    let text = "answer 0 none 0\nnodes 4 arcs 4 awaits 2\nplace 0 bound 1\nshort 2 3 0 3 5 1 0 1\n";
+    tally.same("output for four nodes", printed(&net, &four).as_str(), text);
+    let refused = printed(&net, &bytes(&[1, 0]));
+    tally.same("output for a dead end", refused.as_str(), "answer 11 node 0\n");
+    let mut line = |what: &str, net: &[u8], sheet: &[u8], should: &str| {
+        tally.same(what, printed(net, sheet).as_str(), should);
+    };
+    line("no files", &[], &[], "answer 1 none 0\n");
+    line("no sheet", &net, &[], "answer 6 none 0\n");
+    line("tail of a net", &[&net[..], &[0]].concat(), &four, "answer 1 none 0\n");
+    line("tail of a sheet", &net, &[&four[..], &[0, 0, 0]].concat(), "answer 6 none 0\n");
+    line("tail before sizes", &[0; 16_655], &four, "answer 1 none 0\n");
+    line("no tail of a longer net", &[0; 16_657], &four, "answer 2 none 0\n");
+    line("tail before sizes", &net, &[0; 32_779], "answer 6 none 0\n");
+    line("no tail of a longer sheet", &net, &[0; 32_781], "answer 7 none 0\n");
+    line("net before the sheet's tail", &[0; 12], &[0], "answer 2 none 0\n");
+}

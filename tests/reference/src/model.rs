@@ -1,0 +1,207 @@
+//! Document 01 from its text, the plainest way: tables are dense and numbers are 64 bits wide, so
+//! that no sum of the document's limits comes near their end. `net`, `sheet` and `form` follow the
+//! document's sections; here are its refusals and its calls.
+
+mod form;
+mod net;
+mod sheet;
+
+pub use net::Net;
+pub use sheet::Sheet;
+
+/// P and T are at most 32; a walker has 32 counts whatever P is.
+pub const LINES: usize = 32;
+pub const MAX_NODES: u64 = 128;
+pub const MAX_ENTRIES: u64 = 4_096;
+pub const MAX_WEIGHT: u64 = 1_000_000_000;
+/// Words of scratch below which a call is refused by 21.
+pub const SCRATCH: usize = 8_192;
+/// Words that every short form fits in.
+pub const FORM: usize = 8_194;
+
+/// A node, then 32 counts.
+pub type Walker = [u32; 1 + LINES];
+
+// ---- Refusals by number ----
+
+/// What a refusal's position counts.
+#[derive(Clone, Copy)]
+pub enum Position {
+    Nothing,
+    Entry(usize),
+    Place(usize),
+    Node(usize),
+    Record(usize),
+}
+
+use Position::{Nothing, Place, Record};
+
+impl Position {
+    /// The kind (none 0, entry 1, place 2, node 3, record 4), then the position.
+    fn plain(self) -> [u64; 2] {
+        match self {
+            Position::Nothing => [0, 0],
+            Position::Entry(i) => [1, i as u64],
+            Position::Place(i) => [2, i as u64],
+            Position::Node(i) => [3, i as u64],
+            Position::Record(i) => [4, i as u64],
+        }
+    }
+}
+
+pub struct Refusal {
+    number: u64,
+    at: Position,
+}
+
+fn refuse<T>(number: u64, at: Position) -> Result<T, Refusal> {
+    Err(Refusal { number, at })
+}
+
+/// The plain numbers of an answer: number, kind, position, then the call's own. "All other numbers
+/// of a refused answer are 0"; an accepted one has no position.
+fn plain<const N: usize>(answer: Result<Vec<u64>, Refusal>) -> [u64; N] {
+    let mut reply = [0; N];
+    match answer {
+        Ok(own) => reply[3..].copy_from_slice(&own),
+        Err(refusal) => {
+            reply[0] = refusal.number;
+            reply[1..3].copy_from_slice(&refusal.at.plain());
+        }
+    }
+    reply
+}
+
+// ---- What the calls share ----
+
+/// The checks that begin every call on a sheet: "21 first; then the net", then the sheet. Scratch
+/// that passes 21 ends as 0 in its first 8,192 words, whatever the answer.
+fn accept(net: &[u32], sheet: &[u32], scratch: &mut [u32]) -> Result<(Net, Sheet), Refusal> {
+    if scratch.len() < SCRATCH {
+        return refuse(21, Nothing);
+    }
+    scratch[..SCRATCH].fill(0);
+    let net = Net::read(net)?;
+    let sheet = Sheet::read(&net, sheet)?;
+    sheet.check_schedule(&net)?;
+    Ok((net, sheet))
+}
+
+/// "22 last"; otherwise writes the result and leaves the rest of the buffer as it was.
+fn write(out: &mut [u32], result: &[u32]) -> Result<(), Refusal> {
+    if out.len() < result.len() {
+        return refuse(22, Nothing);
+    }
+    out[..result.len()].copy_from_slice(result);
+    Ok(())
+}
+
+/// A marking as words; no count is above 2,000,000,000.
+fn as_words(marking: &[u64]) -> Vec<u32> {
+    marking.iter().map(|&count| count as u32).collect()
+}
+
+/// The walker at a node with a marking, its counts from P on being 0.
+fn walker_at(node: usize, marking: &[u64]) -> Walker {
+    let mut walker = [0; 1 + LINES];
+    walker[0] = node as u32;
+    walker[1..1 + marking.len()].copy_from_slice(&as_words(marking));
+    walker
+}
+
+// ---- The calls ----
+
+/// Net check: "the number and position alone".
+pub fn net_check(net: &[u32]) -> [u64; 3] {
+    plain(Net::read(net).map(|_| vec![]))
+}
+
+/// Sheet check: "on acceptance the numbers of nodes, arcs and await nodes".
+pub fn sheet_check(net: &[u32], sheet: &[u32], scratch: &mut [u32]) -> [u64; 6] {
+    let answer = accept(net, sheet, scratch).map(|(net, sheet)| {
+        let awaits = (0..sheet.nodes()).filter(|&node| sheet.is_await(&net, node)).count();
+        vec![sheet.nodes() as u64, sheet.all_arcs().len() as u64, awaits as u64]
+    });
+    plain(answer)
+}
+
+/// Place bounds: writes "for each place the greatest count over all nodes".
+pub fn place_bounds(net: &[u32], sheet: &[u32], out: &mut [u32], scratch: &mut [u32]) -> [u64; 3] {
+    let answer = accept(net, sheet, scratch).and_then(|(net, sheet)| {
+        let mut bounds = vec![0; net.places()];
+        for counts in &sheet.counts {
+            for p in 0..net.places() {
+                bounds[p] = bounds[p].max(counts[p]);
+            }
+        }
+        write(out, &as_words(&bounds))?;
+        Ok(vec![])
+    });
+    plain(answer)
+}
+
+/// Fresh walker: "stands at node 0 with the initial marking"; all zero where the net is refused.
+pub fn fresh_walker(net: &[u32], walker: &mut Walker) -> [u64; 3] {
+    let net = Net::read(net);
+    *walker = net.as_ref().map_or([0; 1 + LINES], |net| walker_at(0, &net.start));
+    plain(net.map(|_| vec![]))
+}
+
+/// Single firing: hands back the walker that follows, where refused "the walker it was given".
+pub fn single_firing(
+    net: &[u32],
+    sheet: &[u32],
+    walker: &mut Walker,
+    transition: u32,
+    scratch: &mut [u32],
+) -> [u64; 3] {
+    let answer = accept(net, sheet, scratch).and_then(|(net, sheet)| {
+        let node = walker[0] as usize;
+        if node >= sheet.nodes() {
+            return refuse(18, Nothing);
+        }
+        let marking = &sheet.counts[node];
+        let standing = walker_at(node, marking);
+        if let Some(p) = (0..LINES).find(|&p| walker[1 + p] != standing[1 + p]) {
+            return refuse(19, Place(p));
+        }
+        let Some(target) = sheet.arc(node, transition) else {
+            return refuse(20, Nothing);
+        };
+        *walker = walker_at(target, &net.fire(marking, transition as usize));
+        Ok(vec![])
+    });
+    plain(answer)
+}
+
+/// Run: the number fired and the end node; writes the P end counts.
+pub fn run(
+    net: &[u32],
+    sheet: &[u32],
+    record: &[u32],
+    out: &mut [u32],
+    scratch: &mut [u32],
+) -> [u64; 5] {
+    let answer = accept(net, sheet, scratch).and_then(|(net, sheet)| {
+        let (mut node, mut marking) = (0, net.start.clone());
+        for (i, &t) in record.iter().enumerate() {
+            let Some(target) = sheet.arc(node, t) else {
+                return refuse(20, Record(i));
+            };
+            (node, marking) = (target, net.fire(&marking, t as usize));
+        }
+        write(out, &as_words(&marking))?;
+        Ok(vec![record.len() as u64, node as u64])
+    });
+    plain(answer)
+}
+
+/// Short form: "the length and writes that many words".
+pub fn short_form(net: &[u32], sheet: &[u32], out: &mut [u32], scratch: &mut [u32]) -> [u64; 4] {
+    let answer = accept(net, sheet, scratch).and_then(|(_, sheet)| {
+        let words = sheet.minimal_form().words();
+        write(out, &words)?;
+        Ok(vec![words.len() as u64])
+    });
+    plain(answer)
+}

@@ -1,0 +1,109 @@
+//! "The net as words", and of "Firing and what a schedule is" what a net alone decides.
+
+use super::{
+    refuse,
+    Position::{Entry, Nothing},
+    Refusal, LINES, MAX_WEIGHT,
+};
+
+/// A net, spread out.
+#[derive(Clone)]
+pub struct Net {
+    /// `taken[t][p]`: what transition t takes from place p.
+    pub taken: Vec<Vec<u64>>,
+    /// `put[t][p]`: what transition t puts into place p.
+    pub put: Vec<Vec<u64>>,
+    /// `start[p]`: what place p starts with.
+    pub start: Vec<u64>,
+}
+
+/// "Keys rise strictly and lie below" an end.
+pub(super) fn key_fits(keys: &[u32], i: usize, end: u64) -> bool {
+    (i == 0 || keys[i] > keys[i - 1]) && u64::from(keys[i]) < end
+}
+
+/// For every key below the end its value, nothing where the key is absent.
+pub(super) fn spread(keys: &[u32], values: &[u32], end: u64) -> Vec<Option<u64>> {
+    let mut table = vec![None; end as usize];
+    for (&key, &value) in keys.iter().zip(values) {
+        table[key as usize] = Some(u64::from(value));
+    }
+    table
+}
+
+impl Net {
+    /// The net's checks in their order: "under 3 words, sizes, length, entries, 5".
+    pub fn read(words: &[u32]) -> Result<Net, Refusal> {
+        if words.len() < 3 {
+            return refuse(1, Nothing);
+        }
+        let [p, t, k] = [words[0], words[1], words[2]].map(u64::from);
+        let lines = 1..=LINES as u64;
+        if !lines.contains(&p) || !lines.contains(&t) || k > (2 * t + 1) * p {
+            return refuse(2, Nothing);
+        }
+        if words.len() as u64 != 3 + 2 * k {
+            return refuse(1, Nothing);
+        }
+        let (keys, weights) = words[3..].split_at(k as usize);
+        let end = (2 * t + 1) * p;
+        for (i, &weight) in weights.iter().enumerate() {
+            if !key_fits(keys, i, end) {
+                return refuse(3, Entry(i));
+            }
+            if !(1..=MAX_WEIGHT).contains(&u64::from(weight)) {
+                return refuse(4, Entry(i));
+            }
+        }
+        let net = Net::from_table(&spread(keys, weights, end), p as usize, t as usize);
+        if net.sources().is_empty() {
+            return refuse(5, Nothing);
+        }
+        Ok(net)
+    }
+
+    /// The keys are rows of P places: what each transition takes, what each puts, the start. "An
+    /// absent key means 0."
+    fn from_table(table: &[Option<u64>], p: usize, t: usize) -> Net {
+        let row = |r: usize| -> Vec<u64> {
+            table[r * p..(r + 1) * p].iter().map(|weight| weight.unwrap_or(0)).collect()
+        };
+        Net {
+            taken: (0..t).map(row).collect(),
+            put: (t..2 * t).map(row).collect(),
+            start: row(2 * t),
+        }
+    }
+
+    pub fn places(&self) -> usize {
+        self.start.len()
+    }
+
+    pub fn transitions(&self) -> usize {
+        self.taken.len()
+    }
+
+    /// "t is enabled where every place holds at least what t takes."
+    pub fn enabled(&self, marking: &[u64], t: usize) -> bool {
+        (0..self.places()).all(|p| marking[p] >= self.taken[t][p])
+    }
+
+    /// "Firing gives, at each place, count − taken + put", for an enabled t.
+    pub fn fire(&self, marking: &[u64], t: usize) -> Vec<u64> {
+        (0..self.places()).map(|p| marking[p] - self.taken[t][p] + self.put[t][p]).collect()
+    }
+
+    /// "A source transition takes nothing."
+    pub fn is_source(&self, t: usize) -> bool {
+        self.taken[t].iter().all(|&weight| weight == 0)
+    }
+
+    pub fn sources(&self) -> Vec<usize> {
+        (0..self.transitions()).filter(|&t| self.is_source(t)).collect()
+    }
+
+    /// The choice set of t: all that "take the same weight from every place".
+    pub fn choice_set(&self, t: usize) -> Vec<usize> {
+        (0..self.transitions()).filter(|&u| self.taken[u] == self.taken[t]).collect()
+    }
+}

@@ -1,0 +1,136 @@
+//! The program of document 01: how it reads `net.bin` and `sheet.bin`, what it prints, and a
+//! comparison of a program with that.
+
+use crate::call::listed;
+use crate::generate::{self, rng::Rng};
+use crate::model::{self, FORM, SCRATCH};
+use crate::tally::Tally;
+use std::path::Path;
+use std::process::Command;
+
+/// Words handed on of a longer file, "one more than fits".
+const NET_WORDS: usize = 4_164;
+const SHEET_WORDS: usize = 8_195;
+
+/// The words of a file, least significant byte first; nothing where it has a tail of one to three
+/// bytes. Of a longer file only the first words are taken, "and no tail is looked for".
+fn words(bytes: &[u8], most: usize) -> Option<Vec<u32>> {
+    let bytes = &bytes[..bytes.len().min(4 * most)];
+    let whole = bytes.chunks_exact(4);
+    if !whole.remainder().is_empty() {
+        return None;
+    }
+    Some(whole.map(|four| u32::from_le_bytes([four[0], four[1], four[2], four[3]])).collect())
+}
+
+/// Line 1: number, kind of position, position.
+fn first_line(number: u64, kind: u64, position: u64) -> String {
+    let kind = ["none", "entry", "place", "node", "record"][kind as usize];
+    format!("answer {number} {kind} {position}\n")
+}
+
+/// The program's whole output for the bytes of its two files.
+pub fn printed(net: &[u8], sheet: &[u8]) -> String {
+    let Some(net) = words(net, NET_WORDS) else {
+        return first_line(1, 0, 0);
+    };
+    let [number, kind, position] = model::net_check(&net);
+    if number != 0 {
+        return first_line(number, kind, position);
+    }
+    let Some(sheet) = words(sheet, SHEET_WORDS) else {
+        return first_line(6, 0, 0);
+    };
+    let scratch = &mut [0; SCRATCH];
+    let [number, kind, position, nodes, arcs, awaits] = model::sheet_check(&net, &sheet, scratch);
+    let mut text = first_line(number, kind, position);
+    if number != 0 {
+        return text;
+    }
+    text += &format!("nodes {nodes} arcs {arcs} awaits {awaits}\n");
+    let out = &mut [0; FORM];
+    model::place_bounds(&net, &sheet, out, scratch);
+    for (place, bound) in out[..net[0] as usize].iter().enumerate() {
+        text += &format!("place {place} bound {bound}\n");
+    }
+    let length = model::short_form(&net, &sheet, out, scratch)[3] as usize;
+    text + &format!("short {}\n", listed(&out[..length]))
+}
+
+/// What the program should print in the folder. "A missing file is empty."
+pub fn printed_in(folder: &Path) -> String {
+    let bytes = |name: &str| std::fs::read(folder.join(name)).unwrap_or_default();
+    printed(&bytes("net.bin"), &bytes("sheet.bin"))
+}
+
+// ---- The comparison ----
+
+/// A file as it is laid before the program.
+enum File {
+    Missing,
+    Folder,
+    Bytes(Vec<u8>),
+}
+
+impl File {
+    fn lay(&self, path: &Path) -> std::io::Result<()> {
+        match self {
+            File::Missing => Ok(()),
+            File::Folder => std::fs::create_dir(path),
+            File::Bytes(bytes) => std::fs::write(path, bytes),
+        }
+    }
+}
+
+/// Words as a file: mostly as they are, else with a tail, cut short, longer than is read, or no
+/// file at all. A size of 0 tells whether a tail was looked for.
+fn file(rng: &mut Rng, words: &[u32], most: usize) -> File {
+    let mut bytes: Vec<u8> = words.iter().flat_map(|word| word.to_le_bytes()).collect();
+    let fill = rng.word() as u8;
+    match rng.below(40) {
+        0 => return File::Missing,
+        1 => return File::Folder,
+        2..=5 => bytes.resize(bytes.len() + rng.between(1, 3), fill),
+        6 => bytes.truncate(rng.below(bytes.len() + 1)),
+        7..=10 => bytes.resize(4 * most - 4 + rng.below(10), fill),
+        11 => bytes.resize(5 * most + rng.below(4), fill),
+        _ => return File::Bytes(bytes),
+    }
+    if rng.chance(50) && !bytes.is_empty() {
+        bytes[0] = 0;
+    }
+    File::Bytes(bytes)
+}
+
+/// Runs the program on `count` pairs of files and compares all that it prints. The folder of the
+/// first difference is kept.
+pub fn compare(checker: &Path, seed: u64, count: u64, tally: &mut Tally) -> std::io::Result<()> {
+    let checker = checker.canonicalize()?;
+    let workplace = std::env::temp_dir().join(format!("reference-{}", std::process::id()));
+    std::fs::create_dir_all(&workplace)?;
+    for index in 0..count {
+        let folder = workplace.join(format!("seed-{seed}-case-{index}"));
+        std::fs::create_dir(&folder)?;
+        lay_files(&mut Rng::for_case(seed, index), &folder)?;
+        let output = Command::new(&checker).current_dir(&folder).output()?;
+        let is = String::from_utf8_lossy(&output.stdout).into_owned();
+        let should = printed_in(&folder);
+        let kept = is != should && tally.failed == 0;
+        tally.same(&format!("{}", folder.display()), is, should);
+        if !kept {
+            std::fs::remove_dir_all(&folder)?;
+        }
+    }
+    if tally.failed == 0 {
+        std::fs::remove_dir_all(&workplace)?;
+    }
+    Ok(())
+}
+
+/// Lays the two files of a case.
+fn lay_files(rng: &mut Rng, folder: &Path) -> std::io::Result<()> {
+    let schedule = generate::schedule(rng);
+    let (net, sheet) = generate::words(rng, &schedule);
+    file(rng, &net, NET_WORDS).lay(&folder.join("net.bin"))?;
+    file(rng, &sheet, SHEET_WORDS).lay(&folder.join("sheet.bin"))
+}

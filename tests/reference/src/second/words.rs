@@ -1,0 +1,86 @@
+//! A net or a sheet as its sizes and its values by key.
+
+use std::collections::{BTreeMap, BTreeSet};
+
+pub struct Words {
+    sizes: Vec<u64>,
+    values: BTreeMap<u64, u64>,
+}
+
+impl Words {
+    pub fn new(sizes: &[u64], keys: &[u64], values: &[u64]) -> Words {
+        let values = keys.iter().copied().zip(values.iter().copied());
+        Words { sizes: sizes.to_vec(), values: values.collect() }
+    }
+
+    fn at(&self, key: u64) -> u64 {
+        self.values.get(&key).copied().unwrap_or(0)
+    }
+}
+
+/// Of a net.
+impl Words {
+    pub fn places(&self) -> u64 {
+        self.sizes[0]
+    }
+
+    pub fn transitions(&self) -> u64 {
+        self.sizes[1]
+    }
+
+    pub fn taken(&self, t: u64, p: u64) -> u64 {
+        self.at(t * self.places() + p)
+    }
+
+    pub fn put(&self, t: u64, p: u64) -> u64 {
+        self.at((self.transitions() + t) * self.places() + p)
+    }
+
+    pub fn start(&self, p: u64) -> u64 {
+        self.at(2 * self.transitions() * self.places() + p)
+    }
+
+    pub fn all_taken(&self, t: u64) -> Vec<u64> {
+        (0..self.places()).map(|p| self.taken(t, p)).collect()
+    }
+
+    pub fn is_source(&self, t: u64) -> bool {
+        self.all_taken(t).iter().sum::<u64>() == 0
+    }
+}
+
+/// Of a sheet of a net.
+impl Words {
+    pub fn nodes(&self) -> u64 {
+        self.sizes[0]
+    }
+
+    pub fn arc(&self, net: &Words, n: u64, t: u64) -> Option<u64> {
+        let key = n * net.transitions() + t;
+        self.values.get(&key).copied().filter(|_| t < net.transitions())
+    }
+
+    /// The arcs in entry order, as node, transition and target.
+    pub fn arcs(&self, net: &Words) -> Vec<(u64, u64, u64)> {
+        let end = self.nodes() * net.transitions();
+        let arc = |(&key, &target)| (key / net.transitions(), key % net.transitions(), target);
+        self.values.range(..end).map(arc).collect()
+    }
+
+    pub fn offered(&self, net: &Words, n: u64) -> BTreeSet<u64> {
+        (0..net.transitions()).filter(|&t| self.arc(net, n, t).is_some()).collect()
+    }
+
+    pub fn awaits(&self, net: &Words) -> Vec<u64> {
+        let sources = (0..net.transitions()).filter(|&t| net.is_source(t)).collect();
+        (0..self.nodes()).filter(|&n| self.offered(net, n) == sources).collect()
+    }
+
+    pub fn count(&self, net: &Words, n: u64, p: u64) -> u64 {
+        self.at(self.nodes() * net.transitions() + n * net.places() + p)
+    }
+
+    pub fn counts(&self, net: &Words, n: u64) -> Vec<u64> {
+        (0..net.places()).map(|p| self.count(net, n, p)).collect()
+    }
+}
