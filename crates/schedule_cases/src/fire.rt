@@ -93,7 +93,7 @@ pub(crate) fn no_such_node() {
     fire_two_nodes(walker(4294967295, 9, 9, 9), 0);
 }
 
-pub(crate) fn astray() {
+pub(crate) fn wrong_counts() {
     fire_two_nodes(walker(1, 0, 0, 0), 1);
     fire_two_nodes(walker(0, 4294967295, 0, 0), 0);
     // counts at places that the net does not have

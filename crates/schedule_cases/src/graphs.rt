@@ -37,7 +37,7 @@ pub(crate) fn dead_ends() {
     check(&net, &[2u32, 2, 0, 5, 1, 1]);
 }
 
-pub(crate) fn torn_choices() {
+pub(crate) fn not_one_choice_set() {
     // t1 and t2 take the same, and only t1 is offered
     check(
         &[1u32, 3, 3, 1, 2, 3, 1, 1, 1],
@@ -70,7 +70,7 @@ pub(crate) fn busy_roots() {
     check(&[1u32, 2, 2, 1, 4, 2, 1], &[1u32, 2, 1, 2, 0, 1]);
 }
 
-pub(crate) fn starved_arcs() {
+pub(crate) fn not_enabled() {
     // t1 takes 2 of 1
     check(&[1u32, 2, 2, 1, 2, 2, 1], &[2u32, 3, 0, 3, 5, 1, 0, 1]);
     // t1 takes 1 and puts 1 at a count of 0: what it changes, nothing, would fit
@@ -121,7 +121,7 @@ pub(crate) fn large_counts() {
     );
 }
 
-pub(crate) fn stray_nodes() {
+pub(crate) fn not_reached() {
     let net = [1u32, 2, 2, 1, 2, 1, 1];
     check(&net, &[3u32, 4, 0, 3, 4, 7, 1, 0, 1, 1]);
     // nodes 1 and 2 reach each other; node 0 stays
@@ -135,7 +135,7 @@ pub(crate) fn stray_nodes() {
     );
 }
 
-pub(crate) fn no_way_home() {
+pub(crate) fn no_path_to_await() {
     check(
         &[1u32, 2, 3, 1, 2, 3, 1, 1, 1],
         &[2u32, 3, 0, 3, 5, 1, 1, 1],

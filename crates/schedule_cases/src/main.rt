@@ -1,5 +1,6 @@
 // Prints what the calls on schedules answer, and what they leave in the buffers lent, for nets and sheets at the boundaries of
-// document 01 and past them. The expected output is worked out by the reference in tests/reference, not by this program.
+// document 01 and past them. The expected replies and results are those of the implementation in tests/reference; what the buffers
+// hold beside a result, and in scratch, was written down from document 01. None of it comes from this program.
 mod bounds;
 mod fire;
 mod fresh;
@@ -20,13 +21,13 @@ fn main() {
     graphs::accepted();
     graphs::starts();
     graphs::dead_ends();
-    graphs::torn_choices();
+    graphs::not_one_choice_set();
     graphs::busy_roots();
-    graphs::starved_arcs();
+    graphs::not_enabled();
     graphs::wrong_landings();
     graphs::large_counts();
-    graphs::stray_nodes();
-    graphs::no_way_home();
+    graphs::not_reached();
+    graphs::no_path_to_await();
     bounds::written();
     bounds::two_places();
     bounds::largest_row();
@@ -38,7 +39,7 @@ fn main() {
     fire::round();
     fire::not_offered();
     fire::no_such_node();
-    fire::astray();
+    fire::wrong_counts();
     fire::refused();
     fire::scratch();
     runs::done();
