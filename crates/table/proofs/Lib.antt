@@ -1,3 +1,4 @@
 pub mod Table
 pub mod Bisection
+pub mod Next
 pub mod Row

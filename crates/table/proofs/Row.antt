@@ -2,7 +2,6 @@
 use Prim.Native.Nat.{ℕ, zero, suc, _+_, _≤_, _<_}
 use native.Mathlib.Nat.{add-zero}
 use native.Mathlib.Numerals.{add-one}
-use native.Mathlib.Decide.{decLt}
 use native.Mathlib.Omega.{arith}
 use mathlib.Core.Path.{_≡_, refl, sym, ap, _∙_}
 use mathlib.Core.List.{List}
@@ -16,8 +15,8 @@ use Rattle.scan.proofs.Tabulate.{tabulate-at}
 use Rattle.table.specs.Table.{keyAt, entryOf, Rising}
 use Rattle.table.specs.Bisection.{lowerBound}
 use Rattle.table.specs.Row.{rowHit, rowPointer, rowEntry, entryRow, entryCode}
-use Rattle.table.proofs.Table.{rising}
 use Rattle.table.proofs.Bisection.{LowerBound, lower-bound, lower-bound-fits, lower-bound-entry}
+use Rattle.table.proofs.Next.{next-hit, next-miss}
 
 code-cond : (b : Bool) (i : ℕ) → cond b (i + 1) 0 ≡ entryCode (cond b (some i) none)
 code-cond true i = refl
@@ -103,25 +102,6 @@ module _ (words : List ℕ) (offset entries first width : ℕ) where
   -- ---- keys that rise
 
   module _ (up : Rising words offset entries) (fits : offset + entries ≤ length words) where
-    -- a turn takes the lower bound of a key to that of the next
-    next-hit : (k r : ℕ) → r < entries → keyAt words offset r ≡ k → LowerBound words offset entries k r → LowerBound words offset entries (suc k) (r + 1)
-    next-hit k r l e b = record {
-      within = omega arith;
-      below = λ i m. elim (decLt i r) [ yes q ↦ let a = b .below i q in omega arith | no q ↦ let z : i ≡ r = omega arith in rw z (omega arith) ];
-      above = λ i m n. let a = rising words offset entries up r i (omega arith) n in omega arith;
-    }
-
-    next-miss : (k r : ℕ) → (r < entries → keyAt words offset r ≡ k → ⊥) → LowerBound words offset entries k r → LowerBound words offset entries (suc k) r
-    next-miss k r h b = record {
-      within = b .within;
-      below = λ i m. let a = b .below i m in omega arith;
-      above = λ i m n. let a = b .above r (omega arith) (omega arith) in elim (decLt r i) [
-        | yes q ↦ let d = rising words offset entries up r i q n in omega arith
-        | no q ↦ let z : i ≡ r = omega arith in
-            rw z (elim (decLt k (keyAt words offset r)) [ yes g ↦ g | no g ↦ absurd (h (omega arith) (omega arith)) ])
-      ];
-    }
-
     pointer-bound : (p : ℕ) → p ≤ width → LowerBound words offset entries (first + p) (pointer p)
     unfolding rowPointer rowHit
     pointer-bound zero l = rw add-zero (lower-bound words offset entries first up fits)
@@ -130,8 +110,8 @@ module _ (words : List ℕ) (offset entries first width : ℕ) where
         let r = pointer p in
         let e : first + suc p ≡ suc (first + p) = omega arith in
         rw (e, lt-ltb p width (omega arith)) (byTest (ltb r entries && eqb (keyAt words offset r) (first + p))
-        (λ h. rw h (next-hit (first + p) r (ltb-true r entries (and-left (ltb r entries) _ h)) (eqb-true _ _ (and-right (ltb r entries) _ h)) b))
-        (λ h. rw h (next-miss (first + p) r (λ m q. true-false _ (and-both _ _ (lt-ltb r entries m) (eq-eqb _ _ q)) h) b)))
+        (λ h. rw h (next-hit words offset entries up (first + p) r (ltb-true r entries (and-left (ltb r entries) _ h)) (eqb-true _ _ (and-right (ltb r entries) _ h)) b))
+        (λ h. rw h (next-miss words offset entries up (first + p) r (λ m q. true-false _ (and-both _ _ (lt-ltb r entries m) (eq-eqb _ _ q)) h) b)))
 
     pub entry-right : (p : ℕ) → p < width → entry p ≡ entryCode (entryOf words offset entries (first + p))
     unfolding rowEntry rowHit
