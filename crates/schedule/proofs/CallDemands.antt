@@ -22,11 +22,12 @@ use Rattle.net.proofs.Laws.{sizes, start-no-place}
 use Rattle.sequential.specs.Petri.{petriNet, initial}
 use Rattle.sequential.specs.Words.{graph}
 use Rattle.sequential.specs.Check.{andThen, scheduleReply}
-use Rattle.schedule.specs.Calls.{scratchFault, outputFault, writtenBy, countsOf, checkAnswer, checkReply, CheckDone, boundsReply, BoundsDone, freshWalker, stepFault, fireVerdict, fireReply, nextWalker, FireDone, nodeAfter, plainRun, runFault, runVerdict, runAnswer, ranOf, endCounts, runReply, RunDone}
+use Rattle.schedule.specs.Calls.{scratchFault, outputFault, writtenBy, checkReply, CheckDone, boundsReply, BoundsDone, freshWalker, stepFault, fireVerdict, fireReply, nextWalker, FireDone, nodeAfter, plainRun, runFault, runVerdict, runAnswer, ranOf, endCounts, runReply, RunDone}
+use Rattle.judge.specs.Answer.{countsOf, checkAnswer}
 use Rattle.schedule.specs.CallDemands.{Stands, StepFails, StepExactly, FreshStands, FreshPasses, HandedBack, HandedBackPasses, RunFolds, RunEnds, RunFollows, CallFails, small-scratch, in-schedule, in-call, SmallOut, RunFails, stopped, small-out, RefusedInOrder, numberIn, CheckLeaves, BoundsLeave, FireLeaves, RunLeaves, RefusedKeeps, Alike, Independent}
-use Rattle.schedule.specs.declared.Counts.{Counts}
-use Rattle.schedule.specs.declared.CheckAnswer.the-variants.{Failed}
-use Rattle.schedule.specs.declared.CheckAnswer.{CheckAnswer}
+use Rattle.judge.specs.declared.Counts.{Counts}
+use Rattle.judge.specs.declared.CheckAnswer.the-variants.{Failed}
+use Rattle.judge.specs.declared.CheckAnswer.{CheckAnswer}
 use Rattle.schedule.specs.declared.Walker.{Walker}
 use Rattle.schedule.specs.declared.Ran.{Ran}
 use Rattle.schedule.specs.declared.RunAnswer.{RunAnswer}

@@ -1,11 +1,3 @@
-pub mod Readable
-pub mod Rows
-pub mod NetRows
-pub mod Choices
-pub mod Nodes
-pub mod Arcs
-pub mod Marks
-pub mod Judged
 pub mod Walks
 pub mod RunEnds
 pub mod Scratch

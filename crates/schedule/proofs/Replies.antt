@@ -28,9 +28,10 @@ use Rattle.net.proofs.Demands as net-proofs
 use Rattle.sequential.specs.Petri.{PetriNet, petriNet, initial, firedCount, fire}
 use Rattle.sequential.specs.Check.{andThen, scheduleReply}
 use Rattle.sequential.specs.Demands.{FirstFault, in-net, in-sheet, SheetFault, under-two, size, ragged, order, value, wrong-start, dead-end, torn-choice, busy-root, starved-arc, wrong-landing, stray-node, no-way-home, fireAll}
-use Rattle.schedule.specs.Calls.{scratchFault, scratchAfter, outputFault, writtenBy, checkAnswer, plainCheck, stepFault, firingFault, runFault, runAnswer, plainRun, endCounts}
+use Rattle.schedule.specs.Calls.{scratchFault, scratchAfter, outputFault, writtenBy, stepFault, firingFault, runFault, runAnswer, plainRun, endCounts}
+use Rattle.judge.specs.Answer.{checkAnswer, plainCheck}
 use Rattle.schedule.specs.CallDemands.{StepFails, no-such-node, walker-astray, not-offered, numberIn, PlainRight, ScratchLeft, OutputLeft, Alike}
-use Rattle.schedule.specs.declared.Counts.{Counts}
+use Rattle.judge.specs.declared.Counts.{Counts}
 use Rattle.schedule.specs.declared.Walker.{Walker}
 use Rattle.schedule.specs.declared.Ran.{Ran}
 use Rattle.sequential.proofs.Demands.{refused-exactly}

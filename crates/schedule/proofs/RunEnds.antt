@@ -19,9 +19,9 @@ use Rattle.sequential.specs.Words.{nodeCount, arc, marking, graph}
 use Rattle.sequential.specs.Check.{scheduleReply}
 use Rattle.sequential.specs.Demands.{fireAll, Runs}
 use Rattle.schedule.specs.Calls.{nodeAfter, firingFault, runFault, endCounts}
-use Rattle.schedule.proofs.Readable.{known, words}
+use Rattle.graph.proofs.Readable.{known, words}
 use Rattle.sequential.proofs.Entries.{graph-closed, marking-node}
-use Rattle.schedule.proofs.Judged.{accepted-readable}
+use Rattle.judge.proofs.Judged.{accepted-readable}
 use Rattle.sequential.proofs.Demands.{runs-enabled}
 
 module _ (N : PetriNet) (sheet firings : List ℕ) (ok : runFault N sheet firings ≡ none) where

@@ -29,7 +29,7 @@ use Rattle.sequential.specs.Petri.{PetriNet, petriNet, fire, firedCount}
 use Rattle.sequential.specs.Words.{nodeCount, entryCount, entryValue, isNode, entryWithKey, arcKey, arcEntry, arc, count, graph}
 use Rattle.sequential.specs.Check.{scheduleReply}
 use Rattle.sequential.specs.Clauses.{WordsPass}
-use Rattle.schedule.specs.Readable.{Readable}
+use Rattle.graph.specs.Readable.{Readable}
 use Rattle.schedule.specs.Calls.{walker, countFault, walkerFault, stepFault, follows, nextWalker, nodeAfter, firingFault}
 use Rattle.schedule.specs.declared.Walker.{Walker}
 use Rattle.sequential.proofs.Words.{words-in, words-rise, words-fit}

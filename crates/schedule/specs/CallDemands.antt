@@ -19,9 +19,10 @@ use Rattle.sequential.specs.Schedule.{Enabled, Offers}
 use Rattle.sequential.specs.Check.{scheduleReply}
 use Rattle.sequential.specs.Demands.{FirstFault}
 use Rattle.sequential.specs.Bounds.{bounds}
-use Rattle.schedule.specs.Calls.{checkReply, plainCheck, plainRun, CheckDone, boundsReply, BoundsDone, walker, freshWalker, walkerFault, stepFault, follows, fireVerdict, fireReply, nextWalker, FireDone, nodeAfter, runFault, endCounts, runReply, RunDone}
-use Rattle.schedule.specs.declared.CheckAnswer.{CheckAnswer}
-use Rattle.schedule.specs.declared.CheckAnswer.the-variants.{Failed}
+use Rattle.schedule.specs.Calls.{checkReply, plainRun, CheckDone, boundsReply, BoundsDone, walker, freshWalker, walkerFault, stepFault, follows, fireVerdict, fireReply, nextWalker, FireDone, nodeAfter, runFault, endCounts, runReply, RunDone}
+use Rattle.judge.specs.Answer.{plainCheck}
+use Rattle.judge.specs.declared.CheckAnswer.{CheckAnswer}
+use Rattle.judge.specs.declared.CheckAnswer.the-variants.{Failed}
 use Rattle.schedule.specs.declared.Walker.{Walker}
 use Rattle.schedule.specs.declared.RunAnswer.{RunAnswer}
 use Rattle.schedule.specs.declared.RunAnswer.the-variants.{Done}

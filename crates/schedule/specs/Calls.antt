@@ -20,9 +20,8 @@ use Rattle.sequential.specs.Words.{nodeCount, arc, count}
 use Rattle.sequential.specs.Check.{arcCount, awaitCount, andThen, scheduleReply}
 use Rattle.sequential.specs.Bounds.{bounds}
 use Rattle.sequential.specs.Demands.{fireAll}
-use Rattle.schedule.specs.declared.Counts.{Counts}
-use Rattle.schedule.specs.declared.CheckAnswer.{CheckAnswer}
-use Rattle.schedule.specs.declared.CheckAnswer.the-variants.{Passed, Failed}
+use Rattle.judge.specs.Answer.{countsOf, checkAnswer}
+use Rattle.judge.specs.declared.CheckAnswer.{CheckAnswer}
 use Rattle.schedule.specs.declared.Walker.{Walker}
 use Rattle.schedule.specs.declared.Ran.{Ran}
 use Rattle.schedule.specs.declared.RunAnswer.{RunAnswer}
@@ -48,20 +47,8 @@ writtenBy (Refused r) result out = out
 
 -- ---- sheet check: "on acceptance the numbers of nodes, arcs and await nodes"
 
-unfoldable pub countsOf : List ℕ → List ℕ → Counts
-countsOf net sheet = record { nodes = nodeCount sheet; arcs = arcCount (petriNet net) sheet; awaits = awaitCount (petriNet net) sheet }
-
-abbrev pub checkAnswer : Verdict → Counts → CheckAnswer
-checkAnswer Accepted numbers = Passed numbers
-checkAnswer (Refused r) numbers = Failed r
-
 unfoldable pub checkReply : List ℕ → List ℕ → ℕ → CheckAnswer
 checkReply net sheet lent = checkAnswer (andThen (scratchFault lent) (scheduleReply net sheet)) (countsOf net sheet)
-
--- number, kind, position, nodes, arcs, await nodes; 0 where refused
-abbrev pub plainCheck : CheckAnswer → List ℕ
-plainCheck (Passed c) = 0 ∷ 0 ∷ 0 ∷ c .nodes ∷ c .arcs ∷ c .awaits ∷ []
-plainCheck (Failed r) = r .number ∷ kindOf (r .at) ∷ indexOf (r .at) ∷ 0 ∷ 0 ∷ 0 ∷ []
 
 pub record CheckDone (net sheet scratch : List ℕ) (r : CheckAnswer) (scratch′ : List ℕ) : Type 0 where
   pub reply : r ≡ checkReply net sheet (length scratch)

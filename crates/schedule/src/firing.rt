@@ -8,12 +8,11 @@ ghost use Rattle.net.specs.declared.Verdict.the-variants.{Accepted};
 ghost use Rattle.sequential.specs.Petri.{petriNet};
 ghost use Rattle.sequential.specs.Words.{nodeCount, entryCount, entryValue, arcEntry};
 ghost use Rattle.sequential.specs.Check.{scheduleReply};
-ghost use Rattle.schedule.specs.Readable.{Readable};
+ghost use Rattle.graph.specs.Readable.{Readable};
 ghost use Rattle.schedule.specs.Calls.{walkerFault, stepFault, nextWalker, FollowedTo};
 use super::Fired;
 use super::Walker;
 use super::node_rows;
-use super::word_check;
 use net::Position;
 use net::Refusal;
 use net::Verdict;
@@ -51,13 +50,13 @@ fn walker_fault(walker: Walker, net: &[u32], sheet: &[u32]) -> Verdict
     let n = walker.node;
     let counts = walker.counts;
     if sheet[0] <= n {
-        return word_check::refuse(Refusal::NO_SUCH_NODE, Position::Nothing);
+        return net::refuse(Refusal::NO_SUCH_NODE, Position::Nothing);
     }
     let held = node_rows::marking(net, sheet, n);
     let mut p = 0;
     while p < Walker::PLACES {
         if counts[p] != held[p] {
-            return word_check::refuse(Refusal::WRONG_COUNTS, Position::Place(p));
+            return net::refuse(Refusal::WRONG_COUNTS, Position::Place(p));
         }
         p += 1;
     }
@@ -79,7 +78,7 @@ pub(crate) fn step(walker: Walker, net: &[u32], sheet: &[u32], t: u32) -> Fired
     let n = walker.node;
     match arc_entry(net, sheet, n, t) {
         Found::Nothing => Fired {
-            verdict: word_check::refuse(Refusal::NOT_OFFERED, Position::Nothing),
+            verdict: net::refuse(Refusal::NOT_OFFERED, Position::Nothing),
             next: walker,
         },
         Found::At(i) => {
@@ -109,7 +108,7 @@ pub(crate) fn follow(net: &[u32], sheet: &[u32], firings: &[u32]) -> Followed
         match arc_entry(net, sheet, node, firings[i]) {
             Found::Nothing => {
                 return Followed {
-                    verdict: word_check::refuse(Refusal::NOT_OFFERED, Position::Record(i)),
+                    verdict: net::refuse(Refusal::NOT_OFFERED, Position::Record(i)),
                     node,
                 };
             }

@@ -3,7 +3,7 @@ use Prim.Native.Nat.{_≤_, _<_}
 use native.Mathlib.Nat.{mul-le-mul}
 use Rattle.net.specs.Net.{transitionCount}
 use Rattle.sequential.specs.Words.{nodeCount, entryCount}
-use Rattle.schedule.proofs.Readable.{known, words}
+use Rattle.graph.proofs.Readable.{known, words}
 use Rattle.schedule.proofs.Walks.{entry-outside, entry-looked-up}
 use borrow.Author.Needs.{needs}
 use native.Mathlib.Omega.{arith}

@@ -3,7 +3,7 @@ use Rattle.net.specs.Check.{verdictOf}
 use Rattle.net.proofs.Answer.{answer-none, answer-left}
 use Rattle.sequential.specs.Words.{entryCount}
 use Rattle.schedule.specs.Calls.{stepFault}
-use Rattle.schedule.proofs.Readable.{known, words}
+use Rattle.graph.proofs.Readable.{known, words}
 use Rattle.schedule.proofs.Walks.{readable, found-at, found-nothing, entry-low, target-node, walker-node, next-refused, step-refused, step-passes, step-lands}
 use borrow.Author.Needs.{needs}
 use mathlib.Core.Path.{sym, ap, _∙_}
@@ -15,7 +15,7 @@ use Rattle.schedule.proofs.firing.arc_entry.Reads as arc-entry-reads
 use Rattle.schedule.proofs.firing.arc_target.Reads as arc-target-reads
 use Rattle.schedule.proofs.firing.walker_fault.Reads as walker-fault-reads
 use Rattle.schedule.proofs.node_rows.marking.Reads as marking-reads
-use Rattle.schedule.proofs.word_check.refuse.Reads as refuse-reads
+use Rattle.net.proofs.refuse.Reads as refuse-reads
 
 walker-fault-requires : tie.Need-walker-fault-requires
 walker-fault-requires c κs = readable _ _ (c .before .before .pre)

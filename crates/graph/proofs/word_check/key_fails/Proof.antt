@@ -1,0 +1,65 @@
+-- `graph::word_check::key_fails` meets its contract.
+use Prim.Native.Nat.{_+_, _-_, _<_}
+use mathlib.Core.Bool.{true, false, _&&_, _||_}
+use borrow.Author.Tests.{lt-ltb, le-leb, lt-leb}
+use Rattle.table.specs.Table.{keyAt}
+use Rattle.sequential.specs.Words.{nodeCount, entryCount, entryKey}
+use Rattle.sequential.specs.Check.{keyFails}
+use Rattle.sequential.proofs.Words.{shape-out}
+use borrow.Author.Needs.{needs}
+use native.Mathlib.Omega.{arith}
+use mathlib.Core.Path.{_≡_, refl, sym, ap, _∙_}
+use Rattle.graph.proofs.word_check.key_fails.Statement.{statement}
+use Rattle.graph.proofs.word_check.key_fails.Tie as tie
+use Rattle.graph.proofs.word_check.key_fails.Reads as reads
+use Rattle.graph.proofs.word_check.key_fails.Lts as lts
+
+add-key : tie.Need-add-key
+unfolding entryCount
+add-key c = let s = shape-out _ (c .pre .0) in omega arith
+
+mul-key : tie.Need-mul-key
+unfolding entryCount
+mul-key c = let s = shape-out _ (c .pre .0) in omega arith
+
+shared-slice-read-key : tie.Need-shared-slice-read-key
+unfolding entryCount
+shared-slice-read-key c = let s = shape-out _ (c .before .pre .0) in omega arith
+
+returns : tie.Need-returns
+unfolding keyFails entryKey keyAt
+returns c = rw (le-leb _ _ (c .if1 .taken))
+
+returns-2 : tie.Need-returns-2
+unfolding keyFails entryKey keyAt
+returns-2 c = rw (lt-leb _ _ (c .before .if1 .left), (c .if2 .taken))
+
+add-result : tie.Need-add-result
+unfolding entryCount
+add-result c = let s = shape-out _ (c .before .before .before .pre .0) in omega arith
+
+mul-result : tie.Need-mul-result
+unfolding entryCount
+mul-result c = let s = shape-out _ (c .before .before .before .pre .0) in omega arith
+
+shared-slice-read-result : tie.Need-shared-slice-read-result
+unfolding entryCount
+shared-slice-read-result c = let s = shape-out _ (c .before .before .before .before .pre .0) in omega arith
+
+returns-3 : tie.Need-returns-3
+unfolding keyFails entryKey keyAt
+returns-3 c = let l : 0 < (c .before .before .before .before .args .i) = omega arith in let e : 2 + ((c .before .before .before .before .args .i) - 1) ≡ 1 + (c .before .before .before .before .args .i) = omega arith in rw (lt-leb _ _ (c .before .before .if1 .left), lt-ltb _ _ l, e)
+
+pub key-fails-spec : {M : Type 1} → statement M
+key-fails-spec =
+    tie.close
+    (tie.spec
+    add-key
+    mul-key
+    shared-slice-read-key
+    returns
+    returns-2
+    add-result
+    mul-result
+    shared-slice-read-result
+    returns-3)

@@ -1,0 +1,114 @@
+// Refusals 6 to 9: the words of a schedule.
+ghost use mathlib.Core.Path.{_≡_};
+ghost use mathlib.Core.Option.{none};
+ghost use Prim.Native.Nat.{_<_};
+ghost use Rattle.net.specs.Check.{verdictOf, netReply};
+ghost use Rattle.net.specs.declared.Verdict.the-variants.{Accepted};
+ghost use Rattle.sequential.specs.Petri.{petriNet};
+ghost use Rattle.sequential.specs.Words.{entryCount};
+ghost use Rattle.sequential.specs.Check.{sizesPass, shapeFault, keyFails, valueFails, entryFault, wordsFault};
+use net::Position;
+use net::Refusal;
+use net::Verdict;
+
+fn sizes_pass(nodes: u32, entries: u32) -> bool
+    ensures { λ r. ⌜ r ≡ sizesPass nodes entries ⌝ }
+{
+    if nodes < 1 {
+        return false;
+    }
+    if 128 < nodes {
+        return false;
+    }
+    entries <= 4096
+}
+
+// Refusals 6 and 7.
+pub(crate) fn shape_fault(sheet: &[u32]) -> Verdict
+    ensures { λ r. ⌜ r ≡ verdictOf (shapeFault (now (sheet .entry))) ⌝ }
+{
+    if sheet.len() < 2 {
+        return net::refuse(Refusal::SCHEDULE_LENGTH, Position::Nothing);
+    }
+    let entries = sheet[1];
+    if !sizes_pass(sheet[0], entries) {
+        return net::refuse(Refusal::SCHEDULE_SIZE, Position::Nothing);
+    }
+    if sheet.len() != 2 + 2 * (entries as usize) {
+        return net::refuse(Refusal::SCHEDULE_LENGTH, Position::Nothing);
+    }
+    Verdict::Accepted
+}
+
+// Whether the key of entry i is too large, or not above the one before.
+fn key_fails(sheet: &[u32], arcs: u32, limit: u32, i: usize) -> bool
+    requires { ⌜ shapeFault (now sheet) ≡ none ⌝ }
+    requires { ⌜ i < entryCount (now sheet) ⌝ }
+    ensures { λ r. ⌜ r ≡ keyFails (now (sheet .entry)) arcs limit i ⌝ }
+{
+    let key = sheet[2 + i];
+    if limit <= key {
+        return true;
+    }
+    if i == 0 {
+        return false;
+    }
+    key <= sheet[1 + i]
+}
+
+// Whether the value of entry i lies outside the range of its key.
+fn value_fails(sheet: &[u32], arcs: u32, limit: u32, i: usize) -> bool
+    requires { ⌜ shapeFault (now sheet) ≡ none ⌝ }
+    requires { ⌜ i < entryCount (now sheet) ⌝ }
+    ensures { λ r. ⌜ r ≡ valueFails (now (sheet .entry)) arcs limit i ⌝ }
+{
+    let entries = sheet[1] as usize;
+    let value = sheet[2 + entries + i];
+    if sheet[2 + i] < arcs {
+        return sheet[0] <= value;
+    }
+    if value == 0 {
+        return true;
+    }
+    1000000000 < value
+}
+
+// Refusals 8 and 9 at entry i.
+fn entry_fault(sheet: &[u32], arcs: u32, limit: u32, i: usize) -> Verdict
+    requires { ⌜ shapeFault (now sheet) ≡ none ⌝ }
+    requires { ⌜ i < entryCount (now sheet) ⌝ }
+    ensures { λ r. ⌜ r ≡ verdictOf (entryFault (now (sheet .entry)) arcs limit i) ⌝ }
+{
+    if key_fails(sheet, arcs, limit, i) {
+        return net::refuse(Refusal::SCHEDULE_ORDER, Position::Entry(i));
+    }
+    if value_fails(sheet, arcs, limit, i) {
+        return net::refuse(Refusal::SCHEDULE_VALUE, Position::Entry(i));
+    }
+    Verdict::Accepted
+}
+
+// Refusals 6 to 9.
+pub(crate) fn words_fault(net: &[u32], sheet: &[u32]) -> Verdict
+    requires { ⌜ netReply (now net) ≡ Accepted ⌝ }
+    ensures { λ r. ⌜ r ≡ verdictOf (wordsFault (petriNet (now (net .entry))) (now (sheet .entry))) ⌝ }
+{
+    let shape = shape_fault(sheet);
+    if let Verdict::Refused(_) = shape {
+        return shape;
+    }
+    let nodes = sheet[0];
+    let transitions = net::transitions(net);
+    let arcs = nodes * transitions;
+    let limit = nodes * (transitions + net::places(net));
+    let entries = sheet[1] as usize;
+    let mut i = 0;
+    while i < entries {
+        let found = entry_fault(sheet, arcs, limit, i);
+        if let Verdict::Refused(_) = found {
+            return found;
+        }
+        i += 1;
+    }
+    Verdict::Accepted
+}

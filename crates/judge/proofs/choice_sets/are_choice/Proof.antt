@@ -1,0 +1,67 @@
+-- `judge::choice_sets::are_choice` meets its contract: the arcs before the counter are those of the choice set.
+use Prim.Native.Nat.{_-_, _≤_}
+use native.Mathlib.Omega.{arith}
+use mathlib.Core.Bool.{true}
+use mathlib.Core.Path.{_≡_, sym}
+use borrow.Author.Tests.{not-true, not-false}
+use borrow.Author.Needs.{needs}
+use Rattle.scan.specs.Scan.{all}
+use Rattle.scan.proofs.Every.{all-in, all-more, all-fails}
+use Rattle.judge.specs.Rows.{present, presentAsChoice}
+use Rattle.judge.proofs.choice_sets.are_choice.Statement.{statement}
+use Rattle.judge.proofs.choice_sets.are_choice.Tie as tie
+
+abbrev Inv-loop : tie.InvT-loop
+Inv-loop c transitions arcs choices t₀ t = (t ≤ transitions) × (all (presentAsChoice arcs choices c) t ≡ true)
+
+abbrev μ-loop : tie.MeasureT-loop
+μ-loop c transitions arcs choices t₀ t = transitions - t
+
+loop-holds : tie.Need-loop-holds Inv-loop μ-loop
+loop-holds c = (omega arith, all-in _ _ (λ j l. absurd (omega arith)))
+
+mul-if1 : tie.Need-mul-if1 Inv-loop μ-loop
+mul-if1 c = search needs
+
+array-read-if1 : tie.Need-array-read-if1 Inv-loop μ-loop
+array-read-if1 c = search needs
+
+mul-if1-2 : tie.Need-mul-if1-2 Inv-loop μ-loop
+mul-if1-2 c = search needs
+
+array-read-if1-2 : tie.Need-array-read-if1-2 Inv-loop μ-loop
+array-read-if1-2 c = search needs
+
+returns : tie.Need-returns Inv-loop μ-loop
+unfolding presentAsChoice present
+returns c = sym (all-fails _ _ _ (c .before .loop-test .taken) (not-true _ (c .if1 .taken)))
+
+add-t : tie.Need-add-t Inv-loop μ-loop
+add-t c = omega arith
+
+loop-less : tie.Need-loop-less Inv-loop μ-loop
+loop-less c = search needs
+
+loop-again : tie.Need-loop-again Inv-loop μ-loop
+unfolding presentAsChoice present
+loop-again c = (omega arith, all-more _ _ (c .before .before .loop .inv .1) (not-false _ (c .if1 .left)))
+
+returns-2 : tie.Need-returns-2 Inv-loop μ-loop
+returns-2 c = let e : (c .before .loop .t) ≡ (c .before .before .args .transitions) = omega arith in sym (rw e at (c .before .loop .inv .1))
+
+pub are-choice-spec : {M : Type 1} → statement M
+are-choice-spec =
+    tie.close
+    (tie.spec
+    Inv-loop
+    μ-loop
+    loop-holds
+    mul-if1
+    array-read-if1
+    mul-if1-2
+    array-read-if1-2
+    returns
+    add-t
+    loop-less
+    loop-again
+    returns-2)

@@ -1,0 +1,34 @@
+-- `judge::node_check::is_await` meets its contract.
+use Prim.Native.Nat.{_≤_, _<_}
+use Rattle.graph.proofs.Readable.{known}
+use Rattle.judge.proofs.Nodes.{any-source, await-row}
+use borrow.Author.Needs.{needs}
+use native.Mathlib.Omega.{arith}
+use mathlib.Core.Path.{_≡_, refl, sym, ap, _∙_}
+use Rattle.judge.proofs.node_check.is_await.Statement.{statement}
+use Rattle.judge.proofs.node_check.is_await.Tie as tie
+use Rattle.judge.proofs.node_check.is_await.Reads as reads
+use Rattle.judge.proofs.node_check.is_await.Lts as lts
+use Rattle.net.proofs.transitions.Reads as transitions-reads
+use Rattle.judge.proofs.choice_sets.are_choice.Reads as are-choice-reads
+use Rattle.judge.proofs.node_rows.arcs_from.Reads as arcs-from-reads
+
+arcs-from-requires : tie.Need-arcs-from-requires
+arcs-from-requires c κs = ((c .before .before .pre .0), (c .before .before .pre .1 .1 .1))
+
+transitions-requires : tie.Need-transitions-requires
+transitions-requires c κs = search needs
+
+cast-are-choice : tie.Need-cast-are-choice
+cast-are-choice c = let k = known _ _ (c .before .before .before .before .pre .0) in omega (arith, (c .transitions .ensures))
+
+are-choice-requires : tie.Need-are-choice-requires
+are-choice-requires c κs = let k = known _ _ (c .before .before .before .before .pre .0) in omega (arith, (c .transitions .ensures))
+
+returns : tie.Need-returns
+returns c = let k = known _ _ (c .before .before .before .before .before .pre .0) in (c .are-choice .ensures) ∙ await-row _ _ (k .few-transitions) _ _ _ _ (c .before .before .arcs-from .ensures) (c .before .before .before .before .before .pre .1 .0) (c .before .transitions .ensures) (any-source _ (c .before .before .before .before .before .pre .0 .accepted)) _ (c .before .before .before .before .before .pre .1 .1 .0)
+
+pub is-await-spec : {M : Type 1} → statement M
+is-await-spec =
+    tie.close
+    (tie.spec arcs-from-requires transitions-requires cast-are-choice are-choice-requires returns)

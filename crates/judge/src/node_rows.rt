@@ -1,0 +1,26 @@
+// The rows of a node of a readable schedule.
+ghost use mathlib.Core.Path.{_≡_};
+ghost use Prim.Native.Nat.{_<_};
+ghost use Rattle.scan.specs.Scan.{tabulate};
+ghost use Rattle.sequential.specs.Petri.{petriNet};
+ghost use Rattle.sequential.specs.Words.{nodeCount, count};
+ghost use Rattle.graph.specs.Readable.{Readable};
+ghost use Rattle.graph.specs.Rows.{arcCode};
+
+// The counts of node n, 0 from P on.
+pub(crate) fn marking(net: &[u32], sheet: &[u32], n: u32) -> [u32; 32]
+    requires { ⌜ Readable (now net) (now sheet) ⌝ }
+    requires { ⌜ n < nodeCount (now sheet) ⌝ }
+    ensures { λ r. ⌜ r ≡ tabulate (count (petriNet (now (net .entry))) (now (sheet .entry)) n) 32 ⌝ }
+{
+    graph::marking(net, sheet, n)
+}
+
+// By each transition, 1 plus the node that it leads to from n, and 0 where it has no arc.
+pub(crate) fn arcs_from(net: &[u32], sheet: &[u32], n: u32) -> [u32; 32]
+    requires { ⌜ Readable (now net) (now sheet) ⌝ }
+    requires { ⌜ n < nodeCount (now sheet) ⌝ }
+    ensures { λ r. ⌜ r ≡ tabulate (arcCode (petriNet (now (net .entry))) (now (sheet .entry)) n) 32 ⌝ }
+{
+    graph::arcs(net, sheet, n)
+}
