@@ -13,7 +13,7 @@ use borrow.Author.Tests.{lt-ltb, le-ltb, ltb-true, leb-true, le-leb, lt-leb, not
 use Rattle.table.specs.Table.{valueAt, entryOf}
 use Rattle.table.specs.Row.{rowEntry, entryRow, entryCode}
 use Rattle.table.proofs.Table.{entry-some}
-use Rattle.table.proofs.Row.{row-at, row-most, entry-right, entry-past}
+use Rattle.table.proofs.Row.{row-at, row-entry, row-past, entry-right, entry-past}
 use Rattle.automaton.specs.Automaton.{byArc}
 use Rattle.sequential.specs.Petri.{PetriNet}
 use Rattle.sequential.specs.Words.{nodeCount, entryCount, entryKey, entryValue, isNode, entryWithKey, valueOf, arcKeys, arcKey, countKey, arcEntry, arc, count}
@@ -29,7 +29,7 @@ use Rattle.net.specs.declared.Refusal.{Refusal}
 use Rattle.net.specs.declared.Verdict.the-variants.{Accepted, Refused}
 use Rattle.net.proofs.Answer.{answer-none, answer-some}
 use Rattle.net.proofs.Laws.{sizes}
-use Rattle.scan.specs.Scan.{found, tabulate}
+use Rattle.scan.specs.Scan.{found, when, tabulate}
 use Rattle.scan.proofs.Tabulate.{tabulate-ext}
 use Rattle.scan.proofs.First.{found-none}
 use Rattle.scan.proofs.Tests.{and-left, and-right}
@@ -148,6 +148,35 @@ unfolding arcTold
 arc-code sheet none h = refl
 arc-code sheet (some i) h = rw (add-one, lt-ltb (entryValue sheet i) (nodeCount sheet) (h i refl))
 
+-- an entry's value, where there is one
+told-value : (sheet : List ℕ) (o : Option ℕ) → Option·map (entryValue sheet) o ≡ when (ltb 0 (entryCode o)) (valueTold sheet (entryCode o))
+unfolding when
+told-value sheet none = refl
+told-value sheet (some i) = rw (lt-ltb 0 (i + 1) (omega arith), add-one i) (unfold valueTold in refl)
+
+module _ (N : PetriNet) (sheet : List ℕ) (w : WordsPass N sheet) (n : ℕ) (l : n < nodeCount sheet) where
+  abbrev counts : List ℕ
+  counts = entryRow sheet 2 (entryCount sheet) (arcKeys N sheet + n * N .places) (N .places)
+
+  abbrev arcs : List ℕ
+  arcs = entryRow sheet 2 (entryCount sheet) (n * N .transitions) (N .transitions)
+
+  pub count-told : (p : ℕ) → p < 32 → valueTold sheet (getD counts p 0) ≡ count N sheet n p
+  unfolding count isNode entryWithKey countKey
+  count-told p h = elim (decLt p (N .places)) [
+    | yes m ↦ rw (row-entry sheet 2 (entryCount sheet) (arcKeys N sheet + n * N .places) (N .places) (words-rise N sheet w) (words-fit N sheet w) p h m, lt-ltb _ _ l, lt-ltb _ _ m)
+        (value-code sheet (entryOf sheet 2 (entryCount sheet) (arcKeys N sheet + n * N .places + p)))
+    | no m ↦ rw (row-past sheet 2 (entryCount sheet) (arcKeys N sheet + n * N .places) (N .places) p h (omega arith), lt-ltb _ _ l, le-ltb p (N .places) (omega arith)) (unfold valueTold in refl)
+  ]
+
+  pub arc-of-told : (t : ℕ) → t < 32 → arc N sheet n t ≡ when (ltb 0 (getD arcs t 0)) (valueTold sheet (getD arcs t 0))
+  unfolding arc arcEntry isNode entryWithKey arcKey
+  arc-of-told t h = elim (decLt t (N .transitions)) [
+    | yes m ↦ rw (row-entry sheet 2 (entryCount sheet) (n * N .transitions) (N .transitions) (words-rise N sheet w) (words-fit N sheet w) t h m, lt-ltb _ _ l, lt-ltb _ _ m)
+        (told-value sheet (entryOf sheet 2 (entryCount sheet) (n * N .transitions + t)))
+    | no m ↦ rw (row-past sheet 2 (entryCount sheet) (n * N .transitions) (N .transitions) t h (omega arith), lt-ltb _ _ l, le-ltb t (N .transitions) (omega arith)) (unfold when in refl)
+  ]
+
 module _ (net sheet : List ℕ) (r : Readable net sheet) (n : ℕ) (l : n < nodeCount sheet) where
   w : WordsPass (petriNet net) sheet
   w = words net sheet r
@@ -158,14 +187,7 @@ module _ (net sheet : List ℕ) (r : Readable net sheet) (n : ℕ) (l : n < node
       has-row-in net sheet n (record { few-places = s .few-places; few-transitions = s .few-transitions; shape = w .shape; node = l })
 
   count-right : (p : ℕ) → p < 32 → countInRow net sheet n p ≡ count (petriNet net) sheet n p
-  unfolding countInRow count isNode entryWithKey countKey arcKeys
-  count-right p h =
-      let first = nodeCount sheet * transitionCount net + n * placeCount net in
-      elim (decLt p (placeCount net)) [
-        | yes m ↦ rw (entry-right sheet 2 (entryCount sheet) first (placeCount net) (words-rise _ sheet w) (words-fit _ sheet w) p m, lt-ltb n (nodeCount sheet) l, lt-ltb p (placeCount net) m)
-            (value-code sheet (entryOf sheet 2 (entryCount sheet) (first + p)))
-        | no m ↦ rw (entry-past sheet 2 (entryCount sheet) first (placeCount net) p (omega arith), lt-ltb n (nodeCount sheet) l, le-ltb p (placeCount net) (omega arith)) (unfold valueTold in refl)
-      ]
+  count-right p h = sym (count-in-row net sheet n p h) ∙ unfold arcKeys in (count-told (petriNet net) sheet w n l p h)
 
   arc-right : (t : ℕ) → t < 32 → arcInRow net sheet n t ≡ arcCode (petriNet net) sheet n t
   unfolding arcInRow arcCode arc arcEntry isNode entryWithKey arcKey

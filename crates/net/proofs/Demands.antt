@@ -15,7 +15,7 @@ use Rattle.scan.proofs.Every.{all-in, all-out, any-in, any-out}
 use Rattle.net.specs.Refusal.{refusal}
 use Rattle.net.specs.Net.{placeCount, transitionCount, entryCount, takesNothing, isSource, hasSource}
 use Rattle.net.specs.Check.{sizesPass, shapeFault, entryFault, entriesFault, netFault, verdictOf, netReply}
-use Rattle.net.specs.Demands.{SizesPass, EntryPasses, ShapePasses, HasSource, IsNet, FirstFault, under-three, size, ragged, order, weight, no-source, AcceptedExactly, RefusedExactly, AccessorsMean}
+use Rattle.net.specs.Demands.{SizesPass, EntryPasses, ShapePasses, HasSource, IsNet, FirstFault, under-three, size, wrong-length, order, weight, no-source, AcceptedExactly, RefusedExactly, AccessorsMean}
 use Rattle.net.specs.declared.Position.the-variants.{Nothing}
 use Rattle.net.specs.declared.Refusal.{Refusal}
 use Rattle.net.proofs.Answer.{answer-none, answer-some}
@@ -58,7 +58,7 @@ module _ (net : List ℕ) where
   told e f = subst (FirstFault net) e f
 
   length-fault : (r : Refusal) → 3 ≤ length net → SizesPass net → when (not (eqb (length net) (3 + 2 * entryCount net))) (refusal 1 Nothing) ≡ some r → FirstFault net r
-  length-fault r l s h = let (t, e) = when-some _ _ _ h in told e (ragged l s (eqb-false _ _ (not-true _ t)))
+  length-fault r l s h = let (t, e) = when-some _ _ _ h in told e (wrong-length l s (eqb-false _ _ (not-true _ t)))
 
   size-fault : (r : Refusal) → 3 ≤ length net → when (not (sizesPass (placeCount net) (transitionCount net) (entryCount net))) (refusal 2 Nothing) ≡ some r → FirstFault net r
   size-fault r l h = let (t, e) = when-some _ _ _ h in told e (size l (λ s. true-false _ (sizes-in net s) (not-true _ t)))
@@ -106,7 +106,7 @@ module _ (net : List ℕ) where
   first-fault r (under-three l) = shape-found _ (orElse-hit _ _ _ (when-hit _ _ (lt-ltb _ _ l)))
   first-fault r (size l n) =
       shape-found _ (orElse-next _ _ (when-miss _ _ (le-ltb _ _ l)) ∙ orElse-hit _ _ _ (when-hit _ _ (ap not (not-true→false _ (λ t. n (sizes-out net t))))))
-  first-fault r (ragged l s n) =
+  first-fault r (wrong-length l s n) =
       shape-found _ (orElse-next _ _ (when-miss _ _ (le-ltb _ _ l)) ∙ orElse-next _ _ (when-miss _ _ (ap not (sizes-in net s))) ∙ when-hit _ _ (ap not (ne-eqb _ _ n)))
   first-fault r (order s i l b n) = entry-found _ s i l b (orElse-hit _ _ _ (when-hit _ _ (not-false→true _ (λ t. n (key-out net i t)))))
   first-fault r (weight s i l b k n) =

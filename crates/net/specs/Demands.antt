@@ -51,7 +51,7 @@ pub record IsNet (net : List ℕ) : Type 0 where
 pub data FirstFault (net : List ℕ) : Refusal → Type 0 where
   under-three : length net < 3 → FirstFault net (refusal 1 Nothing)
   size : 3 ≤ length net → (SizesPass net → ⊥) → FirstFault net (refusal 2 Nothing)
-  ragged : 3 ≤ length net → SizesPass net → (length net ≡ 3 + 2 * entryCount net → ⊥) → FirstFault net (refusal 1 Nothing)
+  wrong-length : 3 ≤ length net → SizesPass net → (length net ≡ 3 + 2 * entryCount net → ⊥) → FirstFault net (refusal 1 Nothing)
   order : ShapePasses net → (i : ℕ) → i < entryCount net → ((j : ℕ) → j < i → EntryPasses net j) → (KeyPasses net i → ⊥) → FirstFault net (refusal 3 (Entry i))
   weight : ShapePasses net → (i : ℕ) → i < entryCount net → ((j : ℕ) → j < i → EntryPasses net j) → KeyPasses net i → (WeightPasses net i → ⊥)
       → FirstFault net (refusal 4 (Entry i))

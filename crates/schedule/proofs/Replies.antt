@@ -18,7 +18,7 @@ use Rattle.scan.proofs.Tabulate.{tabulate-length}
 use Rattle.net.specs.Refusal.{refusal, numberOf, plainOf}
 use Rattle.net.specs.Check.{verdictOf, netReply}
 use Rattle.net.specs.Demands as net-demands
-use Rattle.net.specs.Demands.{under-three, size as net-size, ragged as net-ragged, order as net-order, weight, no-source}
+use Rattle.net.specs.Demands.{under-three, size as net-size, wrong-length as net-ragged, order as net-order, weight, no-source}
 use Rattle.net.specs.declared.Position.the-variants.{Nothing}
 use Rattle.net.specs.declared.Refusal.{Refusal}
 use Rattle.net.specs.declared.Verdict.{Verdict}
@@ -27,10 +27,10 @@ use Rattle.net.proofs.Answer.{answer-some}
 use Rattle.net.proofs.Demands as net-proofs
 use Rattle.sequential.specs.Petri.{PetriNet, petriNet, initial, firedCount, fire}
 use Rattle.sequential.specs.Check.{andThen, scheduleReply}
-use Rattle.sequential.specs.Demands.{FirstFault, in-net, in-sheet, SheetFault, under-two, size, ragged, order, value, wrong-start, dead-end, torn-choice, busy-root, starved-arc, wrong-landing, stray-node, no-way-home, fireAll}
+use Rattle.sequential.specs.Demands.{FirstFault, in-net, in-sheet, SheetFault, under-two, size, wrong-length, order, value, wrong-start, no-arc, not-one-choice-set, root-not-await, not-enabled, wrong-target, not-reached, no-path-to-await, fireAll}
 use Rattle.schedule.specs.Calls.{scratchFault, scratchAfter, outputFault, writtenBy, stepFault, firingFault, runFault, runAnswer, plainRun, endCounts}
 use Rattle.judge.specs.Answer.{checkAnswer, plainCheck}
-use Rattle.schedule.specs.CallDemands.{StepFails, no-such-node, walker-astray, not-offered, numberIn, PlainRight, ScratchLeft, OutputLeft, Alike}
+use Rattle.schedule.specs.CallDemands.{StepFails, no-such-node, wrong-counts, not-offered, numberIn, PlainRight, ScratchLeft, OutputLeft, Alike}
 use Rattle.judge.specs.declared.Counts.{Counts}
 use Rattle.schedule.specs.declared.Walker.{Walker}
 use Rattle.schedule.specs.declared.Ran.{Ran}
@@ -54,17 +54,17 @@ net-number net r h = net-fault-number net r (net-proofs.refused-exactly net r .0
 sheet-fault-number : (N : PetriNet) (sheet : List ℕ) (r : Refusal) → SheetFault N sheet r → (1 ≤ r .number) × (r .number ≤ 17)
 sheet-fault-number N sheet r (under-two a) = (omega arith, omega arith)
 sheet-fault-number N sheet r (size a b) = (omega arith, omega arith)
-sheet-fault-number N sheet r (ragged a b c) = (omega arith, omega arith)
+sheet-fault-number N sheet r (wrong-length a b c) = (omega arith, omega arith)
 sheet-fault-number N sheet r (order a i b c d) = (omega arith, omega arith)
 sheet-fault-number N sheet r (value a i b c d e) = (omega arith, omega arith)
 sheet-fault-number N sheet r (wrong-start a p b c d) = (omega arith, omega arith)
-sheet-fault-number N sheet r (dead-end a b n c d e) = (omega arith, omega arith)
-sheet-fault-number N sheet r (torn-choice a b n c d t e f) = (omega arith, omega arith)
-sheet-fault-number N sheet r (busy-root a b c d) = (omega arith, omega arith)
-sheet-fault-number N sheet r (starved-arc a b c d i e f g h) = (omega arith, omega arith)
-sheet-fault-number N sheet r (wrong-landing a b c d i e f g h k) = (omega arith, omega arith)
-sheet-fault-number N sheet r (stray-node a b c d e n f g h) = (omega arith, omega arith)
-sheet-fault-number N sheet r (no-way-home a b c d e f n g h k) = (omega arith, omega arith)
+sheet-fault-number N sheet r (no-arc a b n c d e) = (omega arith, omega arith)
+sheet-fault-number N sheet r (not-one-choice-set a b n c d t e f) = (omega arith, omega arith)
+sheet-fault-number N sheet r (root-not-await a b c d) = (omega arith, omega arith)
+sheet-fault-number N sheet r (not-enabled a b c d i e f g h) = (omega arith, omega arith)
+sheet-fault-number N sheet r (wrong-target a b c d i e f g h k) = (omega arith, omega arith)
+sheet-fault-number N sheet r (not-reached a b c d e n f g h) = (omega arith, omega arith)
+sheet-fault-number N sheet r (no-path-to-await a b c d e f n g h k) = (omega arith, omega arith)
 
 fault-number : (net sheet : List ℕ) (r : Refusal) → FirstFault net sheet r → (1 ≤ r .number) × (r .number ≤ 17)
 fault-number net sheet r (in-net x e) = let (a, b) = net-number net x e in (a, omega arith)
@@ -95,7 +95,7 @@ own-output lent needed = own-some _ (λ r e. let q : 22 ≡ r .number = ap (λ (
 
 step-number : (N : PetriNet) (sheet : List ℕ) (w : Walker) (t : ℕ) (r : Refusal) → StepFails N sheet w t r → (1 ≤ r .number) × (r .number ≡ 21 → ⊥)
 step-number N sheet w t r (no-such-node a) = (omega arith, λ z. omega arith)
-step-number N sheet w t r (walker-astray a p b c d) = (omega arith, λ z. omega arith)
+step-number N sheet w t r (wrong-counts a p b c d) = (omega arith, λ z. omega arith)
 step-number N sheet w t r (not-offered a b c) = (omega arith, λ z. omega arith)
 
 pub own-step : (N : PetriNet) (sheet : List ℕ) (w : Walker) (t : ℕ) → Own (verdictOf (stepFault N sheet w t))

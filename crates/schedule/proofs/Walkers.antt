@@ -26,7 +26,7 @@ use Rattle.sequential.specs.Schedule.{Enabled, Offers}
 use Rattle.sequential.specs.Check.{scheduleReply}
 use Rattle.sequential.specs.Demands.{Accepts}
 use Rattle.schedule.specs.Calls.{freshWalker, countFault, walkerFault, stepFault, follows}
-use Rattle.schedule.specs.CallDemands.{HoldsCount, StepPasses, StepFails, no-such-node, walker-astray, not-offered, HandedBack}
+use Rattle.schedule.specs.CallDemands.{HoldsCount, StepPasses, StepFails, no-such-node, wrong-counts, not-offered, HandedBack}
 use Rattle.schedule.specs.declared.Walker.{Walker}
 use Rattle.sequential.proofs.Entries.{graph-closed, marking-at}
 use Rattle.sequential.proofs.Faults.{unless-none, unless-miss, unless-some, unless-hit}
@@ -101,12 +101,12 @@ module _ (N : PetriNet) (sheet : List ℕ) (w : Walker) where
       high (a, e) =
           let (p, l, f, before) = first-at (countFault N sheet w) 32 r e in
           let (x, q) = count-some p r f in
-          subst (StepFails N sheet w t) q (walker-astray (leb-false _ _ (when-none _ _ a)) p l (λ j k. count-none j .0 (before j k)) x)
+          subst (StepFails N sheet w t) q (wrong-counts (leb-false _ _ (when-none _ _ a)) p l (λ j k. count-none j .0 (before j k)) x)
 
   fails-step : (t : ℕ) (r : Refusal) → StepFails N sheet w t r → stepFault N sheet w t ≡ some r
   unfolding stepFault walkerFault
   fails-step t r (no-such-node l) = orElse-hit _ _ _ (orElse-hit _ _ _ (when-hit _ _ (le-leb _ _ l)))
-  fails-step t r (walker-astray l p k before x) =
+  fails-step t r (wrong-counts l p k before x) =
       orElse-hit _ _ _ (orElse-next _ _ (when-miss _ _ (lt-leb _ _ l))
       ∙ first-hit (countFault N sheet w) p _ (first-empty (countFault N sheet w) p (λ j m. count-none j .1 (before j m))) (count-hit p x) 32 k)
   fails-step t r (not-offered l h x) =

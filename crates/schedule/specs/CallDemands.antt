@@ -51,7 +51,7 @@ pub data StepFails (N : PetriNet) (sheet : List ℕ) (w : Walker) (t : ℕ) : Re
   -- "the walker's node is V or more"
   no-such-node : nodeCount sheet ≤ w .node → StepFails N sheet w t (refusal 18 Nothing)
   -- "one of the walker's 32 counts is not its node's, or from P on is not 0"
-  walker-astray : w .node < nodeCount sheet → (p : ℕ) → p < 32 → ((q : ℕ) → q < p → HoldsCount N sheet w q)
+  wrong-counts : w .node < nodeCount sheet → (p : ℕ) → p < 32 → ((q : ℕ) → q < p → HoldsCount N sheet w q)
       → (HoldsCount N sheet w p → ⊥) → StepFails N sheet w t (refusal 19 (Place p))
   -- "the transition has no arc at the node"
   not-offered : w .node < nodeCount sheet → ((p : ℕ) → p < 32 → HoldsCount N sheet w p)

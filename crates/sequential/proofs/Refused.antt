@@ -17,7 +17,7 @@ use Rattle.sequential.specs.Words.{nodeCount, entryCount, graph}
 use Rattle.sequential.specs.Schedule.{offersSome, Offers, Await, OneChoiceSet}
 use Rattle.sequential.specs.Check.{startFault, nodeFault, rootFault, isArc, arcFault, reachFault, returnFault, graphFault, scheduleFault, wordsFault}
 use Rattle.sequential.specs.Clauses.{WordsPass, Starts, Chooses, IsArc, ArcPasses, ArcsPass, Reached}
-use Rattle.sequential.specs.Demands.{SheetFault, under-two, size, ragged, order, value, wrong-start, dead-end, torn-choice, busy-root, starved-arc, wrong-landing, stray-node, no-way-home}
+use Rattle.sequential.specs.Demands.{SheetFault, under-two, size, wrong-length, order, value, wrong-start, no-arc, not-one-choice-set, root-not-await, not-enabled, wrong-target, not-reached, no-path-to-await}
 use Rattle.sequential.proofs.Words.{words-out, words-in}
 use Rattle.sequential.proofs.Entries.{graph-closed}
 use Rattle.sequential.proofs.Clauses.{some-out, some-in, one-out, one-in, await↔}
@@ -41,10 +41,10 @@ module _ (N : PetriNet) (sheet : List ℕ) (T : 0 < N .transitions) (w : WordsPa
       → nodeFault N sheet n ≡ some r → SheetFault N sheet r
   unfolding nodeFault
   node-first r s n l b h =
-      ⊎-elim (λ a. let (t, e) = when-some _ _ _ a in told N sheet e (dead-end w s n l b (λ u o. true-false _ (node-offers n u o) (not-true _ t))))
+      ⊎-elim (λ a. let (t, e) = when-some _ _ _ a in told N sheet e (no-arc w s n l b (λ u o. true-false _ (node-offers n u o) (not-true _ t))))
       (λ (a, c). let (u, k, o) = some-out N (graph N sheet) n (not-false _ (when-none _ _ a)) in
       let (t, e) = when-some _ _ _ c in
-      told N sheet e (torn-choice w s n l b u o (λ x. true-false _ (one-in N (graph N sheet) n x) (not-true _ t)))) (orElse-cases _ _ r h)
+      told N sheet e (not-one-choice-set w s n l b u o (λ x. true-false _ (one-in N (graph N sheet) n x) (not-true _ t)))) (orElse-cases _ _ r h)
 
   arc-first : (r : Refusal) → Starts N sheet → Chooses N sheet → Await N (graph N sheet) 0
       → (i : ℕ) → i < entryCount sheet → ((j : ℕ) → j < i → ArcPasses N sheet j) → arcFault N sheet i ≡ some r → SheetFault N sheet r
@@ -52,9 +52,9 @@ module _ (N : PetriNet) (sheet : List ℕ) (T : 0 < N .transitions) (w : WordsPa
     where
       arc-at : IsArc N sheet i → SheetFault N sheet r
       arc-at k =
-          ⊎-elim (λ x. let (t, e) = when-some _ _ _ x in told N sheet e (starved-arc w s c a i l b k (arc-starved N sheet i (not-true _ t))))
+          ⊎-elim (λ x. let (t, e) = when-some _ _ _ x in told N sheet e (not-enabled w s c a i l b k (arc-starved N sheet i (not-true _ t))))
           (λ (x, y). let (t, e) = when-some _ _ _ y in
-          told N sheet e (wrong-landing w s c a i l b k (unless-none _ _ (arcEnabled↔ N sheet i) x) (arc-misses N sheet i (not-true _ t))))
+          told N sheet e (wrong-target w s c a i l b k (unless-none _ _ (arcEnabled↔ N sheet i) x) (arc-misses N sheet i (not-true _ t))))
           (orElse-cases _ _ r (sym (arc-fault N sheet i k) ∙ h))
 
   -- ---- what is found in the graph, check after check
@@ -79,13 +79,13 @@ module _ (N : PetriNet) (sheet : List ℕ) (T : 0 < N .transitions) (w : WordsPa
   return-first r s c a f g h =
       let (n, l, e, b) = first-at (returnFault N sheet) (nodeCount sheet) r h in
       let (x, q) = unless-some _ _ (leads↔ N sheet T w n l) r e in
-      told N sheet q (no-way-home w s c a f g n l (λ m k. return↔ N sheet T w m (omega arith) .0 (b m k)) x)
+      told N sheet q (no-path-to-await w s c a f g n l (λ m k. return↔ N sheet T w m (omega arith) .0 (b m k)) x)
 
   reach-first : (r : Refusal) → Starts N sheet → Chooses N sheet → Await N (graph N sheet) 0 → ArcsPass N sheet → fromReach ≡ some r → SheetFault N sheet r
   unfolding reachFault
   reach-first r s c a f h =
       ⊎-elim (λ (n, l, e, b). let (x, q) = unless-some _ _ (reached↔ N sheet T w n) r e in
-      told N sheet q (stray-node w s c a f n l (λ m k. reach↔ N sheet T w m .0 (b m k)) x))
+      told N sheet q (not-reached w s c a f n l (λ m k. reach↔ N sheet T w m .0 (b m k)) x))
       (λ (b, k). return-first r s c a f (λ n l. reach↔ N sheet T w n .0 (b n l)) k) (scan-cases (reachFault N sheet) (nodeCount sheet) _ r h)
 
   arcs-first : (r : Refusal) → Starts N sheet → Chooses N sheet → Await N (graph N sheet) 0 → fromArcs ≡ some r → SheetFault N sheet r
@@ -96,7 +96,7 @@ module _ (N : PetriNet) (sheet : List ℕ) (T : 0 < N .transitions) (w : WordsPa
   root-first : (r : Refusal) → Starts N sheet → Chooses N sheet → fromRoot ≡ some r → SheetFault N sheet r
   unfolding rootFault
   root-first r s c h =
-      ⊎-elim (λ e. let (x, q) = unless-some _ _ (await↔ N (graph N sheet) 0) r e in told N sheet q (busy-root w s c x))
+      ⊎-elim (λ e. let (x, q) = unless-some _ _ (await↔ N (graph N sheet) 0) r e in told N sheet q (root-not-await w s c x))
       (λ (e, k). arcs-first r s c (root↔ N sheet .0 e) k) (orElse-cases _ _ r h)
 
   nodes-first : (r : Refusal) → Starts N sheet → fromNodes ≡ some r → SheetFault N sheet r
@@ -147,28 +147,28 @@ module _ (N : PetriNet) (sheet : List ℕ) (T : 0 < N .transitions) where
   unfolding graphFault startFault nodeFault rootFault reachFault returnFault
   first-fault r (under-two l) = in-words _ (under-two-found N sheet l)
   first-fault r (size l n) = in-words _ (size-found N sheet l n)
-  first-fault r (ragged l s n) = in-words _ (ragged-found N sheet l s n)
+  first-fault r (wrong-length l s n) = in-words _ (ragged-found N sheet l s n)
   first-fault r (order s i l b n) = in-words _ (order-found N sheet s i l b n)
   first-fault r (value s i l b k n) = in-words _ (value-found N sheet s i l b k n)
   first-fault r (wrong-start w p l b x) =
       in-graph _ w (orElse-hit _ _ _ (scan-hit (startFault N sheet) _ p _ l (λ q m. start↔ N sheet q .1 (b q m)) (unless-hit _ _ (holds↔ N sheet p) x)))
-  first-fault r (dead-end w s n l b x) =
+  first-fault r (no-arc w s n l b x) =
       in-graph _ w (after-start N sheet T w s ∙ orElse-hit _ _ _ (scan-hit (nodeFault N sheet) _ n _ l (λ m k. node↔ N sheet m .1 (b m k))
       (orElse-hit _ _ _ (when-hit _ _ (ap not (not-true→false _ (λ e. let (t, k, o) = some-out N (graph N sheet) n e in x t o)))))))
-  first-fault r (torn-choice w s n l b t o x) =
+  first-fault r (not-one-choice-set w s n l b t o x) =
       let q = node-offers N sheet T w n t o in
       in-graph _ w (after-start N sheet T w s ∙ orElse-hit _ _ _ (scan-hit (nodeFault N sheet) _ n _ l (λ m k. node↔ N sheet m .1 (b m k))
       (orElse-next _ _ (when-miss _ _ (ap not q)) ∙ when-hit _ _ (ap not (not-true→false _ (λ e. x (one-out N (graph N sheet) n q e)))))))
-  first-fault r (busy-root w s c x) = in-graph _ w (after-nodes N sheet T w s c ∙ orElse-hit _ _ _ (unless-hit _ _ (await↔ N (graph N sheet) 0) x))
-  first-fault r (starved-arc w s c a i l b k (p, m, q)) =
+  first-fault r (root-not-await w s c x) = in-graph _ w (after-nodes N sheet T w s c ∙ orElse-hit _ _ _ (unless-hit _ _ (await↔ N (graph N sheet) 0) x))
+  first-fault r (not-enabled w s c a i l b k (p, m, q)) =
       in-graph _ w (after-root N sheet T w s c a ∙ orElse-hit _ _ _ (scan-hit (arcFault N sheet) _ i _ l (λ j m. arc↔ N sheet j .1 (b j m))
       (arc-fault N sheet i k ∙ orElse-hit _ _ _ (unless-hit _ _ (arcEnabled↔ N sheet i) (λ h. omega (arith, h p m))))))
-  first-fault r (wrong-landing w s c a i l b k e (p, m, q)) =
+  first-fault r (wrong-target w s c a i l b k e (p, m, q)) =
       in-graph _ w (after-root N sheet T w s c a ∙ orElse-hit _ _ _ (scan-hit (arcFault N sheet) _ i _ l (λ j m. arc↔ N sheet j .1 (b j m))
       (arc-fault N sheet i k ∙ orElse-next _ _ (unless-miss _ _ (arcEnabled↔ N sheet i) e) ∙ unless-hit _ _ (arcLands↔ N sheet i) (λ h. q (h p m)))))
-  first-fault r (stray-node w s c a f n l b x) =
+  first-fault r (not-reached w s c a f n l b x) =
       in-graph _ w (after-arcs N sheet T w s c a f ∙ orElse-hit _ _ _ (scan-hit (reachFault N sheet) _ n _ l (λ m k. reach↔ N sheet T w m .1 (b m k))
       (unless-hit _ _ (reached↔ N sheet T w n) x)))
-  first-fault r (no-way-home w s c a f g n l b x) =
+  first-fault r (no-path-to-await w s c a f g n l b x) =
       in-graph _ w (after-reach N sheet T w s c a f g ∙ scan-hit (returnFault N sheet) _ n _ l (λ m k. return↔ N sheet T w m (omega arith) .1 (b m k))
       (unless-hit _ _ (leads↔ N sheet T w n l) x))

@@ -18,7 +18,7 @@ use Rattle.sequential.specs.Petri.{PetriNet}
 use Rattle.sequential.specs.Words.{nodeCount, entryCount, arcKeys, keyLimit}
 use Rattle.sequential.specs.Check.{sizesPass, shapeFault, entryFault, wordsFault}
 use Rattle.sequential.specs.Clauses.{SizesPass, ShapePasses, KeyPasses, ValuePasses, EntryPasses}
-use Rattle.sequential.specs.Demands.{SheetFault, under-two, size, ragged, order, value}
+use Rattle.sequential.specs.Demands.{SheetFault, under-two, size, wrong-length, order, value}
 use Rattle.sequential.proofs.Words.{sizes-out, sizes-in, shape-out, shape-in, key-out, key-in, value-out, value-in, entry-out, entry-in}
 use Rattle.sequential.proofs.Faults.{unless-none, unless-miss, unless-some, unless-hit}
 
@@ -44,7 +44,7 @@ module _ (N : PetriNet) (sheet : List ℕ) where
       ⊎-elim (λ a. let (t, e) = when-some _ _ _ a in told e (under-two (ltb-true _ _ t)))
       (λ (a, h′). let l : 2 ≤ length sheet = ltb-false _ _ (when-none _ _ a) in
       ⊎-elim (λ b. let (n, e) = unless-some _ _ sizes↔ r b in told e (size l n))
-      (λ (b, c). let (n, e) = unless-some _ _ whole↔ r c in told e (ragged l (unless-none _ _ sizes↔ b) n)) (orElse-cases _ _ r h′))
+      (λ (b, c). let (n, e) = unless-some _ _ whole↔ r c in told e (wrong-length l (unless-none _ _ sizes↔ b) n)) (orElse-cases _ _ r h′))
       (orElse-cases _ _ r h)
 
   entry-first : (r : Refusal) → ShapePasses sheet → (i : ℕ) → i < entryCount sheet → ((j : ℕ) → j < i → EntryPasses N sheet j)

@@ -39,28 +39,28 @@ AcceptedExactly = (net sheet : List ℕ) → (scheduleReply net sheet ≡ Accept
 pub data SheetFault (N : PetriNet) (sheet : List ℕ) : Refusal → Type 0 where
   under-two : length sheet < 2 → SheetFault N sheet (refusal 6 Nothing)
   size : 2 ≤ length sheet → (SizesPass sheet → ⊥) → SheetFault N sheet (refusal 7 Nothing)
-  ragged : 2 ≤ length sheet → SizesPass sheet → (length sheet ≡ 2 + 2 * entryCount sheet → ⊥) → SheetFault N sheet (refusal 6 Nothing)
+  wrong-length : 2 ≤ length sheet → SizesPass sheet → (length sheet ≡ 2 + 2 * entryCount sheet → ⊥) → SheetFault N sheet (refusal 6 Nothing)
   order : ShapePasses sheet → (i : ℕ) → i < entryCount sheet → ((j : ℕ) → j < i → EntryPasses N sheet j)
       → (KeyPasses sheet (keyLimit N sheet) i → ⊥) → SheetFault N sheet (refusal 8 (Entry i))
   value : ShapePasses sheet → (i : ℕ) → i < entryCount sheet → ((j : ℕ) → j < i → EntryPasses N sheet j)
       → KeyPasses sheet (keyLimit N sheet) i → (ValuePasses sheet (arcKeys N sheet) i → ⊥) → SheetFault N sheet (refusal 9 (Entry i))
   wrong-start : WordsPass N sheet → (p : ℕ) → p < N .places → ((q : ℕ) → q < p → HoldsStart N sheet q)
       → (HoldsStart N sheet p → ⊥) → SheetFault N sheet (refusal 10 (Place p))
-  dead-end : WordsPass N sheet → Starts N sheet → (n : ℕ) → n < nodeCount sheet → ((m : ℕ) → m < n → OneChoiceSet N (graph N sheet) m)
+  no-arc : WordsPass N sheet → Starts N sheet → (n : ℕ) → n < nodeCount sheet → ((m : ℕ) → m < n → OneChoiceSet N (graph N sheet) m)
       → ((t : ℕ) → Offers N (graph N sheet) n t → ⊥) → SheetFault N sheet (refusal 11 (Node n))
-  torn-choice : WordsPass N sheet → Starts N sheet → (n : ℕ) → n < nodeCount sheet → ((m : ℕ) → m < n → OneChoiceSet N (graph N sheet) m)
+  not-one-choice-set : WordsPass N sheet → Starts N sheet → (n : ℕ) → n < nodeCount sheet → ((m : ℕ) → m < n → OneChoiceSet N (graph N sheet) m)
       → (t : ℕ) → Offers N (graph N sheet) n t → (OneChoiceSet N (graph N sheet) n → ⊥) → SheetFault N sheet (refusal 12 (Node n))
-  busy-root : WordsPass N sheet → Starts N sheet → Chooses N sheet → (Await N (graph N sheet) 0 → ⊥) → SheetFault N sheet (refusal 13 (Node 0))
-  starved-arc : WordsPass N sheet → Starts N sheet → Chooses N sheet → Await N (graph N sheet) 0
+  root-not-await : WordsPass N sheet → Starts N sheet → Chooses N sheet → (Await N (graph N sheet) 0 → ⊥) → SheetFault N sheet (refusal 13 (Node 0))
+  not-enabled : WordsPass N sheet → Starts N sheet → Chooses N sheet → Await N (graph N sheet) 0
       → (i : ℕ) → i < entryCount sheet → ((j : ℕ) → j < i → ArcPasses N sheet j)
       → IsArc N sheet i → ArcStarved N sheet i → SheetFault N sheet (refusal 14 (Entry i))
-  wrong-landing : WordsPass N sheet → Starts N sheet → Chooses N sheet → Await N (graph N sheet) 0
+  wrong-target : WordsPass N sheet → Starts N sheet → Chooses N sheet → Await N (graph N sheet) 0
       → (i : ℕ) → i < entryCount sheet → ((j : ℕ) → j < i → ArcPasses N sheet j)
       → IsArc N sheet i → ArcEnabled N sheet i → ArcMisses N sheet i → SheetFault N sheet (refusal 15 (Entry i))
-  stray-node : WordsPass N sheet → Starts N sheet → Chooses N sheet → Await N (graph N sheet) 0 → ArcsPass N sheet
+  not-reached : WordsPass N sheet → Starts N sheet → Chooses N sheet → Await N (graph N sheet) 0 → ArcsPass N sheet
       → (n : ℕ) → n < nodeCount sheet → ((m : ℕ) → m < n → Reachable (graph N sheet) m)
       → (Reachable (graph N sheet) n → ⊥) → SheetFault N sheet (refusal 16 (Node n))
-  no-way-home : WordsPass N sheet → Starts N sheet → Chooses N sheet → Await N (graph N sheet) 0 → ArcsPass N sheet → Reached N sheet
+  no-path-to-await : WordsPass N sheet → Starts N sheet → Chooses N sheet → Await N (graph N sheet) 0 → ArcsPass N sheet → Reached N sheet
       → (n : ℕ) → n < nodeCount sheet → ((m : ℕ) → m < n → ToAwait N (graph N sheet) m)
       → (ToAwait N (graph N sheet) n → ⊥) → SheetFault N sheet (refusal 17 (Node n))
 
