@@ -1,0 +1,117 @@
+-- Tables of leaders: a loop that looks for a leader, a round that passes over nodes which do not lead, and the last round.
+use Prim.Native.Nat.{ℕ, suc, _+_, _<_}
+use native.Mathlib.Numerals.{add-one}
+use native.Mathlib.Omega.{arith}
+use mathlib.Core.Path.{_≡_, sym, ap, _∙_}
+use mathlib.Core.List.{List}
+use mathlib.Core.Bool.{Bool, true, false}
+use lib.ListN.{length, set}
+use borrow.Author.Tests.{eqb-true, eq-eqb, ne-eqb}
+use Rattle.scan.specs.Scan.{all, any, least}
+use Rattle.scan.proofs.Tests.{true-false, not-true→false, and-left, and-right, and-both}
+use Rattle.scan.proofs.Every.{all-in, all-out, any-before, any-more}
+use Rattle.scan.proofs.Least.{least-le, least-hit, least-found, least-none}
+use Rattle.scan.proofs.Tabulate.{stored-more}
+use Rattle.automaton.specs.Automaton.{Automaton, Closed}
+use Rattle.automaton.specs.Equivalence.{agree, sameIn, same, inClass, leaderBy, leader, sameClass, refined}
+use Rattle.automaton.proofs.Targets.{Holds, targets-trans, equalArcs-in, equalArcs-out}
+use Rattle.automaton.proofs.Leader.{leader-le}
+use Rattle.automaton.proofs.Classes.{class-same, same-leader, refined-leader, leaders-last}
+use Rattle.minimize.specs.Tables.{classIn, Classes}
+use Rattle.minimize.specs.Leaders.{LeadersBy, sameEntry}
+
+-- ---- a loop that looks for a leader
+
+pub leader-found : (r : ℕ → ℕ → Bool) (n m : ℕ) → any (inClass r n) m ≡ false → r m n ≡ true → m < n → m ≡ leaderBy r n
+unfolding leaderBy
+leader-found r n m h e l = sym (least-found (inClass r n) n m h (unfold inClass in e) l)
+
+pub leader-none : (r : ℕ → ℕ → Bool) (n m : ℕ) → any (inClass r n) m ≡ false → m ≡ n → n ≡ leaderBy r n
+unfolding leaderBy
+leader-none r n m h e = sym (least-none (inClass r n) n (rw e at h))
+
+pub leader-not : (r : ℕ → ℕ → Bool) (n m : ℕ) → any (inClass r n) m ≡ false → r m n ≡ false → any (inClass r n) (m + 1) ≡ false
+leader-not r n m h e = any-more (inClass r n) m h (unfold inClass in e)
+
+-- ---- a table that a loop fills
+
+pub leaders-start : (r : ℕ → ℕ → Bool) (classes : List ℕ) → LeadersBy r 0 classes
+leaders-start r classes = record { leads = λ n l. absurd (omega arith) }
+
+pub leaders-more : (r : ℕ → ℕ → Bool) (classes : List ℕ) (n v : ℕ) → LeadersBy r n classes → n < length classes → v ≡ leaderBy r n
+    → LeadersBy r (n + 1) (set classes n v)
+unfolding classIn
+leaders-more r classes n v h l e = record { leads = stored-more (leaderBy r) classes n v (h .leads) l e }
+
+-- ---- a round
+
+module _ (A : Automaton) (class : ℕ → ℕ) where
+  sameClass-trans : (a b c : ℕ) → sameClass class a b ≡ true → sameClass class b c ≡ true → sameClass class a c ≡ true
+  unfolding sameClass
+  sameClass-trans a b c g h = eq-eqb (class a) (class c) (eqb-true (class a) (class b) g ∙ eqb-true (class b) (class c) h)
+
+  arcs-trans : (n m p t : ℕ) → agree A (sameClass class) n m t ≡ true → agree A (sameClass class) m p t ≡ true → agree A (sameClass class) n p t ≡ true
+  unfolding agree
+  arcs-trans n m p t e f =
+      equalArcs-in (sameClass class) (A .arc n t) (A .arc p t) (targets-trans (Holds (sameClass class)) (Holds (sameClass class)) (Holds (sameClass class)) sameClass-trans
+      (A .arc n t) (A .arc m t) (A .arc p t) (equalArcs-out (sameClass class) (A .arc n t) (A .arc m t) e) (equalArcs-out (sameClass class) (A .arc m t) (A .arc p t) f))
+
+  refined-trans : (n m p : ℕ) → refined A class n m ≡ true → refined A class m p ≡ true → refined A class n p ≡ true
+  unfolding refined
+  refined-trans n m p e f =
+      and-both (sameClass class n p) (all (agree A (sameClass class) n p) (A .transitions))
+      (sameClass-trans n m p (and-left (sameClass class n m) _ e) (and-left (sameClass class m p) _ f))
+      (all-in (agree A (sameClass class) n p) (A .transitions) (λ t l. arcs-trans n m p t
+      (all-out (agree A (sameClass class) n m) (A .transitions) (and-right (sameClass class n m) _ e) t l)
+      (all-out (agree A (sameClass class) m p) (A .transitions) (and-right (sameClass class m p) _ f) t l)))
+
+  -- a node that does not lead its new class leads no other
+  pub leader-not-own : (n m : ℕ) → any (inClass (refined A class) n) m ≡ false → (leaderBy (refined A class) m ≡ m → ⊥)
+      → any (inClass (refined A class) n) (m + 1) ≡ false
+  unfolding leaderBy
+  leader-not-own n m h d =
+      leader-not (refined A class) n m h (not-true→false (refined A class m n) (λ e.
+      let l : least (inClass (refined A class) m) m < m = omega (arith, least-le (inClass (refined A class) m) m, d) in
+      let g : refined A class (least (inClass (refined A class) m) m) m ≡ true = unfold inClass in (least-hit (inClass (refined A class) m) m l) in
+      true-false _ (refined-trans _ m n g e) (unfold inClass in (any-before (inClass (refined A class) n) m h _ l))))
+
+  -- what the code tests, one after the other
+  pub refined-other-class : (n m : ℕ) → (class n ≡ class m → ⊥) → refined A class n m ≡ false
+  unfolding refined sameClass
+  refined-other-class n m d = rw (ne-eqb (class n) (class m) d)
+
+  pub refined-by-arcs : (n m : ℕ) → class n ≡ class m → refined A class n m ≡ all (agree A (sameClass class) n m) (A .transitions)
+  unfolding refined sameClass
+  refined-by-arcs n m e = rw (eq-eqb (class n) (class m) e)
+
+-- ---- the rounds
+
+module _ (A : Automaton) (c : Closed A) (k : ℕ) (classes : List ℕ) (is : LeadersBy (sameIn A k) (A .nodes) classes) where
+  leads : (n : ℕ) → n < A .nodes → classIn classes n ≡ leader A k n
+  unfolding leader
+  leads n l = is .leads n l
+
+  low : (n : ℕ) → n < A .nodes → classIn classes n < A .nodes
+  low n l = omega (arith, is .leads n l, leader-le (sameIn A k) n)
+
+  -- one more
+  pub round-more : (next : List ℕ) → LeadersBy (refined A (classIn classes)) (A .nodes) next → LeadersBy (sameIn A (k + 1)) (A .nodes) next
+  unfolding leader
+  round-more next h = rw add-one (record { leads = λ n l. h .leads n l ∙ refined-leader A c k (classIn classes) leads n l })
+
+  -- one that changes nothing
+  pub round-last : (next : List ℕ) → LeadersBy (refined A (classIn classes)) (A .nodes) next → all (sameEntry classes next) (A .nodes) ≡ true → Classes A classes
+  round-last next h e = record {
+    low = low;
+    right = λ n m ln lm. class-same A c k (classIn classes) leads n m ln lm ∙ sym (same-leader A k n m) ∙ sym (leaders-last A c k unchanged n m ln lm);
+  }
+    where
+      unchanged : (n : ℕ) → n < A .nodes → leader A (suc k) n ≡ leader A k n
+      unchanged n l =
+          sym (refined-leader A c k (classIn classes) leads n l) ∙ sym (h .leads n l)
+          ∙ sym (eqb-true (classIn classes n) (classIn next n) (unfold sameEntry in (all-out (sameEntry classes next) (A .nodes) e n l))) ∙ leads n l
+
+  -- as many as there are nodes
+  pub rounds-done : k ≡ A .nodes → Classes A classes
+  unfolding same
+  rounds-done e = record { low = low; right = λ n m ln lm. class-same A c k (classIn classes) leads n m ln lm ∙ ap (λ (j : ℕ). sameIn A j n m) e }

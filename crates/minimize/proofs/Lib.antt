@@ -1,0 +1,11 @@
+pub mod Known
+pub mod Agree
+pub mod Leaders
+pub mod SearchState
+pub mod SearchArcs
+pub mod SearchOrder
+pub mod Placed
+pub mod Gathered
+pub mod Cells
+pub mod Parts
+pub mod Answers

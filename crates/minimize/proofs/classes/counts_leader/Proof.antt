@@ -1,0 +1,93 @@
+-- `minimize::classes::counts_leader` meets its contract: no node before the counter has the counts.
+use Prim.Native.Nat.{_-_, _≤_, _<_}
+use native.Mathlib.Omega.{arith}
+use mathlib.Core.Path.{_≡_, sym, _∙_}
+use mathlib.Core.Bool.{false}
+use borrow.Author.Needs.{needs}
+use Rattle.scan.specs.Scan.{any}
+use Rattle.scan.proofs.Every.{any-none-yet}
+use Rattle.automaton.specs.Equivalence.{inClass, sameIn}
+use Rattle.sequential.specs.Petri.{petriNet}
+use Rattle.sequential.specs.Words.{nodeCount, graph}
+use Rattle.minimize.proofs.Known.{node-low}
+use Rattle.minimize.proofs.Leaders.{leader-found, leader-none, leader-not}
+use Rattle.minimize.proofs.classes.counts_leader.Statement.{statement}
+use Rattle.minimize.proofs.classes.counts_leader.Tie as tie
+
+abbrev Inv-loop : tie.InvT-loop
+Inv-loop net sheet n starts own m₀ m = (m ≤ n) × (any (inClass (sameIn (graph (petriNet net) sheet) 0) n) m ≡ false)
+
+abbrev μ-loop : tie.MeasureT-loop
+μ-loop net sheet n starts own m₀ m = n - m
+
+mul-own : tie.Need-mul-own Inv-loop μ-loop
+mul-own c = omega (arith, node-low _ _ (c .before .before .pre .0) _ (c .before .before .pre .1 .0))
+
+array-read-own : tie.Need-array-read-own Inv-loop μ-loop
+array-read-own c = omega (arith, node-low _ _ (c .before .before .pre .0) _ (c .before .before .pre .1 .0))
+
+cast-own : tie.Need-cast-own Inv-loop μ-loop
+cast-own c = search needs
+
+loop-holds : tie.Need-loop-holds Inv-loop μ-loop
+loop-holds c = (omega arith, any-none-yet _)
+
+cast-counts-agree : tie.Need-cast-counts-agree Inv-loop μ-loop
+cast-counts-agree c = omega (arith, node-low _ _ (c .before .before .before .before .pre .0) _ (c .before .before .before .before .pre .1 .0), c .loop-test .taken)
+
+mul-counts-agree : tie.Need-mul-counts-agree Inv-loop μ-loop
+mul-counts-agree c = omega (arith, node-low _ _ (c .before .before .before .before .pre .0) _ (c .before .before .before .before .pre .1 .0), c .loop-test .taken)
+
+array-read-counts-agree : tie.Need-array-read-counts-agree Inv-loop μ-loop
+array-read-counts-agree c =
+    omega (arith, node-low _ _ (c .before .before .before .before .pre .0) _ (c .before .before .before .before .pre .1 .0), c .loop-test .taken)
+
+cast-counts-agree-2 : tie.Need-cast-counts-agree-2 Inv-loop μ-loop
+cast-counts-agree-2 c = search needs
+
+counts-agree-requires : tie.Need-counts-agree-requires Inv-loop μ-loop
+counts-agree-requires c κs =
+    let ln = c .before .before .before .before .pre .1 .0 in
+    let starts = c .before .before .before .before .pre .1 .1 in
+    let lm : c .before .loop .m < nodeCount (c .before .before .before .before .args .sheet .now) = omega (arith, ln, c .loop-test .taken) in
+    (c .before .before .before .before .pre .0, (lm, (ln, (starts .start _ lm, starts .start _ ln))))
+
+returns : tie.Need-returns Inv-loop μ-loop
+returns c =
+    leader-found _ _ _ (c .before .before .before .loop .inv .1) (sym (c .before .counts-agree .ensures) ∙ c .if1 .taken) (c .before .before .loop-test .taken)
+
+add-m : tie.Need-add-m Inv-loop μ-loop
+add-m c = omega (arith, c .before .before .loop-test .taken)
+
+loop-less : tie.Need-loop-less Inv-loop μ-loop
+loop-less c = search needs
+
+loop-again : tie.Need-loop-again Inv-loop μ-loop
+loop-again c = (
+  omega (arith, c .before .before .loop-test .taken),
+  leader-not _ _ _ (c .before .before .before .loop .inv .1) (sym (c .before .counts-agree .ensures) ∙ c .if1 .left),
+)
+
+returns-2 : tie.Need-returns-2 Inv-loop μ-loop
+returns-2 c = leader-none _ _ _ (c .before .loop .inv .1) (omega (arith, c .before .loop .inv .0, c .loop-test .left))
+
+pub counts-leader-spec : {M : Type 1} → statement M
+counts-leader-spec =
+    tie.close
+    (tie.spec
+    Inv-loop
+    μ-loop
+    mul-own
+    array-read-own
+    cast-own
+    loop-holds
+    cast-counts-agree
+    mul-counts-agree
+    array-read-counts-agree
+    cast-counts-agree-2
+    counts-agree-requires
+    returns
+    add-m
+    loop-less
+    loop-again
+    returns-2)

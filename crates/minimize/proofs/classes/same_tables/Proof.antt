@@ -1,0 +1,60 @@
+-- `minimize::classes::same_tables` meets its contract: the entries before the counter are equal.
+use Prim.Native.Nat.{_-_, _≤_}
+use native.Mathlib.Omega.{arith}
+use mathlib.Core.Bool.{true}
+use mathlib.Core.Path.{_≡_, sym}
+use borrow.Author.Needs.{needs}
+use borrow.Author.Tests.{eq-eqb, ne-eqb}
+use Rattle.scan.specs.Scan.{all}
+use Rattle.scan.proofs.Every.{all-in, all-more, all-fails}
+use Rattle.minimize.specs.Tables.{classIn}
+use Rattle.minimize.specs.Leaders.{sameEntry}
+use Rattle.minimize.proofs.classes.same_tables.Statement.{statement}
+use Rattle.minimize.proofs.classes.same_tables.Tie as tie
+
+abbrev Inv-loop : tie.InvT-loop
+Inv-loop nodes a b n₀ n = (n ≤ nodes) × (all (sameEntry a b) n ≡ true)
+
+abbrev μ-loop : tie.MeasureT-loop
+μ-loop nodes a b n₀ n = nodes - n
+
+loop-holds : tie.Need-loop-holds Inv-loop μ-loop
+loop-holds c = (omega arith, all-in _ _ (λ j l. absurd (omega arith)))
+
+array-read-if1 : tie.Need-array-read-if1 Inv-loop μ-loop
+array-read-if1 c = search needs
+
+array-read-if1-2 : tie.Need-array-read-if1-2 Inv-loop μ-loop
+array-read-if1-2 c = search needs
+
+returns : tie.Need-returns Inv-loop μ-loop
+unfolding sameEntry classIn
+returns c = sym (all-fails _ _ _ (c .before .loop-test .taken) (ne-eqb _ _ (c .if1 .taken)))
+
+add-n : tie.Need-add-n Inv-loop μ-loop
+add-n c = search needs
+
+loop-less : tie.Need-loop-less Inv-loop μ-loop
+loop-less c = search needs
+
+loop-again : tie.Need-loop-again Inv-loop μ-loop
+unfolding sameEntry classIn
+loop-again c = (omega arith, all-more _ _ (c .before .before .loop .inv .1) (eq-eqb _ _ (c .if1 .left)))
+
+returns-2 : tie.Need-returns-2 Inv-loop μ-loop
+returns-2 c = let e : (c .before .loop .n) ≡ (c .before .before .args .nodes) = omega arith in sym (rw e at (c .before .loop .inv .1))
+
+pub same-tables-spec : {M : Type 1} → statement M
+same-tables-spec =
+    tie.close
+    (tie.spec
+    Inv-loop
+    μ-loop
+    loop-holds
+    array-read-if1
+    array-read-if1-2
+    returns
+    add-n
+    loop-less
+    loop-again
+    returns-2)

@@ -1,0 +1,109 @@
+-- `minimize::writer::entry_count` meets its contract: when the counter is i the entries of the first i rows are counted.
+use Prim.Native.Nat.{_+_, _*_, _-_, _≤_}
+use mathlib.Core.Bool.{true, false}
+use lib.ListN.{length}
+use Rattle.automaton.specs.Quotient.{minimal}
+use Rattle.sequential.specs.Petri.{petriNet}
+use Rattle.sequential.specs.Words.{graph}
+use Rattle.graph.proofs.Readable.{known}
+use Rattle.minimize.specs.Sections.{widthOf, partTo}
+use Rattle.minimize.proofs.Cells.{rows-most, node-low}
+use Rattle.minimize.proofs.Parts.{part-none, part-count, entries-whole}
+use borrow.Author.Needs.{needs}
+use native.Mathlib.Omega.{arith}
+use mathlib.Core.Path.{_≡_, refl, _∙_}
+use Rattle.minimize.proofs.writer.entry_count.Statement.{statement}
+use Rattle.minimize.proofs.writer.entry_count.Tie as tie
+use Rattle.minimize.proofs.writer.entry_count.Reads as reads
+use Rattle.minimize.proofs.writer.entry_count.Lts as lts
+use Rattle.minimize.proofs.writer.filled.Reads as filled-reads
+use Rattle.minimize.proofs.writer.told_row.Reads as told-row-reads
+use Rattle.net.proofs.places.Reads as places-reads
+use Rattle.net.proofs.transitions.Reads as transitions-reads
+
+abbrev Inv-loop : tie.InvT-loop
+Inv-loop net sheet rows reps transitions places entries₀ i₀ entries i =
+    (i ≤ rows)
+    × (entries ≡ length (partTo (petriNet net) (minimal (graph (petriNet net) sheet)) false false i) + length (partTo (petriNet net) (minimal (graph (petriNet net) sheet)) true false i))
+    × (entries ≤ 64 * i)
+
+abbrev μ-loop : tie.MeasureT-loop
+μ-loop net sheet rows reps transitions places entries₀ i₀ entries i = rows - i
+
+transitions-requires : tie.Need-transitions-requires Inv-loop μ-loop
+transitions-requires c κs = search needs
+
+cast-transitions : tie.Need-cast-transitions Inv-loop μ-loop
+cast-transitions c = omega (arith, (c .transitions) .ok)
+
+places-requires : tie.Need-places-requires Inv-loop μ-loop
+places-requires c κs = search needs
+
+cast-places : tie.Need-cast-places Inv-loop μ-loop
+cast-places c = omega (arith, (c .places) .ok)
+
+loop-holds : tie.Need-loop-holds Inv-loop μ-loop
+loop-holds c = let e = part-none (petriNet ((c .before .before .before .before .args) .net .now)) (minimal (graph (petriNet ((c .before .before .before .before .args) .net .now)) ((c .before .before .before .before .args) .sheet .now))) false false in let f = part-none (petriNet ((c .before .before .before .before .args) .net .now)) (minimal (graph (petriNet ((c .before .before .before .before .args) .net .now)) ((c .before .before .before .before .args) .sheet .now))) true false in (omega arith, rw (e, f) refl, omega arith)
+
+array-read-n : tie.Need-array-read-n Inv-loop μ-loop
+array-read-n c = let m = rows-most _ _ _ _ _ ((c .before .before .before .before .before .before .pre) .0) ((c .before .before .before .before .before .before .pre) .1 .1) in omega arith
+
+cast-n : tie.Need-cast-n Inv-loop μ-loop
+cast-n c = search needs
+
+told-row-requires : tie.Need-told-row-requires Inv-loop μ-loop
+told-row-requires c κs = ((c .before .before .before .before .before .before .pre) .0, node-low _ _ _ _ _ ((c .before .before .before .before .before .before .pre) .0) ((c .before .before .before .before .before .before .pre) .1 .1) _ ((c .loop-test) .taken))
+
+filled-requires : tie.Need-filled-requires Inv-loop μ-loop
+filled-requires c κs = omega (arith, (c .before .before .before .before .transitions) .ensures, known _ _ ((c .before .before .before .before .before .before .before .pre) .0) .few-transitions)
+
+told-row-requires-2 : tie.Need-told-row-requires-2 Inv-loop μ-loop
+told-row-requires-2 c κs = ((c .before .before .before .before .before .before .before .before .pre) .0, node-low _ _ _ _ _ ((c .before .before .before .before .before .before .before .before .pre) .0) ((c .before .before .before .before .before .before .before .before .pre) .1 .1) _ ((c .before .before .loop-test) .taken))
+
+filled-requires-2 : tie.Need-filled-requires-2 Inv-loop μ-loop
+filled-requires-2 c κs = omega (arith, (c .before .before .before .before .before .places) .ensures, known _ _ ((c .before .before .before .before .before .before .before .before .before .pre) .0) .few-places)
+
+add-entries : tie.Need-add-entries Inv-loop μ-loop
+unfolding widthOf
+add-entries c = let a = part-count _ _ _ _ _ ((c .before .before .before .before .before .before .before .before .before .before .pre) .0) ((c .before .before .before .before .before .before .before .before .before .before .pre) .1 .1) false _ ((c .before .before .before .before .loop-test) .taken) _ _ _ ((c .before .before .before .told-row) .ensures) ((c .before .before .before .before .before .before .before .transitions) .ensures) ((c .before .before .filled) .ensures) in let b = part-count _ _ _ _ _ ((c .before .before .before .before .before .before .before .before .before .before .pre) .0) ((c .before .before .before .before .before .before .before .before .before .before .pre) .1 .1) true _ ((c .before .before .before .before .loop-test) .taken) _ _ _ ((c .before .told-row2) .ensures) ((c .before .before .before .before .before .before .places) .ensures) ((c .filled2) .ensures) in let m = rows-most _ _ _ _ _ ((c .before .before .before .before .before .before .before .before .before .before .pre) .0) ((c .before .before .before .before .before .before .before .before .before .before .pre) .1 .1) in omega (arith, a .1, b .1, (c .before .before .before .before .before .loop) .inv .2)
+
+add-entries-2 : tie.Need-add-entries-2 Inv-loop μ-loop
+unfolding widthOf
+add-entries-2 c = let a = part-count _ _ _ _ _ ((c .before .before .before .before .before .before .before .before .before .before .pre) .0) ((c .before .before .before .before .before .before .before .before .before .before .pre) .1 .1) false _ ((c .before .before .before .before .loop-test) .taken) _ _ _ ((c .before .before .before .told-row) .ensures) ((c .before .before .before .before .before .before .before .transitions) .ensures) ((c .before .before .filled) .ensures) in let b = part-count _ _ _ _ _ ((c .before .before .before .before .before .before .before .before .before .before .pre) .0) ((c .before .before .before .before .before .before .before .before .before .before .pre) .1 .1) true _ ((c .before .before .before .before .loop-test) .taken) _ _ _ ((c .before .told-row2) .ensures) ((c .before .before .before .before .before .before .places) .ensures) ((c .filled2) .ensures) in let m = rows-most _ _ _ _ _ ((c .before .before .before .before .before .before .before .before .before .before .pre) .0) ((c .before .before .before .before .before .before .before .before .before .before .pre) .1 .1) in omega (arith, a .1, b .1, (c .before .before .before .before .before .loop) .inv .2)
+
+add-i : tie.Need-add-i Inv-loop μ-loop
+add-i c = omega arith
+
+loop-less : tie.Need-loop-less Inv-loop μ-loop
+loop-less c = omega arith
+
+loop-again : tie.Need-loop-again Inv-loop μ-loop
+unfolding widthOf
+loop-again c = let a = part-count _ _ _ _ _ ((c .before .before .before .before .before .before .before .before .before .before .pre) .0) ((c .before .before .before .before .before .before .before .before .before .before .pre) .1 .1) false _ ((c .before .before .before .before .loop-test) .taken) _ _ _ ((c .before .before .before .told-row) .ensures) ((c .before .before .before .before .before .before .before .transitions) .ensures) ((c .before .before .filled) .ensures) in let b = part-count _ _ _ _ _ ((c .before .before .before .before .before .before .before .before .before .before .pre) .0) ((c .before .before .before .before .before .before .before .before .before .before .pre) .1 .1) true _ ((c .before .before .before .before .loop-test) .taken) _ _ _ ((c .before .told-row2) .ensures) ((c .before .before .before .before .before .before .places) .ensures) ((c .filled2) .ensures) in (omega arith, omega (arith, a .0, b .0, (c .before .before .before .before .before .loop) .inv .1), omega (arith, a .1, b .1, (c .before .before .before .before .before .loop) .inv .2))
+
+returns : tie.Need-returns Inv-loop μ-loop
+returns c = let e : (c .before .loop) .i ≡ (c .before .before .before .before .before .before .args) .rows = omega arith in ((c .before .loop) .inv .1 ∙ rw e (entries-whole _ _ _ _ _ ((c .before .before .before .before .before .before .pre) .0) ((c .before .before .before .before .before .before .pre) .1 .1)), let m = rows-most _ _ _ _ _ ((c .before .before .before .before .before .before .pre) .0) ((c .before .before .before .before .before .before .pre) .1 .1) in omega (arith, (c .before .loop) .inv .2))
+
+pub entry-count-spec : {M : Type 1} → statement M
+entry-count-spec =
+    tie.close
+    (tie.spec
+    Inv-loop
+    μ-loop
+    transitions-requires
+    cast-transitions
+    places-requires
+    cast-places
+    loop-holds
+    array-read-n
+    cast-n
+    told-row-requires
+    filled-requires
+    told-row-requires-2
+    filled-requires-2
+    add-entries
+    add-entries-2
+    add-i
+    loop-less
+    loop-again
+    returns)

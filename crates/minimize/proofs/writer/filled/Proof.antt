@@ -1,0 +1,69 @@
+-- `minimize::writer::filled` meets its contract: when the counter is c the entries of the first c columns are counted.
+use Prim.Native.Nat.{_-_, _≤_}
+use borrow.Author.Tests.{lt-ltb, le-ltb}
+use Rattle.scan.specs.Scan.{count, bit}
+use Rattle.scan.proofs.Count.{count-le, count-more}
+use Rattle.judge.specs.Rows.{present}
+use borrow.Author.Needs.{needs}
+use native.Mathlib.Omega.{arith}
+use mathlib.Core.Path.{_≡_, refl}
+use Rattle.minimize.proofs.writer.filled.Statement.{statement}
+use Rattle.minimize.proofs.writer.filled.Tie as tie
+use Rattle.minimize.proofs.writer.filled.Reads as reads
+use Rattle.minimize.proofs.writer.filled.Lts as lts
+
+abbrev Inv-loop : tie.InvT-loop
+Inv-loop width told entries₀ c₀ entries c = (c ≤ width) × (entries ≡ count (present told) c)
+
+abbrev μ-loop : tie.MeasureT-loop
+μ-loop width told entries₀ c₀ entries c = width - c
+
+loop-holds : tie.Need-loop-holds Inv-loop μ-loop
+unfolding count
+loop-holds c = (omega arith, refl)
+
+mul-entry : tie.Need-mul-entry Inv-loop μ-loop
+mul-entry c = search needs
+
+array-read-entry : tie.Need-array-read-entry Inv-loop μ-loop
+array-read-entry c = search needs
+
+add-c : tie.Need-add-c Inv-loop μ-loop
+add-c c = omega arith
+
+add-entries : tie.Need-add-entries Inv-loop μ-loop
+add-entries c = omega (arith, (c .before .before .loop) .inv .1, count-le (present ((c .before .before .before .args) .t1)) ((c .before .before .loop) .c))
+
+loop-less : tie.Need-loop-less Inv-loop μ-loop
+loop-less c = omega arith
+
+loop-again : tie.Need-loop-again Inv-loop μ-loop
+unfolding present bit
+loop-again c = (omega arith, rw (count-more, lt-ltb _ _ ((c .if1) .taken)) (omega arith))
+
+loop-less-2 : tie.Need-loop-less-2 Inv-loop μ-loop
+loop-less-2 c = omega arith
+
+loop-again-2 : tie.Need-loop-again-2 Inv-loop μ-loop
+unfolding present bit
+loop-again-2 c = (omega arith, rw (count-more, le-ltb _ _ ((c .if1) .left)) (omega arith))
+
+returns : tie.Need-returns Inv-loop μ-loop
+returns c = let e : (c .before .loop) .c ≡ (c .before .before .args) .width = omega arith in rw (← e) ((c .before .loop) .inv .1)
+
+pub filled-spec : {M : Type 1} → statement M
+filled-spec =
+    tie.close
+    (tie.spec
+    Inv-loop
+    μ-loop
+    loop-holds
+    mul-entry
+    array-read-entry
+    add-c
+    add-entries
+    loop-less
+    loop-again
+    loop-less-2
+    loop-again-2
+    returns)

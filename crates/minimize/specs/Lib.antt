@@ -1,0 +1,6 @@
+pub mod Written
+pub mod Tables
+pub mod Agree
+pub mod Leaders
+pub mod Search
+pub mod Sections

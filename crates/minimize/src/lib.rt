@@ -1,0 +1,42 @@
+// The call that writes the minimal form of a schedule (document 01: short form).
+mod classes;
+mod numbering;
+mod writer;
+
+ghost use Rattle.minimal.specs.Form.{FormDone};
+ghost use Rattle.minimize.specs.Written.{FormWritten};
+use minimal::FormAnswer;
+use net::Position;
+use net::Refusal;
+use net::Verdict;
+use schedule::Walker;
+
+// The minimal form without scratch.
+pub fn form_into(net: &[u32], sheet: &[u32], out: &mut [u32]) -> FormAnswer
+    ensures { λ r. ⌜ FormWritten (now (net .entry)) (now (sheet .entry)) (now (out .entry)) r (now (out .exit)) ⌝ }
+{
+    let found = judge::judge(net, sheet);
+    if let Verdict::Refused(r) = found {
+        return FormAnswer::Refused(r);
+    }
+    let classes = classes::classes(net, sheet);
+    let numbering = numbering::numbering(net, sheet, classes);
+    let reps = numbering.reps;
+    let numbers = numbering.numbers;
+    writer::write(net, sheet, reps, numbers, numbering.found, out)
+}
+
+// The minimal form.
+pub fn minimal_form(net: &[u32], sheet: &[u32], out: &mut [u32], scratch: &mut [u32]) -> FormAnswer
+    ensures { λ r. ⌜ FormDone (now (net .entry)) (now (sheet .entry)) (now (out .entry)) (now (scratch .entry)) r (now (out .exit)) (now (scratch .exit)) ⌝ }
+{
+    if scratch.len() < Walker::SCRATCH {
+        return FormAnswer::Refused(Refusal {
+            number: Refusal::SMALL_SCRATCH,
+            at: Position::Nothing,
+        });
+    }
+    let answer = form_into(net, sheet, out);
+    scan::clear_front(scratch, Walker::SCRATCH);
+    answer
+}
