@@ -12,7 +12,8 @@ use Rattle.scan.specs.Front.{cleared}
 use Rattle.scan.proofs.Tests.{byTest}
 use Rattle.scan.proofs.Front.{cleared-whole, cleared-length}
 use Rattle.minimal.specs.Minimal.{minimalForm}
-use Rattle.minimal.specs.Form.{lengthOfForm, scratchAfter, FormDone}
+use Rattle.schedule.specs.Calls.{scratchAfter}
+use Rattle.minimal.specs.Form.{lengthOfForm, FormDone}
 use Rattle.minimal.specs.declared.FormAnswer.{FormAnswer}
 use Rattle.minimal.specs.declared.FormAnswer.the-variants.{Written, Refused}
 use Rattle.minimal.proofs.Form.{call-makes}

@@ -32,6 +32,7 @@ forms =
     [] ∷
     [] ∷
     (2 ∷ 4 ∷ 0 ∷ 3 ∷ 4 ∷ 5 ∷ 1 ∷ 0 ∷ 16777216 ∷ 16777217 ∷ []) ∷
+    [] ∷
     [] ∷ []
 
 -- "Merging nodes by future alone": a and b are sources filling A and B, flag F starts at 1; x takes A and F and puts Q; y takes A; z takes

@@ -5,12 +5,12 @@ use mathlib.Core.Bool.{cond}
 use mathlib.Core.List.{List, [], _∷_, _++_}
 use lib.Dec.{ltb}
 use lib.ListN.{length, drop}
-use Rattle.scan.specs.Front.{cleared}
 use Rattle.net.specs.Refusal.{refusal, plainOf}
 use Rattle.net.specs.declared.Position.the-variants.{Nothing}
 use Rattle.net.specs.declared.Verdict.{Verdict}
 use Rattle.net.specs.declared.Verdict.the-variants as verdict
 use Rattle.sequential.specs.Check.{scheduleReply}
+use Rattle.schedule.specs.Calls.{scratchAfter}
 use Rattle.minimal.specs.Minimal.{minimalForm}
 use Rattle.minimal.specs.declared.FormAnswer.{FormAnswer}
 use Rattle.minimal.specs.declared.FormAnswer.the-variants.{Written, Refused}
@@ -52,10 +52,6 @@ plainForm answer = plainOf (verdictOfForm answer) ++ (lengthOfForm answer ∷ []
 abbrev pub outAfter : FormAnswer → List ℕ → List ℕ → List ℕ
 outAfter (Written n) form out = form ++ drop (length form) out
 outAfter (Refused r) form out = out
-
--- "After any call not refused by 21 its first 8,192 words are 0 and the rest unchanged."
-unfoldable pub scratchAfter : List ℕ → List ℕ
-scratchAfter scratch = cond (ltb (length scratch) 8192) scratch (cleared 8192 scratch)
 
 -- One call: what it is handed, what it answers, and what the two buffers hold afterwards.
 pub record FormDone (net sheet out scratch : List ℕ) (answer : FormAnswer) (out′ scratch′ : List ℕ) : Type 0 where

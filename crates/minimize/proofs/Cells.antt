@@ -53,7 +53,8 @@ told-some sheet (suc i) z = omega arith
 -- ---- a column of a row
 
 module _ (sheet numbers : List ℕ) (counts values : Bool) (first : ℕ) (told : List ℕ) (c : ℕ) where
-  pub told-hit : (v : ℕ) → 0 < getD told c 0 → v ≡ wordOf sheet numbers counts values (first + c) (getD told c 0) → toldCell sheet numbers counts values first told c ≡ some v
+  pub told-hit : (v : ℕ) → 0 < getD told c 0 → v ≡ wordOf sheet numbers counts values (first + c) (getD told c 0)
+      → toldCell sheet numbers counts values first told c ≡ some v
   unfolding toldCell
   told-hit v l e = when-hit _ _ (lt-ltb _ _ l) ∙ ap some (sym e)
 
@@ -83,7 +84,8 @@ module _ (N : PetriNet) (sheet : List ℕ) (w : WordsPass N sheet) (n : ℕ) (l 
       go (entryOf sheet 2 (entryCount sheet) (arcKeys N sheet + n * N .places + p)) refl
       (row-entry sheet 2 (entryCount sheet) (arcKeys N sheet + n * N .places) (N .places) (words-rise N sheet w) (words-fit N sheet w) p h m) z
     where
-      go : (o : Option ℕ) → entryOf sheet 2 (entryCount sheet) (arcKeys N sheet + n * N .places + p) ≡ o → {x : ℕ} → x ≡ entryCode (entryOf sheet 2 (entryCount sheet) (arcKeys N sheet + n * N .places + p)) → 0 < x → 0 < valueTold sheet x
+      go : (o : Option ℕ) → entryOf sheet 2 (entryCount sheet) (arcKeys N sheet + n * N .places + p) ≡ o → {x : ℕ}
+          → x ≡ entryCode (entryOf sheet 2 (entryCount sheet) (arcKeys N sheet + n * N .places + p)) → 0 < x → 0 < valueTold sheet x
       go none e {x} q z = absurd (omega (arith, q ∙ ap entryCode e))
       go (some i) e {x} q z =
           let (k, f) = entry-some sheet 2 (entryCount sheet) (arcKeys N sheet + n * N .places + p) i e in
@@ -152,7 +154,8 @@ module _ (net sheet reps numbers : List ℕ) (rows : ℕ) (r : Readable net shee
       rw (h .size) (index-met (same A) (order (same A) A) (length (order (same A) A)) (valueTold sheet (toldAt false i t))
       (order-covers (same A) A closed (same-equivalence A .reflexive) i t (valueTold sheet (toldAt false i t)) (rw (h .size) at l) (target i t l m z)))
 
-  target-number : (i t : ℕ) → i < rows → t < 32 → 0 < toldAt false i t → number A (valueTold sheet (toldAt false i t)) ≡ getD numbers (valueTold sheet (toldAt false i t)) 0
+  target-number : (i t : ℕ) → i < rows → t < 32 → 0 < toldAt false i t
+      → number A (valueTold sheet (toldAt false i t)) ≡ getD numbers (valueTold sheet (toldAt false i t)) 0
   target-number i t l m z =
       let low : valueTold sheet (toldAt false i t) < A .nodes = unfold graph in (target-low i t l m z) in
       sym (h .number (valueTold sheet (toldAt false i t)) low (target-met i t l m z))
@@ -177,9 +180,12 @@ module _ (net sheet reps numbers : List ℕ) (rows : ℕ) (r : Readable net shee
       ∙ count-of-told N sheet W (node i) (node-low i l) p (omega (arith, known net sheet r .few-places)))
 
   new-some : (i p : ℕ) → i < rows → p < N .places → ltb 0 (held N (minimal A) i p) ≡ ltb 0 (toldAt true i p)
-  new-some i p l m = rw (new-held i p l m) (iff→eq _ _ (λ e. lt-ltb _ _ (told-some sheet _ (ltb-true _ _ e))) (λ e. lt-ltb _ _ (count-some N sheet W (node i) (node-low i l) p (omega (arith, known net sheet r .few-places)) m (ltb-true _ _ e))))
+  new-some i p l m =
+      rw (new-held i p l m) (iff→eq _ _ (λ e. lt-ltb _ _ (told-some sheet _ (ltb-true _ _ e)))
+      (λ e. lt-ltb _ _ (count-some N sheet W (node i) (node-low i l) p (omega (arith, known net sheet r .few-places)) m (ltb-true _ _ e))))
 
-  new-count-key : (i p : ℕ) → i < rows → p < N .places → keyOfCount N (minimal A) i p ≡ when (ltb 0 (toldAt true i p)) (rows * N .transitions + i * N .places + p)
+  new-count-key : (i p : ℕ) → i < rows → p < N .places
+      → keyOfCount N (minimal A) i p ≡ when (ltb 0 (toldAt true i p)) (rows * N .transitions + i * N .places + p)
   unfolding keyOfCount
   new-count-key i p l m =
       ap (λ (b : Bool). when b (minimal A .nodes * N .transitions + i * N .places + p)) (new-some i p l m)
@@ -205,16 +211,19 @@ module _ (net sheet reps numbers : List ℕ) (rows : ℕ) (r : Readable net shee
       ≡ gather (cellOf N (minimal (graph (petriNet net) sheet)) counts values i) (widthOf N counts)
   row-gathered counts values i l = gather-ext _ _ (widthOf N counts) (λ c m. cell-told counts values i c l m)
 
-  cell-found : (counts values : Bool) (i c : ℕ) → i < rows → c < widthOf N counts → finds (cellOf N (minimal A) counts values i) c ≡ present (toldRow N sheet counts (node i)) c
+  cell-found : (counts values : Bool) (i c : ℕ) → i < rows → c < widthOf N counts
+      → finds (cellOf N (minimal A) counts values i) c ≡ present (toldRow N sheet counts (node i)) c
   unfolding finds
   cell-found counts values i c l m =
       ap found (sym (cell-told counts values i c l m)) ∙ told-found sheet numbers counts values (firstKey N rows counts i) (toldRow N sheet counts (node i)) c
 
   pub row-length : (counts values : Bool) (i : ℕ) → i < rows
-      → count (present (toldRow N sheet counts (getD reps i 0))) (widthOf N counts) ≡ length (gather (cellOf N (minimal (graph (petriNet net) sheet)) counts values i) (widthOf N counts))
+      → count (present (toldRow N sheet counts (getD reps i 0))) (widthOf N counts)
+      ≡ length (gather (cellOf N (minimal (graph (petriNet net) sheet)) counts values i) (widthOf N counts))
   row-length counts values i l =
       sym (gather-length (cellOf N (minimal A) counts values i) (widthOf N counts)
-      ∙ count-ext (finds (cellOf N (minimal A) counts values i)) (present (toldRow N sheet counts (node i))) (widthOf N counts) (λ c m. cell-found counts values i c l m))
+      ∙ count-ext (finds (cellOf N (minimal A) counts values i)) (present (toldRow N sheet counts (node i))) (widthOf N counts)
+      (λ c m. cell-found counts values i c l m))
 
   pub width-most : (counts : Bool) → widthOf N counts ≤ 32
   unfolding widthOf

@@ -30,7 +30,8 @@ module _ (N : PetriNet) (M : Automaton) (counts values : Bool) where
   unfolding partTo
   part-none = rows-none _ _
 
-  pub part-length : (i : ℕ) → length (partTo N M counts values (i + 1)) ≡ length (partTo N M counts values i) + length (gather (cellOf N M counts values i) (widthOf N counts))
+  pub part-length : (i : ℕ)
+      → length (partTo N M counts values (i + 1)) ≡ length (partTo N M counts values i) + length (gather (cellOf N M counts values i) (widthOf N counts))
   unfolding partTo
   part-length i = ap length (rows-more (cellOf N M counts values) (widthOf N counts) i)
       ∙ length-append (gatherRows (cellOf N M counts values) (widthOf N counts) i) (gather (cellOf N M counts values i) (widthOf N counts))
@@ -44,17 +45,22 @@ module _ (N : PetriNet) (M : Automaton) where
   unfolding values partOf partTo cellOf widthOf
   values-are = refl
 
-  encode-parts : encode N M ≡ M .nodes ∷ length (keys N M) ∷ ((partOf N M false false ++ partOf N M true false) ++ (partOf N M false true ++ partOf N M true true))
+  encode-parts : encode N M
+      ≡ M .nodes ∷ length (keys N M) ∷ ((partOf N M false false ++ partOf N M true false) ++ (partOf N M false true ++ partOf N M true true))
   unfolding encode
-  encode-parts = ap (λ (w : List ℕ). M .nodes ∷ length (keys N M) ∷ w) (ap (λ (w : List ℕ). w ++ values N M) keys-are ∙ ap (λ (w : List ℕ). (partOf N M false false ++ partOf N M true false) ++ w) values-are)
+  encode-parts =
+      ap (λ (w : List ℕ). M .nodes ∷ length (keys N M) ∷ w) (ap (λ (w : List ℕ). w ++ values N M) keys-are
+      ∙ ap (λ (w : List ℕ). (partOf N M false false ++ partOf N M true false) ++ w) values-are)
 
   keys-count : length (keys N M) ≡ length (partOf N M false false) + length (partOf N M true false)
   keys-count = ap length keys-are ∙ length-append (partOf N M false false) (partOf N M true false)
 
 -- four parts, one behind the other
-pub four-parts : (a b c d out out₁ out₂ out₃ out₄ : List ℕ) (at at₁ at₂ at₃ : ℕ) → out₁ ≡ placed out at a → at₁ ≡ at + length a → out₂ ≡ placed out₁ at₁ b → at₂ ≡ at₁ + length b
+pub four-parts : (a b c d out out₁ out₂ out₃ out₄ : List ℕ) (at at₁ at₂ at₃ : ℕ) → out₁ ≡ placed out at a → at₁ ≡ at + length a
+    → out₂ ≡ placed out₁ at₁ b → at₂ ≡ at₁ + length b
     → out₃ ≡ placed out₂ at₂ c → at₃ ≡ at₂ + length c → out₄ ≡ placed out₃ at₃ d → out₄ ≡ placed out at ((a ++ b) ++ (c ++ d))
-four-parts a b c d out out₁ out₂ out₃ out₄ at at₁ at₂ at₃ p₁ e₁ p₂ e₂ p₃ e₃ p₄ = p₄ ∙ rw (p₃, e₃, q₂, l₂) (ap (λ (o : List ℕ). placed o (at + length (a ++ b) + length c) d) q₃ ∙ q₄)
+four-parts a b c d out out₁ out₂ out₃ out₄ at at₁ at₂ at₃ p₁ e₁ p₂ e₂ p₃ e₃ p₄ =
+    p₄ ∙ rw (p₃, e₃, q₂, l₂) (ap (λ (o : List ℕ). placed o (at + length (a ++ b) + length c) d) q₃ ∙ q₄)
   where
     l₂ : at₂ ≡ at + length (a ++ b)
     l₂ = omega (arith, length-append a b, e₁, e₂)
@@ -128,7 +134,8 @@ module _ (net sheet reps numbers : List ℕ) (rows : ℕ) (r : Readable net shee
       → (length (partTo (petriNet net) (minimal (graph (petriNet net) sheet)) counts false (i + 1))
       ≡ length (partTo (petriNet net) (minimal (graph (petriNet net) sheet)) counts false i) + x) × (x ≤ 32)
   part-count counts i l told width x t w q = (
-    part-length N M counts false i ∙ ap (λ (k : ℕ). length (partTo N M counts false i) + k) (sym (row-length net sheet reps numbers rows r h counts false i l) ∙ sym e),
+    part-length N M counts false i
+        ∙ ap (λ (k : ℕ). length (partTo N M counts false i) + k) (sym (row-length net sheet reps numbers rows r h counts false i l) ∙ sym e),
     omega (arith, e, count-le (present (toldRow N sheet counts (getD reps i 0))) (widthOf N counts), width-most net sheet reps numbers rows r h counts),
   )
     where
@@ -136,7 +143,8 @@ module _ (net sheet reps numbers : List ℕ) (rows : ℕ) (r : Readable net shee
       e = q ∙ rw (t, w)
 
   pub entries-whole : length (partTo (petriNet net) (minimal (graph (petriNet net) sheet)) false false rows)
-      + length (partTo (petriNet net) (minimal (graph (petriNet net) sheet)) true false rows) ≡ length (keys (petriNet net) (minimal (graph (petriNet net) sheet)))
+      + length (partTo (petriNet net) (minimal (graph (petriNet net) sheet)) true false rows)
+      ≡ length (keys (petriNet net) (minimal (graph (petriNet net) sheet)))
   entries-whole = rw (part-whole false false, part-whole true false) (sym (keys-count N M))
 
   -- ---- the form
@@ -151,7 +159,8 @@ module _ (net sheet reps numbers : List ℕ) (rows : ℕ) (r : Readable net shee
       four = (partOf N M false false ++ partOf N M true false) ++ (partOf N M false true ++ partOf N M true true)
 
   pub form-total : length (minimalForm net sheet) ≡ 2 + length (partOf (petriNet net) (minimal (graph (petriNet net) sheet)) false false)
-      + length (partOf (petriNet net) (minimal (graph (petriNet net) sheet)) true false) + length (partOf (petriNet net) (minimal (graph (petriNet net) sheet)) false true)
+      + length (partOf (petriNet net) (minimal (graph (petriNet net) sheet)) true false)
+      + length (partOf (petriNet net) (minimal (graph (petriNet net) sheet)) false true)
       + length (partOf (petriNet net) (minimal (graph (petriNet net) sheet)) true true)
   form-total =
       ap length (form-parts (length (keys N M)) refl) ∙ omega (
@@ -162,6 +171,7 @@ module _ (net sheet reps numbers : List ℕ) (rows : ℕ) (r : Readable net shee
       )
 
   -- how long it is
-  pub form-length : (entries : ℕ) → entries ≡ length (keys (petriNet net) (minimal (graph (petriNet net) sheet))) → length (minimalForm net sheet) ≡ 2 + 2 * entries
+  pub form-length : (entries : ℕ) → entries ≡ length (keys (petriNet net) (minimal (graph (petriNet net) sheet)))
+      → length (minimalForm net sheet) ≡ 2 + 2 * entries
   unfolding minimalForm
   form-length entries e = encoded-length N M ∙ rw (encoded-entries N M, e)

@@ -39,12 +39,6 @@ use Rattle.sequential.proofs.Demands.{accepted-exactly}
 pub refused-accepted {ℓ} : {C : Type ℓ} (v : Verdict) (r : Refusal) → v ≡ Refused r → v ≡ Accepted → C
 refused-accepted v r p q = let z : _≡_ {A = ℕ} 0 1 = cc in absurd (omega arith)
 
--- what is accepted is readable
-pub readable : (net sheet : List ℕ) → scheduleReply net sheet ≡ Accepted → Readable net sheet
-readable net sheet h =
-    let a = accepted-exactly net sheet .0 h in
-    record { accepted = a .net-accepted; passes = words-in (petriNet net) sheet (a .words) }
-
 -- ---- the entry of an arc
 
 pub found-at : (o : Option ℕ) (i : ℕ) → foundOf o ≡ At i → o ≡ some i

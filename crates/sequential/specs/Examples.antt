@@ -39,7 +39,9 @@ table =
     refused (1 ∷ 2 ∷ 2 ∷ 1 ∷ 2 ∷ 2 ∷ 1 ∷ []) (2 ∷ 3 ∷ 0 ∷ 3 ∷ 5 ∷ 1 ∷ 0 ∷ 1 ∷ []) (Refused (refusal 14 (Entry 1))) ∷
     refused (1 ∷ 2 ∷ 3 ∷ 1 ∷ 3 ∷ 4 ∷ 1 ∷ 1 ∷ 1 ∷ []) (1 ∷ 2 ∷ 1 ∷ 2 ∷ 0 ∷ 1 ∷ []) (Refused (refusal 13 (Node 0))) ∷
     accepted (1 ∷ 2 ∷ 3 ∷ 1 ∷ 2 ∷ 4 ∷ 1 ∷ 1 ∷ 16777216 ∷ []) (2 ∷ 4 ∷ 0 ∷ 3 ∷ 4 ∷ 5 ∷ 1 ∷ 0 ∷ 16777216 ∷ 16777217 ∷ []) (2 ∷ 2 ∷ 1 ∷ []) ∷
-    refused (1 ∷ 2 ∷ 3 ∷ 1 ∷ 2 ∷ 4 ∷ 1 ∷ 1 ∷ 16777216 ∷ []) (2 ∷ 4 ∷ 0 ∷ 3 ∷ 4 ∷ 5 ∷ 1 ∷ 0 ∷ 16777216 ∷ 16777216 ∷ []) (Refused (refusal 15 (Entry 0))) ∷ []
+    refused (1 ∷ 2 ∷ 3 ∷ 1 ∷ 2 ∷ 4 ∷ 1 ∷ 1 ∷ 16777216 ∷ []) (2 ∷ 4 ∷ 0 ∷ 3 ∷ 4 ∷ 5 ∷ 1 ∷ 0 ∷ 16777216 ∷ 16777216 ∷ []) (Refused (refusal 15 (Entry 0))) ∷
+    -- not starred: a key at the limit V × (T + P), which is 6; the second of the list has a key of 5
+    refused netA (2 ∷ 3 ∷ 0 ∷ 3 ∷ 6 ∷ 1 ∷ 0 ∷ 1 ∷ []) (Refused (refusal 8 (Entry 2))) ∷ []
 
 abbrev pub repliesTo : List Example → List Verdict
 repliesTo [] = []

@@ -4,7 +4,8 @@ use Rattle.net.proofs.Answer.{answer-none, answer-left}
 use Rattle.sequential.specs.Words.{entryCount}
 use Rattle.schedule.specs.Calls.{stepFault}
 use Rattle.graph.proofs.Readable.{known, words}
-use Rattle.schedule.proofs.Walks.{readable, found-at, found-nothing, entry-low, target-node, walker-node, next-refused, step-refused, step-passes, step-lands}
+use Rattle.judge.proofs.Judged.{accepted-readable}
+use Rattle.schedule.proofs.Walks.{found-at, found-nothing, entry-low, target-node, walker-node, next-refused, step-refused, step-passes, step-lands}
 use borrow.Author.Needs.{needs}
 use mathlib.Core.Path.{sym, ap, _∙_}
 use Rattle.schedule.proofs.firing.step.Statement.{statement}
@@ -18,7 +19,7 @@ use Rattle.schedule.proofs.node_rows.marking.Reads as marking-reads
 use Rattle.net.proofs.refuse.Reads as refuse-reads
 
 walker-fault-requires : tie.Need-walker-fault-requires
-walker-fault-requires c κs = readable _ _ (c .before .before .pre)
+walker-fault-requires c κs = accepted-readable _ _ (c .before .before .pre)
 
 enum-told : tie.Need-enum-told
 enum-told c = search needs
@@ -31,7 +32,7 @@ enum-told-2 : tie.Need-enum-told-2
 enum-told-2 c = search needs
 
 arc-entry-requires : tie.Need-arc-entry-requires
-arc-entry-requires c κs = (readable _ _ (c .before .before .before .before .before .pre), walker-node _ _ _ (answer-none _ (sym (c .before .before .walker-fault .ensures) ∙ (c .enum-told2 .given .1))))
+arc-entry-requires c κs = (accepted-readable _ _ (c .before .before .before .before .before .pre), walker-node _ _ _ (answer-none _ (sym (c .before .before .walker-fault .ensures) ∙ (c .enum-told2 .given .1))))
 
 enum-told-3 : tie.Need-enum-told-3
 enum-told-3 c = search needs
@@ -44,10 +45,10 @@ enum-known-i c = search needs
 
 arc-target-requires : tie.Need-arc-target-requires
 unfolding entryCount
-arc-target-requires c κs = (known _ _ (readable _ _ (c .before .before .before .before .before .before .before .before .before .pre)) .long, entry-low _ _ _ _ _ (found-at _ _ (sym (c .before .before .before .arc-entry .ensures) ∙ (c .before .i .given .1))))
+arc-target-requires c κs = (known _ _ (accepted-readable _ _ (c .before .before .before .before .before .before .before .before .before .pre)) .long, entry-low _ _ _ _ _ (found-at _ _ (sym (c .before .before .before .arc-entry .ensures) ∙ (c .before .i .given .1))))
 
 marking-requires : tie.Need-marking-requires
-marking-requires c κs = let r = readable _ _ (c .before .before .before .before .before .before .before .before .before .before .pre) in let f = answer-none _ (sym (c .before .before .before .before .before .before .before .walker-fault .ensures) ∙ (c .before .before .before .before .before .enum-told2 .given .1)) in
+marking-requires c κs = let r = accepted-readable _ _ (c .before .before .before .before .before .before .before .before .before .before .pre) in let f = answer-none _ (sym (c .before .before .before .before .before .before .before .walker-fault .ensures) ∙ (c .before .before .before .before .before .enum-told2 .given .1)) in
     (r, rw (c .arc-target .ensures) (target-node _ _ _ _ (known _ _ r .some-transition) (words _ _ r) (walker-node _ _ _ f) _ (found-at _ _ (sym (c .before .before .before .before .arc-entry .ensures) ∙ (c .before .before .i .given .1)))))
 
 returns-2 : tie.Need-returns-2
