@@ -1,7 +1,6 @@
-//! A call with everything it lends, what it leaves behind, and its line of text.
+//! A call with everything it lends, and what it leaves behind.
 
-use crate::model::{Walker, FORM, LINES, SCRATCH};
-use crate::subject::Subject;
+use crate::model::{self, Walker, FORM, LINES, SCRATCH};
 
 #[derive(Clone, Copy, PartialEq, Eq, PartialOrd, Ord)]
 pub enum Kind {
@@ -29,6 +28,21 @@ impl Kind {
             SingleFiring => "fire",
             Run => "run",
             ShortForm => "form",
+        }
+    }
+
+    /// The operation's number in a case.
+    pub fn operation(self) -> u32 {
+        self as u32 + 1
+    }
+
+    /// The words before each of the call's own numbers.
+    pub fn own(self) -> &'static [&'static str] {
+        match self {
+            SheetCheck => &["nodes", "arcs", "awaits"],
+            Run => &["fired", "node"],
+            ShortForm => &["length"],
+            _ => &[],
         }
     }
 
@@ -83,19 +97,20 @@ impl Call {
         }
     }
 
-    pub fn put_to(&self, subject: &Subject) -> Outcome {
+    /// What the model leaves behind.
+    pub fn put(&self) -> Outcome {
         let Call { net, sheet, record, transition, .. } = self;
         let Call { mut walker, mut out, mut scratch, .. } = self.clone();
         let reply = match self.kind {
-            NetCheck => (subject.net_check)(net).to_vec(),
-            SheetCheck => (subject.sheet_check)(net, sheet, &mut scratch).to_vec(),
-            PlaceBounds => (subject.place_bounds)(net, sheet, &mut out, &mut scratch).to_vec(),
-            FreshWalker => (subject.fresh_walker)(net, &mut walker).to_vec(),
+            NetCheck => model::net_check(net).to_vec(),
+            SheetCheck => model::sheet_check(net, sheet, &mut scratch).to_vec(),
+            PlaceBounds => model::place_bounds(net, sheet, &mut out, &mut scratch).to_vec(),
+            FreshWalker => model::fresh_walker(net, &mut walker).to_vec(),
             SingleFiring => {
-                (subject.single_firing)(net, sheet, &mut walker, *transition, &mut scratch).to_vec()
+                model::single_firing(net, sheet, &mut walker, *transition, &mut scratch).to_vec()
             }
-            Run => (subject.run)(net, sheet, record, &mut out, &mut scratch).to_vec(),
-            ShortForm => (subject.short_form)(net, sheet, &mut out, &mut scratch).to_vec(),
+            Run => model::run(net, sheet, record, &mut out, &mut scratch).to_vec(),
+            ShortForm => model::short_form(net, sheet, &mut out, &mut scratch).to_vec(),
         };
         Outcome { reply, walker, out, scratch }
     }
@@ -113,90 +128,4 @@ impl Call {
         };
         &outcome.out[..length.min(outcome.out.len())]
     }
-
-    /// The call as a line of text; `parse` reads it back, but for what the buffers held.
-    ///
-    /// A line is `CALL | NET | SHEET`, then `| NAME WORDS` for each further argument:
-    ///
-    /// - CALL: net, check, bounds, fresh, fire, run or form. The calls net and fresh have no SHEET.
-    /// - NET, SHEET and WORDS: decimal words with blanks between them, possibly none.
-    /// - `record` (run): the transitions to fire; none if missing.
-    /// - `walker` (fire): its node, then its counts; those missing are 0.
-    /// - `transition` (fire): one word; 0 if missing.
-    /// - `out` (bounds, run, form): the length lent; 8194 if missing.
-    /// - `scratch`: the length lent; 8192 if missing.
-    pub fn line(&self) -> String {
-        let mut line = format!("{} | {}", self.kind.name(), listed(&self.net));
-        if self.kind.reads_sheet() {
-            line += &format!(" | {}", listed(&self.sheet));
-        }
-        if self.kind == Run {
-            line += &format!(" | record {}", listed(&self.record));
-        }
-        if self.kind == SingleFiring {
-            line += &format!(" | walker {}", listed(&self.walker));
-            line += &format!(" | transition {}", self.transition);
-        }
-        if self.kind.writes_out() {
-            line += &format!(" | out {}", self.out.len());
-        }
-        if self.kind.reads_sheet() {
-            line += &format!(" | scratch {}", self.scratch.len());
-        }
-        line
-    }
-
-    /// Reads a line as `line` writes it; nothing if it is not one.
-    pub fn parse(line: &str) -> Option<Call> {
-        let mut fields = line.split('|');
-        let name = fields.next()?.trim();
-        let kind = Kind::ALL.into_iter().find(|kind| kind.name() == name)?;
-        let net = words(fields.next()?)?;
-        let sheet = if kind.reads_sheet() { words(fields.next()?)? } else { Vec::new() };
-        let mut call = Call::new(kind, &net, &sheet);
-        for field in fields {
-            call.argument(field.trim())?;
-        }
-        Some(call)
-    }
-
-    fn argument(&mut self, field: &str) -> Option<()> {
-        let (name, rest) = field.split_once(' ').unwrap_or((field, ""));
-        let given = words(rest)?;
-        match (name, given.as_slice()) {
-            ("record", _) => self.record = given,
-            ("walker", _) if given.len() <= self.walker.len() => {
-                self.walker[..given.len()].copy_from_slice(&given);
-            }
-            ("transition", &[t]) => self.transition = t,
-            ("out", &[length]) => self.out = vec![0; length as usize],
-            ("scratch", &[length]) => self.scratch = vec![0; length as usize],
-            _ => return None,
-        }
-        Some(())
-    }
-}
-
-impl Outcome {
-    /// The reply's numbers, then the words of the result if the call has any.
-    pub fn line(&self, call: &Call) -> String {
-        let reply = listed(&self.reply);
-        let result = listed(call.result(self));
-        if result.is_empty() {
-            reply
-        } else {
-            format!("{reply} | {result}")
-        }
-    }
-}
-
-/// Numbers with blanks between them.
-pub fn listed<T: ToString>(numbers: &[T]) -> String {
-    let texts: Vec<String> = numbers.iter().map(T::to_string).collect();
-    texts.join(" ")
-}
-
-/// Words read from decimal text; nothing where one of them is no word.
-pub fn words(text: &str) -> Option<Vec<u32>> {
-    text.split_whitespace().map(|word| word.parse().ok()).collect()
 }

@@ -1,6 +1,5 @@
 //! The sheets of document 01, "Sheets to try" and the nine nodes, with the answers given there.
 
-use crate::call::words;
 use crate::generate::rng::Rng;
 use crate::generate::schedules::{crowded, nine_nodes, ring};
 use crate::model::{self, FORM, SCRATCH};
@@ -37,7 +36,7 @@ pub fn check(tally: &mut Tally) {
 }
 
 fn text_words(text: &str) -> Vec<u32> {
-    words(text).unwrap_or_default()
+    text.split_whitespace().filter_map(|word| word.parse().ok()).collect()
 }
 
 fn sheet_check(net: &[u32], sheet: &[u32], scratch: usize) -> [u64; 6] {

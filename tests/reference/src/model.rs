@@ -116,6 +116,18 @@ pub fn net_check(net: &[u32]) -> [u64; 3] {
     plain(Net::read(net).map(|_| vec![]))
 }
 
+/// What a transition takes and puts at a place, and what the place starts with: "an absent key means
+/// 0", and so does a transition or a place that there is not. The document says nothing of a net that
+/// is refused; one without a source has its weights, any other has none here.
+pub fn weights(net: &[u32], transition: u32, place: u32) -> [u64; 3] {
+    let Some(net) = Net::spread_out(net) else {
+        return [0; 3];
+    };
+    let (t, p) = (transition as usize, place as usize);
+    let at = |row: Option<&Vec<u64>>| row.and_then(|row| row.get(p)).copied().unwrap_or(0);
+    [at(net.taken.get(t)), at(net.put.get(t)), at(Some(&net.start))]
+}
+
 /// Sheet check: "on acceptance the numbers of nodes, arcs and await nodes".
 pub fn sheet_check(net: &[u32], sheet: &[u32], scratch: &mut [u32]) -> [u64; 6] {
     let answer = accept(net, sheet, scratch).map(|(net, sheet)| {

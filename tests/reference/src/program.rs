@@ -1,10 +1,10 @@
 //! The program of document 01: how it reads `net.bin` and `sheet.bin`, what it prints, and a
 //! comparison of a program with that.
 
-use crate::call::listed;
 use crate::generate::{self, rng::Rng};
 use crate::model::{self, FORM, SCRATCH};
 use crate::tally::Tally;
+use crate::text::{listed, position};
 use std::path::Path;
 use std::process::Command;
 
@@ -23,31 +23,29 @@ fn words(bytes: &[u8], most: usize) -> Option<Vec<u32>> {
     Some(whole.map(|four| u32::from_le_bytes([four[0], four[1], four[2], four[3]])).collect())
 }
 
-/// Line 1: number, kind of position, position.
-fn first_line(number: u64, kind: u64, position: u64) -> String {
-    let kind = ["none", "entry", "place", "node", "record"][kind as usize];
-    format!("answer {number} {kind} {position}\n")
+/// The program's whole output for a refusal.
+fn refused(number: u64, kind: u64, at: u64) -> String {
+    position(&[number, kind, at]) + "\n"
 }
 
 /// The program's whole output for the bytes of its two files.
 pub fn printed(net: &[u8], sheet: &[u8]) -> String {
     let Some(net) = words(net, NET_WORDS) else {
-        return first_line(1, 0, 0);
+        return refused(1, 0, 0);
     };
-    let [number, kind, position] = model::net_check(&net);
+    let [number, kind, at] = model::net_check(&net);
     if number != 0 {
-        return first_line(number, kind, position);
+        return refused(number, kind, at);
     }
     let Some(sheet) = words(sheet, SHEET_WORDS) else {
-        return first_line(6, 0, 0);
+        return refused(6, 0, 0);
     };
     let scratch = &mut [0; SCRATCH];
-    let [number, kind, position, nodes, arcs, awaits] = model::sheet_check(&net, &sheet, scratch);
-    let mut text = first_line(number, kind, position);
+    let [number, kind, at, nodes, arcs, awaits] = model::sheet_check(&net, &sheet, scratch);
     if number != 0 {
-        return text;
+        return refused(number, kind, at);
     }
-    text += &format!("nodes {nodes} arcs {arcs} awaits {awaits}\n");
+    let mut text = format!("answer 0 none 0\nnodes {nodes} arcs {arcs} awaits {awaits}\n");
     let out = &mut [0; FORM];
     model::place_bounds(&net, &sheet, out, scratch);
     for (place, bound) in out[..net[0] as usize].iter().enumerate() {

@@ -34,6 +34,20 @@ pub(super) fn spread(keys: &[u32], values: &[u32], end: u64) -> Vec<Option<u64>>
 impl Net {
     /// The net's checks in their order: "under 3 words, sizes, length, entries, 5".
     pub fn read(words: &[u32]) -> Result<Net, Refusal> {
+        let net = Net::entries(words)?;
+        if net.sources().is_empty() {
+            return refuse(5, Nothing);
+        }
+        Ok(net)
+    }
+
+    /// A net's weights, with a source or without.
+    pub fn spread_out(words: &[u32]) -> Option<Net> {
+        Net::entries(words).ok()
+    }
+
+    /// The checks up to the entries.
+    fn entries(words: &[u32]) -> Result<Net, Refusal> {
         if words.len() < 3 {
             return refuse(1, Nothing);
         }
@@ -55,11 +69,7 @@ impl Net {
                 return refuse(4, Entry(i));
             }
         }
-        let net = Net::from_table(&spread(keys, weights, end), p as usize, t as usize);
-        if net.sources().is_empty() {
-            return refuse(5, Nothing);
-        }
-        Ok(net)
+        Ok(Net::from_table(&spread(keys, weights, end), p as usize, t as usize))
     }
 
     /// The keys are rows of P places: what each transition takes, what each puts, the start. "An
