@@ -82,7 +82,11 @@ pub(crate) fn run(
     print::end_line();
 }
 
-// The call is not there yet.
-pub(crate) fn minimal_form(_net: &[u32], _sheet: &[u32], _out: &mut [u32], _scratch: &mut [u32]) {
-    print::text(b"no such call\n");
+pub(crate) fn minimal_form(net: &[u32], sheet: &[u32], out: &mut [u32], scratch: &mut [u32]) {
+    fill(out, OUT);
+    fill(scratch, SCRATCH);
+    print::form_answer(minimize::minimal_form(net, sheet, out, scratch));
+    print::out(out, OUT);
+    print::scratch(scratch, SCRATCH);
+    print::end_line();
 }

@@ -4,6 +4,7 @@ ghost use lib.ListN.{length};
 use judge::CheckAnswer;
 use judge::Counts;
 use libc::STDOUT_FILENO;
+use minimal::FormAnswer;
 use net::Position;
 use net::Refusal;
 use net::Verdict;
@@ -105,6 +106,28 @@ pub(crate) fn run_answer(answer: RunAnswer) {
     match answer {
         RunAnswer::Done(found) => done(found),
         RunAnswer::Stopped(found) => stopped(found),
+    }
+}
+
+fn length(n: usize) {
+    text(b" length");
+    number(n as u64);
+}
+
+fn written(n: usize) {
+    answer(0, Position::Nothing);
+    length(n);
+}
+
+fn not_written(found: Refusal) {
+    refused(found);
+    length(0);
+}
+
+pub(crate) fn form_answer(answer: FormAnswer) {
+    match answer {
+        FormAnswer::Written(n) => written(n),
+        FormAnswer::Refused(found) => not_written(found),
     }
 }
 
