@@ -85,7 +85,7 @@ fn replaced(rng: &mut Rng, schedule: &Schedule) -> (Vec<u32>, Vec<u32>) {
 /// A case of any operation that the program `calls` plays.
 pub fn case(rng: &mut Rng) -> Case {
     if rng.chance(95) {
-        return Case::Call(call(rng, &PLAYED));
+        return Case::Call(call(rng));
     }
     let net = if rng.chance(50) { net(rng) } else { schedule(rng).net };
     let (t, p) = (rng.below(net.transitions() + 2), rng.below(net.places() + 2));
@@ -98,19 +98,9 @@ pub fn case(rng: &mut Rng) -> Case {
     Case::Weights { net: words, transition: t as u32, place: p as u32 }
 }
 
-/// The calls that the program `calls` has.
-const PLAYED: [Kind; 6] = [
-    Kind::NetCheck,
-    Kind::SheetCheck,
-    Kind::PlaceBounds,
-    Kind::FreshWalker,
-    Kind::SingleFiring,
-    Kind::Run,
-];
-
-/// A call of one of these kinds.
-pub fn call(rng: &mut Rng, kinds: &[Kind]) -> Call {
-    let kind = rng.pick(kinds);
+/// A call of any kind.
+pub fn call(rng: &mut Rng) -> Call {
+    let kind = rng.pick(&Kind::ALL);
     let schedule = schedule(rng);
     let (mut net_part, sheet_part) = words(rng, &schedule);
     if !kind.reads_sheet() && rng.chance(30) {
