@@ -12,8 +12,7 @@ use borrow.Author.Tests.{leb-true, leb-false, le-leb, lt-leb}
 use Rattle.scan.specs.Scan.{tabulate}
 use Rattle.scan.proofs.Tests.{byTest}
 use Rattle.scan.proofs.Tabulate.{tabulate-length, tabulate-ext}
-use Rattle.files.specs.Words.{wordFrom, wordAt, isLong, isRagged, wordCount, wordsOf, cut, decoded, FileRead}
-use Rattle.files.specs.declared.Reading.{Reading}
+use Rattle.files.specs.Words.{wordFrom, wordAt, isLong, isRagged, wordCount, wordsOf, cut, decoded}
 use Rattle.files.specs.Demands.{ReadAsCut}
 
 module _ (most : ℕ) (bytes : List ℕ) where
@@ -104,16 +103,15 @@ decoded-length bytes out =
     length-append (wordsOf (length out) bytes) (drop (wordCount (length out) bytes) out)
     ∙ (let w = words-length (length out) bytes in let d = length-drop (wordCount (length out) bytes) out in let f = count-fits (length out) bytes in omega arith)
 
-module _ (bytes out : List ℕ) (r : Reading) (out′ : List ℕ) (h : FileRead bytes out r out′) where
-  pub words-fit : r .words ≤ length out′
+module _ (bytes out : List ℕ) (k : ℕ) (out′ : List ℕ) (h : k ≡ wordCount (length out) bytes) (w : out′ ≡ decoded bytes out) where
+  pub words-fit : k ≤ length out′
   words-fit =
-      let e : length out′ ≡ length out = ap (length {A = ℕ}) (h .written) ∙ decoded-length bytes out in
+      let e : length out′ ≡ length out = ap (length {A = ℕ}) w ∙ decoded-length bytes out in
       let f = count-fits (length out) bytes in
-      let w = h .words in
       omega arith
 
-  pub words-taken : r .words ≡ length (take (r .words) out′)
-  words-taken = sym (length-take-le (r .words) out′ words-fit)
+  pub words-taken : k ≡ length (take k out′)
+  words-taken = sym (length-take-le k out′ words-fit)
 
-  pub words-are : take (r .words) out′ ≡ wordsOf (length out) bytes
-  words-are = rw (h .words, h .written) (words-front bytes out)
+  pub words-are : take k out′ ≡ wordsOf (length out) bytes
+  words-are = rw (h, w) (words-front bytes out)

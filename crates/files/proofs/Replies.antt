@@ -1,6 +1,6 @@
 -- What is answered where a file had a tail, and where none had.
 use mathlib.Core.Path.{_≡_, refl, ap, _∙_}
-use Prim.Native.Nat.{ℕ}
+use Prim.Native.Nat.{ℕ, _≤_}
 use mathlib.Core.Bool.{Bool, true, false}
 use mathlib.Core.List.{List}
 use lib.ListN.{length, take}
@@ -16,9 +16,10 @@ use Rattle.judge.specs.Answer.{countsOf, checkAnswer}
 use Rattle.judge.specs.declared.CheckAnswer.the-variants.{Failed}
 use Rattle.judge.specs.declared.CheckAnswer.{CheckAnswer}
 use Rattle.files.specs.Words.{FileRead}
-use Rattle.files.specs.Program.{readReply, readAnswer, filesAnswer, FilesRead}
+use Rattle.files.specs.Program.{readReply, readAnswer, filesAnswer, programAnswer, FilesRead}
 use Rattle.files.specs.declared.Reading.{Reading}
-use Rattle.files.proofs.Decoding.{words-are}
+use Rattle.files.specs.declared.FilesAnswer.{FilesAnswer}
+use Rattle.files.proofs.Decoding.{words-fit, words-taken, words-are}
 
 then-twice : (v w : Verdict) → andThen v w ≡ andThen v (andThen v w)
 then-twice Accepted w = refl
@@ -52,9 +53,23 @@ pub files-read : (netBytes sheetBytes net sheet net′ sheet′ : List ℕ) (x y
 unfolding filesAnswer
 files-read netBytes sheetBytes net sheet net′ sheet′ x y a n s h =
     record {
-      answer = h ∙ rw (n .ragged, s .ragged, words-are netBytes net x net′ n, words-are sheetBytes sheet y sheet′ s);
+      answer = h ∙ rw (n .ragged, s .ragged, words-are netBytes net (x .words) net′ (n .words) (n .written),
+      words-are sheetBytes sheet (y .words) sheet′ (s .words) (s .written));
       net-words = n .words;
       sheet-words = s .words;
       net-decoded = n .written;
       sheet-decoded = s .written;
     }
+
+-- what the program's buffers make of it
+pub program-read : (netBytes sheetBytes net sheet net′ sheet′ : List ℕ) (r : FilesAnswer) → FilesRead netBytes sheetBytes net sheet r net′ sheet′
+    → length net ≡ 4164 → length sheet ≡ 8195 → r .answer ≡ programAnswer netBytes sheetBytes
+unfolding programAnswer
+program-read netBytes sheetBytes net sheet net′ sheet′ r h n s = h .answer ∙ rw (n, s)
+
+module _ (netBytes sheetBytes net sheet net′ sheet′ : List ℕ) (r : FilesAnswer) (h : FilesRead netBytes sheetBytes net sheet r net′ sheet′) where
+  pub net-counted : (r .net ≤ length net′) × (r .net ≡ length (take (r .net) net′))
+  net-counted = (words-fit _ _ _ _ (h .net-words) (h .net-decoded), words-taken _ _ _ _ (h .net-words) (h .net-decoded))
+
+  pub sheet-counted : (r .sheet ≤ length sheet′) × (r .sheet ≡ length (take (r .sheet) sheet′))
+  sheet-counted = (words-fit _ _ _ _ (h .sheet-words) (h .sheet-decoded), words-taken _ _ _ _ (h .sheet-words) (h .sheet-decoded))

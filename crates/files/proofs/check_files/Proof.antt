@@ -16,16 +16,16 @@ decode-requires-2 : tie.Need-decode-requires-2
 decode-requires-2 c κs = search needs
 
 slice-reshare-prefix-check-read : tie.Need-slice-reshare-prefix-check-read
-slice-reshare-prefix-check-read c = words-fit _ _ _ _ ((c .before .before .before .before .before .before .decode) .ensures)
+slice-reshare-prefix-check-read c = let d = c .before .before .before .before .before .before .decode .ensures in words-fit _ _ _ _ (d .words) (d .written)
 
 slice-aggregate-check-read : tie.Need-slice-aggregate-check-read
-slice-aggregate-check-read c = words-taken _ _ _ _ ((c .before .before .before .before .before .before .before .decode) .ensures)
+slice-aggregate-check-read c = let d = c .before .before .before .before .before .before .before .decode .ensures in words-taken _ _ _ _ (d .words) (d .written)
 
 slice-reshare-prefix-check-read-2 : tie.Need-slice-reshare-prefix-check-read-2
-slice-reshare-prefix-check-read-2 c = words-fit _ _ _ _ ((c .before .before .before .decode2) .ensures)
+slice-reshare-prefix-check-read-2 c = let d = c .before .before .before .decode2 .ensures in words-fit _ _ _ _ (d .words) (d .written)
 
 slice-aggregate-check-read-2 : tie.Need-slice-aggregate-check-read-2
-slice-aggregate-check-read-2 c = words-taken _ _ _ _ ((c .before .before .before .before .decode2) .ensures)
+slice-aggregate-check-read-2 c = let d = c .before .before .before .before .decode2 .ensures in words-taken _ _ _ _ (d .words) (d .written)
 
 check-read-requires : tie.Need-check-read-requires
 check-read-requires c κs = search needs
