@@ -45,8 +45,12 @@ module _ (most : ℕ) (bytes : List ℕ) where
   cut-word : (i : ℕ) → i < most → wordAt (cut most bytes) i ≡ wordAt bytes i
   unfolding wordAt wordFrom cut
   cut-word i l =
-      rw (getD-take (4 * most) bytes (4 * i + 0) 0 (omega arith), getD-take (4 * most) bytes (4 * i + 1) 0 (omega arith),
-      getD-take (4 * most) bytes (4 * i + 2) 0 (omega arith), getD-take (4 * most) bytes (4 * i + 3) 0 (omega arith))
+      rw (
+        getD-take (4 * most) bytes (4 * i + 0) 0 (omega arith),
+        getD-take (4 * most) bytes (4 * i + 1) 0 (omega arith),
+        getD-take (4 * most) bytes (4 * i + 2) 0 (omega arith),
+        getD-take (4 * most) bytes (4 * i + 3) 0 (omega arith),
+      )
 
   cut-long : 4 * most ≤ length bytes → length (cut most bytes) ≡ 4 * most
   unfolding cut

@@ -53,8 +53,12 @@ pub files-read : (netBytes sheetBytes net sheet net′ sheet′ : List ℕ) (x y
 unfolding filesAnswer
 files-read netBytes sheetBytes net sheet net′ sheet′ x y a n s h =
     record {
-      answer = h ∙ rw (n .ragged, s .ragged, words-are netBytes net (x .words) net′ (n .words) (n .written),
-      words-are sheetBytes sheet (y .words) sheet′ (s .words) (s .written));
+      answer = h ∙ rw (
+        n .ragged,
+        s .ragged,
+        words-are netBytes net (x .words) net′ (n .words) (n .written),
+        words-are sheetBytes sheet (y .words) sheet′ (s .words) (s .written),
+      );
       net-words = n .words;
       sheet-words = s .words;
       net-decoded = n .written;

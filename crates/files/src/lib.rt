@@ -113,7 +113,12 @@ pub fn check_read(tails: Tails, net: &[u32], sheet: &[u32]) -> CheckAnswer
 }
 
 // What is answered for the bytes of two files, whose words are left in the buffers lent.
-pub fn check_files(netbin: &[u8], sheetbin: &[u8], net: &mut [u32], sheet: &mut [u32]) -> FilesAnswer
+pub fn check_files(
+    netbin: &[u8],
+    sheetbin: &[u8],
+    net: &mut [u32],
+    sheet: &mut [u32],
+) -> FilesAnswer
     ensures { λ r. ⌜ FilesRead (now (netbin .entry)) (now (sheetbin .entry)) (now (net .entry)) (now (sheet .entry)) r (now (net .exit)) (now (sheet .exit)) ⌝ }
 {
     let first = decode(netbin, net);

@@ -50,15 +50,15 @@ loop-less c = search needs
 loop-again : tie.Need-loop-again Inv-loop μ-loop
 unfolding wordAt
 loop-again c = let w = c .before .before .loop in
-      let a = c .before .before .before .before .before .before .args in
-      let f = count-fits (length (a .out .now)) (a .bytes .now) in (
-        omega arith,
-        w .inv .1,
-        ap (λ (l : List ℕ). set l (w .i) (c .word .result)) (w .inv .2)
-        ∙ ap (set (tabulate (wordAt (a .bytes .now)) (w .i) ++ drop (w .i) (a .out .now)) (w .i)) (c .word .ensures)
-        ∙ front-more (wordAt (a .bytes .now)) (w .i) (a .out .now) (omega arith),
-        simp length-set (w .inv .3),
-      )
+    let a = c .before .before .before .before .before .before .args in
+    let f = count-fits (length (a .out .now)) (a .bytes .now) in (
+      omega arith,
+      w .inv .1,
+      ap (λ (l : List ℕ). set l (w .i) (c .word .result)) (w .inv .2)
+          ∙ ap (set (tabulate (wordAt (a .bytes .now)) (w .i) ++ drop (w .i) (a .out .now)) (w .i)) (c .word .ensures)
+          ∙ front-more (wordAt (a .bytes .now)) (w .i) (a .out .now) (omega arith),
+      simp length-set (w .inv .3),
+    )
 
 same-length : tie.Need-same-length Inv-loop μ-loop
 same-length c = search needs
