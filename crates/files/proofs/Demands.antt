@@ -1,0 +1,33 @@
+-- The promises of the reading of files, each proved.
+use Prim.Native.Nat.{ℕ}
+use mathlib.Core.Path.{_≡_, sym}
+use mathlib.Core.List.{List}
+use Rattle.files.specs.Program.{filesAnswer, programAnswer}
+use Rattle.files.specs.Words.{isRagged, wordsOf}
+use Rattle.files.specs.Demands.{CutReads, CutAnswers, AnswersInOrder}
+use Rattle.files.proofs.Decoding.{read-as-cut}
+use Rattle.files.proofs.Replies.{net-tail, net-refused, sheet-tail, no-tail}
+
+pub cut-reads : CutReads
+cut-reads = read-as-cut
+
+pub cut-answers : CutAnswers
+unfolding filesAnswer programAnswer
+cut-answers net sheet =
+    let n = read-as-cut 4164 net in
+    let s = read-as-cut 8195 sheet in
+    rw (n .words, n .ragged, s .words, s .ragged)
+
+pub answers-in-order : AnswersInOrder
+unfolding filesAnswer programAnswer
+answers-in-order net sheet =
+    let n = wordsOf 4164 net in
+    let s = wordsOf 8195 sheet in
+    let a = isRagged 4164 net in
+    let b = isRagged 8195 sheet in
+    record {
+      net-tail = λ p. sym (net-tail n s a b p);
+      net-refused = λ p r h. sym (net-refused n s a b p r h);
+      sheet-tail = λ p h q. sym (sheet-tail n s a b p q h);
+      no-tail = λ p q. sym (no-tail n s a b p q);
+    }

@@ -1,0 +1,4 @@
+pub mod Decoding
+pub mod Replies
+pub mod Examples
+pub mod Demands

@@ -1,0 +1,39 @@
+-- What is promised of the reading of files, as statements. proofs/Demands has a term for each.
+use Prim.Native.Nat.{ℕ}
+use mathlib.Core.Path.{_≡_}
+use mathlib.Core.List.{List}
+use mathlib.Core.Bool.{true, false}
+use Rattle.net.specs.Refusal.{refusal}
+use Rattle.net.specs.Check.{netReply}
+use Rattle.net.specs.declared.Position.the-variants.{Nothing}
+use Rattle.net.specs.declared.Refusal.{Refusal}
+use Rattle.net.specs.declared.Verdict.the-variants.{Accepted, Refused}
+use Rattle.sequential.specs.Check.{scheduleReply}
+use Rattle.judge.specs.Answer.{countsOf, checkAnswer}
+use Rattle.judge.specs.declared.CheckAnswer.the-variants.{Failed}
+use Rattle.files.specs.Words.{isRagged, wordsOf, cut}
+use Rattle.files.specs.Program.{programAnswer}
+
+-- a file is read as its cut is
+pub record ReadAsCut (most : ℕ) (bytes : List ℕ) : Type 0 where
+  pub words : wordsOf most (cut most bytes) ≡ wordsOf most bytes
+  pub ragged : isRagged most (cut most bytes) ≡ isRagged most bytes
+
+abbrev pub CutReads : Type 0
+CutReads = (most : ℕ) (bytes : List ℕ) → ReadAsCut most bytes
+
+-- a longer file is answered as its cut: 16,656 bytes of the net and 32,780 of the sheet are enough
+abbrev pub CutAnswers : Type 0
+CutAnswers = (net sheet : List ℕ) → programAnswer (cut 4164 net) (cut 8195 sheet) ≡ programAnswer net sheet
+
+-- "a tail of one to three bytes is 1 or 6 before any other check of that file": the net's tail, the net, the sheet's tail, the sheet
+pub record AnswersFiles (net sheet : List ℕ) : Type 0 where
+  pub net-tail : isRagged 4164 net ≡ true → programAnswer net sheet ≡ Failed (refusal 1 Nothing)
+  pub net-refused : isRagged 4164 net ≡ false → (r : Refusal) → netReply (wordsOf 4164 net) ≡ Refused r → programAnswer net sheet ≡ Failed r
+  pub sheet-tail : isRagged 4164 net ≡ false → netReply (wordsOf 4164 net) ≡ Accepted → isRagged 8195 sheet ≡ true
+      → programAnswer net sheet ≡ Failed (refusal 6 Nothing)
+  pub no-tail : isRagged 4164 net ≡ false → isRagged 8195 sheet ≡ false → programAnswer net sheet
+      ≡ checkAnswer (scheduleReply (wordsOf 4164 net) (wordsOf 8195 sheet)) (countsOf (wordsOf 4164 net) (wordsOf 8195 sheet))
+
+abbrev pub AnswersInOrder : Type 0
+AnswersInOrder = (net sheet : List ℕ) → AnswersFiles net sheet

@@ -1,0 +1,46 @@
+-- Document 01, "The calls", its last paragraph: what the program answers for its two files.
+use Prim.Native.Nat.{ℕ}
+use mathlib.Core.Path.{_≡_}
+use mathlib.Core.List.{List}
+use mathlib.Core.Bool.{Bool, true, false}
+use lib.ListN.{length}
+use Rattle.net.specs.Refusal.{refusal}
+use Rattle.net.specs.Check.{netReply}
+use Rattle.net.specs.declared.Position.the-variants.{Nothing}
+use Rattle.net.specs.declared.Verdict.{Verdict}
+use Rattle.net.specs.declared.Verdict.the-variants.{Accepted, Refused}
+use Rattle.sequential.specs.Check.{andThen, scheduleReply}
+use Rattle.judge.specs.Answer.{countsOf, checkAnswer}
+use Rattle.judge.specs.declared.CheckAnswer.{CheckAnswer}
+use Rattle.files.specs.Words.{isRagged, wordCount, wordsOf, decoded}
+use Rattle.files.specs.declared.FilesAnswer.{FilesAnswer}
+
+-- "a tail of one to three bytes is 1 or 6"
+abbrev pub tailReply : Bool → ℕ → Verdict
+tailReply true number = Refused (refusal number Nothing)
+tailReply false number = Accepted
+
+-- ".. before any other check of that file"; "then the net ..; then the sheet"
+unfoldable pub readReply : Bool → Bool → List ℕ → List ℕ → Verdict
+readReply netRagged sheetRagged net sheet =
+    andThen (tailReply netRagged 1) (andThen (netReply net) (andThen (tailReply sheetRagged 6) (scheduleReply net sheet)))
+
+unfoldable pub readAnswer : Bool → Bool → List ℕ → List ℕ → CheckAnswer
+readAnswer netRagged sheetRagged net sheet = checkAnswer (readReply netRagged sheetRagged net sheet) (countsOf net sheet)
+
+-- for the bytes of two files, of which at most so many words are handed on
+unfoldable pub filesAnswer : ℕ → ℕ → List ℕ → List ℕ → CheckAnswer
+filesAnswer netMost sheetMost netBytes sheetBytes =
+    readAnswer (isRagged netMost netBytes) (isRagged sheetMost sheetBytes) (wordsOf netMost netBytes) (wordsOf sheetMost sheetBytes)
+
+-- "the first 4,164 or 8,195 words"
+unfoldable pub programAnswer : List ℕ → List ℕ → CheckAnswer
+programAnswer netBytes sheetBytes = filesAnswer 4164 8195 netBytes sheetBytes
+
+-- One call: what it is handed, what it answers, and what the two buffers hold afterwards.
+pub record FilesRead (netBytes sheetBytes net sheet : List ℕ) (r : FilesAnswer) (net′ sheet′ : List ℕ) : Type 0 where
+  pub answer : r .answer ≡ filesAnswer (length net) (length sheet) netBytes sheetBytes
+  pub net-words : r .net ≡ wordCount (length net) netBytes
+  pub sheet-words : r .sheet ≡ wordCount (length sheet) sheetBytes
+  pub net-decoded : net′ ≡ decoded netBytes net
+  pub sheet-decoded : sheet′ ≡ decoded sheetBytes sheet
