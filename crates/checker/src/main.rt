@@ -1,4 +1,5 @@
 // The checker: reads net.bin and sheet.bin of the folder that it runs in, and prints what is answered for them.
+mod output;
 mod print;
 
 ghost use mathlib.Core.Path.{_≡_};
@@ -31,7 +32,14 @@ fn answer(netbin: &[u8], sheetbin: &[u8], net: &mut [u32], sheet: &mut [u32]) ->
     files::check_files(netbin, sheetbin, net, sheet)
 }
 
-fn report(netbin: &[u8], sheetbin: &[u8], net: &mut [u32], sheet: &mut [u32])
+fn report(
+    netbin: &[u8],
+    sheetbin: &[u8],
+    net: &mut [u32],
+    sheet: &mut [u32],
+    form: &mut [u32],
+    buf: &mut [u8],
+)
     requires { ⌜ length (now net) ≡ 4164 ⌝ }
     requires { ⌜ length (now sheet) ≡ 8195 ⌝ }
 {
@@ -39,7 +47,7 @@ fn report(netbin: &[u8], sheetbin: &[u8], net: &mut [u32], sheet: &mut [u32])
     let n = found.net;
     let s = found.sheet;
     let answer = found.answer;
-    print::answer(answer, &net[..n], &sheet[..s]);
+    print::answer(answer, &net[..n], &sheet[..s], form, buf);
 }
 
 fn main() {
@@ -49,5 +57,7 @@ fn main() {
     let s = read_file(b"sheet.bin", &mut sheetbin);
     let mut net = [0u32; 4164];
     let mut sheet = [0u32; 8195];
-    report(&netbin[..n], &sheetbin[..s], &mut net, &mut sheet);
+    let mut form = [0u32; 8194];
+    let mut buf = io::large_buffer();
+    report(&netbin[..n], &sheetbin[..s], &mut net, &mut sheet, &mut form, &mut buf);
 }

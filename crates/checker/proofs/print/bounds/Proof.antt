@@ -1,6 +1,9 @@
--- `checker::print::bounds` is safe and ends.
-use Prim.Native.Nat.{_-_, _≤_}
+-- `checker::print::bounds` meets its contract.
+use Prim.Native.Nat.{_≤_, _-_}
 use borrow.Author.Needs.{needs}
+use native.Mathlib.Omega.{arith}
+use mathlib.Core.Path.{_≡_}
+use lib.ListN.{length}
 use Rattle.checker.proofs.print.bounds.Statement.{statement}
 use Rattle.checker.proofs.print.bounds.Tie as tie
 use Rattle.checker.proofs.print.bounds.Reads as reads
@@ -10,10 +13,10 @@ use Rattle.net.proofs.places.Reads as places-reads
 use Rattle.schedule.proofs.bounds_into.Reads as bounds-into-reads
 
 abbrev Inv-loop : tie.InvT-loop
-Inv-loop net sheet bounds places p₀ p = p ≤ 32
+Inv-loop buf₀ at net sheet bounds places at₀ p₀ buf at' p = (p ≤ 32) × (length buf ≡ length buf₀)
 
 abbrev μ-loop : tie.MeasureT-loop
-μ-loop net sheet bounds places p₀ p = 32 - p
+μ-loop buf₀ at net sheet bounds places at₀ p₀ buf at' p = 32 - p
 
 slice-aggregate-bounds-into : tie.Need-slice-aggregate-bounds-into Inv-loop μ-loop
 slice-aggregate-bounds-into c = search needs
@@ -29,6 +32,9 @@ cast-places c = search needs
 
 loop-holds : tie.Need-loop-holds Inv-loop μ-loop
 loop-holds c = search needs
+
+same-length : tie.Need-same-length Inv-loop μ-loop
+same-length c = search needs
 
 returns : tie.Need-returns Inv-loop μ-loop
 returns c = search needs
@@ -51,6 +57,9 @@ loop-less c = search needs
 loop-again : tie.Need-loop-again Inv-loop μ-loop
 loop-again c = search needs
 
+same-length-2 : tie.Need-same-length-2 Inv-loop μ-loop
+same-length-2 c = search needs
+
 returns-2 : tie.Need-returns-2 Inv-loop μ-loop
 returns-2 c = search needs
 
@@ -65,6 +74,7 @@ bounds-spec =
     places-requires
     cast-places
     loop-holds
+    same-length
     returns
     mul-bound
     array-read-bound
@@ -72,4 +82,5 @@ bounds-spec =
     add-p
     loop-less
     loop-again
+    same-length-2
     returns-2)

@@ -1,0 +1,24 @@
+-- `checker::output::finish` meets its contract.
+use native.Mathlib.Omega.{arith}
+use lib.ListN.{length-take}
+use borrow.Author.Needs.{needs}
+use Rattle.checker.proofs.output.finish.Statement.{statement}
+use Rattle.checker.proofs.output.finish.Tie as tie
+use Rattle.checker.proofs.output.finish.Reads as reads
+use Rattle.checker.proofs.output.finish.Lts as lts
+use Rattle.io.proofs.write_all.Reads as write-all-reads
+
+slice-aggregate-write-all : tie.Need-slice-aggregate-write-all
+slice-aggregate-write-all c = simp length-take (omega arith)
+
+write-all-requires : tie.Need-write-all-requires
+write-all-requires c κs = search needs
+
+returns : tie.Need-returns
+returns c = search needs
+
+returns-2 : tie.Need-returns-2
+returns-2 c = search needs
+
+pub finish-spec : {M : Type 1} → statement M
+finish-spec = tie.close (tie.spec slice-aggregate-write-all write-all-requires returns returns-2)
