@@ -21,7 +21,11 @@ pub(crate) fn net_check(net: &[u32]) {
 }
 
 pub(crate) fn weights(net: &[u32], t: u32, p: u32) {
-    print::weights(net::taken(net, t, p), net::put(net, t, p), net::start(net, p));
+    print::weights(
+        net::taken(net, t, p),
+        net::put(net, t, p),
+        net::start(net, p),
+    );
     print::end_line();
 }
 

@@ -227,7 +227,16 @@ fn on_net(
         return too_long(read.rest);
     }
     let n = read.count;
-    on_sheet(operation, buffer, read.rest, net, &sheet[..n], record, out, scratch)
+    on_sheet(
+        operation,
+        buffer,
+        read.rest,
+        net,
+        &sheet[..n],
+        record,
+        out,
+        scratch,
+    )
 }
 
 // A case, from behind its operation on.
@@ -246,7 +255,16 @@ fn on_words(
         return too_long(read.rest);
     }
     let n = read.count;
-    on_net(operation, buffer, read.rest, &net[..n], sheet, record, out, scratch)
+    on_net(
+        operation,
+        buffer,
+        read.rest,
+        &net[..n],
+        sheet,
+        record,
+        out,
+        scratch,
+    )
 }
 
 // A case, whole; 0 in place of an operation, or the end, ends.
@@ -266,7 +284,16 @@ fn case(
     if operation.value > 8 {
         return unknown(operation.rest);
     }
-    on_words(operation.value, buffer, operation.rest, net, sheet, record, out, scratch)
+    on_words(
+        operation.value,
+        buffer,
+        operation.rest,
+        net,
+        sheet,
+        record,
+        out,
+        scratch,
+    )
 }
 
 // All cases. Nothing says that the input ends, so the turns are counted down.

@@ -18,5 +18,12 @@ fn main() {
     let mut record = [0u32; 4096];
     let mut out = [0u32; 9000];
     let mut scratch = [0u32; 9000];
-    cases::play(&mut buffer, &mut net, &mut sheet, &mut record, &mut out, &mut scratch);
+    cases::play(
+        &mut buffer,
+        &mut net,
+        &mut sheet,
+        &mut record,
+        &mut out,
+        &mut scratch,
+    );
 }

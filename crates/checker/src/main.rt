@@ -59,5 +59,12 @@ fn main() {
     let mut sheet = [0u32; 8195];
     let mut form = [0u32; 8194];
     let mut buf = io::large_buffer();
-    report(&netbin[..n], &sheetbin[..s], &mut net, &mut sheet, &mut form, &mut buf);
+    report(
+        &netbin[..n],
+        &sheetbin[..s],
+        &mut net,
+        &mut sheet,
+        &mut form,
+        &mut buf,
+    );
 }
