@@ -102,12 +102,26 @@ fn file(rng: &mut Rng, words: &[u32], most: usize) -> File {
     File::Bytes(bytes)
 }
 
+/// The number of line 1.
+fn number(text: &str) -> usize {
+    text.split_whitespace().nth(1).and_then(|number| number.parse().ok()).unwrap_or(usize::MAX)
+}
+
+/// Tells how often each number was asked for, and checks that none of 0 to 17 was missed.
+fn tell_numbers(times: &[u64; 18], tally: &mut Tally) {
+    for (number, &met) in times.iter().enumerate() {
+        println!("answer {number:>2} {met:>6} times");
+        tally.check(met > 0, || format!("no pair of files is to be answered by {number}"));
+    }
+}
+
 /// Runs the program on `count` pairs of files and compares all that it prints. The folder of the
 /// first difference is kept.
 pub fn compare(checker: &Path, seed: u64, count: u64, tally: &mut Tally) -> std::io::Result<()> {
     let checker = checker.canonicalize()?;
     let workplace = std::env::temp_dir().join(format!("reference-{}", std::process::id()));
     std::fs::create_dir_all(&workplace)?;
+    let mut times = [0; 18];
     for index in 0..count {
         let folder = workplace.join(format!("seed-{seed}-case-{index}"));
         std::fs::create_dir(&folder)?;
@@ -115,6 +129,9 @@ pub fn compare(checker: &Path, seed: u64, count: u64, tally: &mut Tally) -> std:
         let output = Command::new(&checker).current_dir(&folder).output()?;
         let is = String::from_utf8_lossy(&output.stdout).into_owned();
         let should = printed_in(&folder);
+        if let Some(met) = times.get_mut(number(&should)) {
+            *met += 1;
+        }
         let kept = is != should && tally.failed == 0;
         tally.same(&format!("{}", folder.display()), is, should);
         if !kept {
@@ -124,6 +141,7 @@ pub fn compare(checker: &Path, seed: u64, count: u64, tally: &mut Tally) -> std:
     if tally.failed == 0 {
         std::fs::remove_dir_all(&workplace)?;
     }
+    tell_numbers(&times, tally);
     Ok(())
 }
 
