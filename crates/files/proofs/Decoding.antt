@@ -11,9 +11,9 @@ use lib.Seq.{getD-take, take-all, take-append-seam, length-take-le}
 use borrow.Author.Tests.{leb-true, leb-false, le-leb, lt-leb}
 use Rattle.scan.specs.Scan.{tabulate}
 use Rattle.scan.proofs.Tests.{byTest}
-use Rattle.scan.proofs.Tabulate.{tabulate-length, tabulate-ext}
+use Rattle.scan.proofs.Tabulate.{tabulate-length, tabulate-ext, take-tabulate}
 use Rattle.files.specs.Words.{wordFrom, wordAt, isLong, isRagged, wordCount, wordsOf, cut, decoded}
-use Rattle.files.specs.Demands.{ReadAsCut}
+use Rattle.files.specs.Demands.{ReadAsCut, allWords}
 
 module _ (most : ℕ) (bytes : List ℕ) where
   -- ---- how much is handed on
@@ -57,16 +57,28 @@ module _ (most : ℕ) (bytes : List ℕ) where
   cut-long l = length-take (4 * most) bytes ∙ omega arith
 
   read-long : 4 * most ≤ length bytes → ReadAsCut most bytes
-  unfolding isLong isRagged wordCount wordsOf
+  unfolding isLong isRagged wordCount wordsOf allWords
   read-long l =
       let e : leb (4 * most) (length bytes) ≡ true = le-leb (4 * most) (length bytes) l in
       let q : leb (4 * most) (length (cut most bytes)) ≡ true = le-leb (4 * most) (length (cut most bytes)) (omega (arith, cut-long l)) in
-      record { words = rw (e, q) (tabulate-ext (wordAt (cut most bytes)) (wordAt bytes) most cut-word); ragged = rw (e, q) }
+      record {
+        handed-on = rw e (sym (take-tabulate (wordAt bytes) most (length bytes / 4) (omega arith)));
+        words = rw (e, q) (tabulate-ext (wordAt (cut most bytes)) (wordAt bytes) most cut-word);
+        ragged = rw (e, q);
+      }
 
   -- another file is its own cut
   read-short : length bytes < 4 * most → ReadAsCut most bytes
-  unfolding cut
-  read-short l = let e : take (4 * most) bytes ≡ bytes = take-all (4 * most) bytes (omega arith) in record { words = rw e; ragged = rw e }
+  unfolding cut isLong wordCount wordsOf allWords
+  read-short l =
+      let e : take (4 * most) bytes ≡ bytes = take-all (4 * most) bytes (omega arith) in
+      let q : leb (4 * most) (length bytes) ≡ false = lt-leb (4 * most) (length bytes) l in
+      let k = tabulate-length (wordAt bytes) (length bytes / 4) in
+      record {
+        handed-on = rw q (sym (take-all most (tabulate (wordAt bytes) (length bytes / 4)) (omega arith)));
+        words = rw e;
+        ragged = rw e;
+      }
 
   pub read-as-cut : ReadAsCut most bytes
   read-as-cut = byTest (leb (4 * most) (length bytes)) (λ e. read-long (leb-true _ _ e)) (λ e. read-short (leb-false _ _ e))

@@ -1,10 +1,12 @@
 -- The promises of the reading of files, each proved.
 use Prim.Native.Nat.{ℕ}
+use native.Mathlib.Omega.{arith}
 use mathlib.Core.Path.{_≡_, sym}
 use mathlib.Core.List.{List}
+use Rattle.sequential.proofs.Cut.{cut-reply-both}
 use Rattle.files.specs.Program.{filesAnswer, programAnswer}
 use Rattle.files.specs.Words.{isRagged, wordsOf}
-use Rattle.files.specs.Demands.{CutReads, CutAnswers, AnswersInOrder}
+use Rattle.files.specs.Demands.{CutReads, CutAnswers, CutChecks, AnswersInOrder}
 use Rattle.files.proofs.Decoding.{read-as-cut}
 use Rattle.files.proofs.Replies.{net-tail, net-refused, sheet-tail, no-tail}
 
@@ -17,6 +19,9 @@ cut-answers net sheet =
     let n = read-as-cut 4164 net in
     let s = read-as-cut 8195 sheet in
     rw (n .words, n .ragged, s .words, s .ragged)
+
+pub cut-checks : CutChecks
+cut-checks net sheet = cut-reply-both 4164 8195 (omega arith) (omega arith) net sheet
 
 pub answers-in-order : AnswersInOrder
 unfolding filesAnswer programAnswer

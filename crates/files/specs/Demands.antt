@@ -1,8 +1,10 @@
 -- What is promised of the reading of files, as statements. proofs/Demands has a term for each.
-use Prim.Native.Nat.{ℕ}
+use Prim.Native.Nat.{ℕ, _/_}
 use mathlib.Core.Path.{_≡_}
 use mathlib.Core.List.{List}
 use mathlib.Core.Bool.{true, false}
+use lib.ListN.{length, take}
+use Rattle.scan.specs.Scan.{tabulate}
 use Rattle.net.specs.Refusal.{refusal}
 use Rattle.net.specs.Check.{netReply}
 use Rattle.net.specs.declared.Position.the-variants.{Nothing}
@@ -11,11 +13,16 @@ use Rattle.net.specs.declared.Verdict.the-variants.{Accepted, Refused}
 use Rattle.sequential.specs.Check.{scheduleReply}
 use Rattle.judge.specs.Answer.{countsOf, checkAnswer}
 use Rattle.judge.specs.declared.CheckAnswer.the-variants.{Failed}
-use Rattle.files.specs.Words.{isRagged, wordsOf, cut}
+use Rattle.files.specs.Words.{wordAt, isRagged, wordsOf, cut}
 use Rattle.files.specs.Program.{programAnswer}
 
--- a file is read as its cut is
+-- every word of a file
+unfoldable pub allWords : List ℕ → List ℕ
+allWords bytes = tabulate (wordAt bytes) (length bytes / 4)
+
+-- "the first .. words are handed on", and a file is read as its cut is
 pub record ReadAsCut (most : ℕ) (bytes : List ℕ) : Type 0 where
+  pub handed-on : wordsOf most bytes ≡ take most (allWords bytes)
   pub words : wordsOf most (cut most bytes) ≡ wordsOf most bytes
   pub ragged : isRagged most (cut most bytes) ≡ isRagged most bytes
 
@@ -25,6 +32,10 @@ CutReads = (most : ℕ) (bytes : List ℕ) → ReadAsCut most bytes
 -- a longer file is answered as its cut: 16,656 bytes of the net and 32,780 of the sheet are enough
 abbrev pub CutAnswers : Type 0
 CutAnswers = (net sheet : List ℕ) → programAnswer (cut 4164 net) (cut 8195 sheet) ≡ programAnswer net sheet
+
+-- "one more than fits": the words that are not handed on change no answer
+abbrev pub CutChecks : Type 0
+CutChecks = (net sheet : List ℕ) → scheduleReply (take 4164 net) (take 8195 sheet) ≡ scheduleReply net sheet
 
 -- "a tail of one to three bytes is 1 or 6 before any other check of that file": the net's tail, the net, the sheet's tail, the sheet
 pub record AnswersFiles (net sheet : List ℕ) : Type 0 where

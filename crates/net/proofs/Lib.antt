@@ -7,3 +7,4 @@ pub mod Accessors
 pub mod Demands
 pub mod Examples
 pub mod Laws
+pub mod Cut

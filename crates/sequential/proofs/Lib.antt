@@ -12,3 +12,4 @@ pub mod Numbers
 pub mod Bounds
 pub mod Demands
 pub mod Examples
+pub mod Cut

@@ -1,0 +1,56 @@
+-- A net of more words than fit is answered as its first words are: the largest has 4,163.
+use Prim.Native.Nat.{ℕ, _+_, _*_, _≤_, _<_}
+use native.Mathlib.Omega.{arith}
+use mathlib.Core.Path.{_≡_, refl, sym, ap, _∙_}
+use mathlib.Core.List.{List}
+use mathlib.Core.Bool.{Bool, true, false, cond, not}
+use mathlib.Core.Option.{Option, none, some}
+use lib.Dec.{ltb, leb, eqb}
+use lib.ListN.{length, take}
+use lib.Seq.{getD-take, take-all, length-take-le}
+use borrow.Author.Tests.{leb-true, leb-false, le-ltb, ne-eqb}
+use Rattle.scan.specs.Scan.{orElse, when}
+use Rattle.scan.proofs.Tests.{byTest}
+use Rattle.scan.proofs.First.{orElse-hit}
+use Rattle.net.specs.Refusal.{refusal}
+use Rattle.net.specs.Net.{placeCount, transitionCount, entryCount}
+use Rattle.net.specs.Check.{sizesPass, shapeFault, entryFault, entriesFault, netFault, verdictOf, netReply}
+use Rattle.net.specs.declared.Position.the-variants.{Nothing}
+use Rattle.net.specs.declared.Refusal.{Refusal}
+use Rattle.net.specs.declared.Verdict.{Verdict}
+use Rattle.net.specs.declared.Verdict.the-variants.{Refused}
+use Rattle.net.proofs.Shape.{sizes-out, limit-high}
+
+-- what more words than fit are refused by: sizes, or else the length
+unfoldable pub overlongFault : ℕ → ℕ → ℕ → Refusal
+overlongFault p t k = cond (sizesPass p t k) (refusal 1 Nothing) (refusal 2 Nothing)
+
+module _ (net : List ℕ) (l : 4164 ≤ length net) where
+  not-whole : sizesPass (placeCount net) (transitionCount net) (entryCount net) ≡ true → eqb (length net) (3 + 2 * entryCount net) ≡ false
+  not-whole h =
+      let s = sizes-out net h in
+      let m = limit-high net s in
+      ne-eqb (length net) (3 + 2 * entryCount net) (λ e. omega (arith, e, m, s .few-entries))
+
+  shape-overlong : shapeFault net ≡ some (overlongFault (placeCount net) (transitionCount net) (entryCount net))
+  unfolding shapeFault orElse when overlongFault
+  shape-overlong =
+      let a : ltb (length net) 3 ≡ false = le-ltb (length net) 3 (omega arith) in
+      byTest (sizesPass (placeCount net) (transitionCount net) (entryCount net)) (λ h. rw (a, h, not-whole h)) (λ h. rw (a, h))
+
+  pub overlong : netReply net ≡ Refused (overlongFault (placeCount net) (transitionCount net) (entryCount net))
+  unfolding netReply netFault entriesFault
+  overlong = ap verdictOf (orElse-hit _ _ _ (orElse-hit _ _ _ shape-overlong))
+
+module _ (n : ℕ) (l : 4164 ≤ n) (net : List ℕ) where
+  cut-overlong : n < length net → netReply (take n net) ≡ netReply net
+  unfolding placeCount transitionCount entryCount
+  cut-overlong m =
+      let e : length (take n net) ≡ n = length-take-le n net (omega arith) in
+      overlong (take n net) (omega arith)
+      ∙ rw (getD-take n net 0 0 (omega arith), getD-take n net 1 0 (omega arith), getD-take n net 2 0 (omega arith)) (sym (overlong net (omega arith)))
+
+  -- the first 4,164 words tell the answer
+  pub cut-reply : netReply (take n net) ≡ netReply net
+  cut-reply =
+      byTest (leb (length net) n) (λ h. ap netReply (take-all n net (leb-true (length net) n h))) (λ h. cut-overlong (leb-false (length net) n h))

@@ -1,0 +1,73 @@
+-- A net or a sheet of more words than fit is answered as its first words are: the longest sheet has 8,194.
+use Prim.Native.Nat.{ℕ, _+_, _*_, _≤_, _<_}
+use native.Mathlib.Omega.{arith}
+use mathlib.Core.Path.{_≡_, refl, sym, ap, _∙_}
+use mathlib.Core.List.{List}
+use mathlib.Core.Bool.{Bool, true, false, cond, not}
+use mathlib.Core.Option.{Option, none, some}
+use lib.Dec.{ltb, leb, eqb}
+use lib.ListN.{length, take}
+use lib.Seq.{getD-take, take-all, length-take-le}
+use borrow.Author.Tests.{leb-true, leb-false, le-ltb, ne-eqb}
+use Rattle.scan.specs.Scan.{orElse, when}
+use Rattle.scan.proofs.Tests.{byTest}
+use Rattle.scan.proofs.First.{orElse-hit}
+use Rattle.net.specs.Refusal.{refusal}
+use Rattle.net.specs.Check.{verdictOf, netReply}
+use Rattle.net.specs.declared.Position.the-variants.{Nothing}
+use Rattle.net.specs.declared.Refusal.{Refusal}
+use Rattle.net.proofs.Cut.{overlong, cut-reply}
+use Rattle.sequential.specs.Petri.{PetriNet, petriNet}
+use Rattle.sequential.specs.Words.{nodeCount, entryCount}
+use Rattle.sequential.specs.Check.{sizesPass, shapeFault, wordsFault, scheduleFault, andThen, scheduleReply}
+use Rattle.sequential.proofs.Verdict.{then-refused}
+use Rattle.sequential.proofs.Words.{sizes-out}
+
+-- what more words than fit are refused by: sizes, or else the length
+unfoldable overlongFault : ℕ → ℕ → Refusal
+overlongFault v k = cond (sizesPass v k) (refusal 6 Nothing) (refusal 7 Nothing)
+
+module _ (N : PetriNet) (sheet : List ℕ) (l : 8195 ≤ length sheet) where
+  not-whole : sizesPass (nodeCount sheet) (entryCount sheet) ≡ true → eqb (length sheet) (2 + 2 * entryCount sheet) ≡ false
+  not-whole h =
+      let (a, b, c) = sizes-out (nodeCount sheet) (entryCount sheet) h in
+      ne-eqb (length sheet) (2 + 2 * entryCount sheet) (λ e. omega (arith, e, c))
+
+  shape-overlong : shapeFault sheet ≡ some (overlongFault (nodeCount sheet) (entryCount sheet))
+  unfolding shapeFault orElse when overlongFault
+  shape-overlong =
+      let a : ltb (length sheet) 2 ≡ false = le-ltb (length sheet) 2 (omega arith) in
+      byTest (sizesPass (nodeCount sheet) (entryCount sheet)) (λ h. rw (a, h, not-whole h)) (λ h. rw (a, h))
+
+  sheet-overlong : scheduleFault N sheet ≡ some (overlongFault (nodeCount sheet) (entryCount sheet))
+  unfolding scheduleFault wordsFault
+  sheet-overlong = orElse-hit _ _ _ (orElse-hit _ _ _ shape-overlong)
+
+module _ (N : PetriNet) (m : ℕ) (l : 8195 ≤ m) (sheet : List ℕ) where
+  cut-overlong : m < length sheet → scheduleFault N (take m sheet) ≡ scheduleFault N sheet
+  unfolding nodeCount entryCount
+  cut-overlong k =
+      let e : length (take m sheet) ≡ m = length-take-le m sheet (omega arith) in
+      sheet-overlong N (take m sheet) (omega arith)
+      ∙ rw (getD-take m sheet 0 0 (omega arith), getD-take m sheet 1 0 (omega arith)) (sym (sheet-overlong N sheet (omega arith)))
+
+  cut-fault : scheduleFault N (take m sheet) ≡ scheduleFault N sheet
+  cut-fault =
+      byTest (leb (length sheet) m) (λ h. ap (scheduleFault N) (take-all m sheet (leb-true (length sheet) m h)))
+      (λ h. cut-overlong (leb-false (length sheet) m h))
+
+module _ (n m : ℕ) (a : 4164 ≤ n) (b : 8195 ≤ m) (net sheet : List ℕ) where
+  whole-net : length net ≤ n → scheduleReply (take n net) (take m sheet) ≡ scheduleReply net sheet
+  unfolding scheduleReply
+  whole-net h = rw (take-all n net h, cut-fault (petriNet net) m b sheet)
+
+  overlong-net : n < length net → scheduleReply (take n net) (take m sheet) ≡ scheduleReply net sheet
+  unfolding scheduleReply
+  overlong-net h =
+      let e = overlong net (omega arith) in
+      let c = cut-reply n a net in
+      then-refused _ _ _ (c ∙ e) ∙ c ∙ sym (then-refused _ _ _ e)
+
+  -- the first 4,164 words of a net and 8,195 of a sheet tell the answer
+  pub cut-reply-both : scheduleReply (take n net) (take m sheet) ≡ scheduleReply net sheet
+  cut-reply-both = byTest (leb (length net) n) (λ h. whole-net (leb-true (length net) n h)) (λ h. overlong-net (leb-false (length net) n h))
