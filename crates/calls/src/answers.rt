@@ -1,96 +1,142 @@
-// Each call, with its buffers filled before it, and a line of what it answers and leaves in them.
+// Each call on the words and the buffers of its case, and the line of what it answers and leaves in the buffers.
+ghost use Prim.Native.Nat.{_≤_};
+ghost use lib.ListN.{length};
+use super::cases;
 use super::print;
 use schedule::Walker;
 
-// What an output buffer holds before a call, and what scratch holds.
-const OUT: u32 = 9;
-
-const SCRATCH: u32 = 7;
-
-fn fill(words: &mut [u32], word: u32) {
-    let mut i = 0;
-    while i < words.len() {
-        words[i] = word;
-        i += 1;
+// The word at an index, 0 past the end.
+fn at(words: &[u32], i: usize) -> u32 {
+    if words.len() <= i {
+        return 0;
     }
+    words[i]
 }
 
-pub(crate) fn net_check(net: &[u32]) {
-    print::verdict(net::check(net));
-    print::end_line();
-}
-
-pub(crate) fn weights(net: &[u32], t: u32, p: u32) {
+fn weights(net: &[u32], t: u32, p: u32) {
     print::weights(
         net::taken(net, t, p),
         net::put(net, t, p),
         net::start(net, p),
     );
-    print::end_line();
 }
 
-pub(crate) fn fresh_walker(net: &[u32]) {
+fn fresh_walker(net: &[u32]) {
     let made = Walker::fresh(net);
     let verdict = made.verdict;
     let walker = made.walker;
     print::verdict(verdict);
     print::walker(walker);
-    print::end_line();
 }
 
-pub(crate) fn sheet_check(net: &[u32], sheet: &[u32], scratch: &mut [u32]) {
-    fill(scratch, SCRATCH);
-    print::check_answer(schedule::check(net, sheet, scratch));
-    print::scratch(scratch, SCRATCH);
-    print::end_line();
+// The walker that words name: its node, then 32 counts.
+fn walker(words: &[u32]) -> Walker {
+    let mut counts = [0u32; 32];
+    let mut p = 0;
+    while p < 32 {
+        counts[p] = at(words, 1 + p);
+        p += 1;
+    }
+    Walker {
+        node: at(words, 0),
+        counts,
+    }
 }
 
-pub(crate) fn place_bounds(net: &[u32], sheet: &[u32], out: &mut [u32], scratch: &mut [u32]) {
-    fill(out, OUT);
-    fill(scratch, SCRATCH);
-    print::verdict(schedule::place_bounds(net, sheet, out, scratch));
-    print::out(out, OUT);
-    print::scratch(scratch, SCRATCH);
-    print::end_line();
-}
-
-pub(crate) fn single_firing(
-    walker: Walker,
-    net: &[u32],
-    sheet: &[u32],
-    t: u32,
-    scratch: &mut [u32],
-) {
-    fill(scratch, SCRATCH);
-    let fired = walker.fire(net, sheet, t, scratch);
+fn single_firing(net: &[u32], sheet: &[u32], from: Walker, t: u32, scratch: &mut [u32]) {
+    let fired = from.fire(net, sheet, t, scratch);
     let verdict = fired.verdict;
     let next = fired.next;
     print::verdict(verdict);
     print::walker(next);
-    print::scratch(scratch, SCRATCH);
-    print::end_line();
 }
 
-pub(crate) fn run(
+// Makes the call of an operation and prints its answer. The words besides net and sheet are a record, a walker and the transition that
+// it is to fire, or a transition and a place.
+fn call(
+    operation: u32,
     net: &[u32],
     sheet: &[u32],
-    firings: &[u32],
+    words: &[u32],
     out: &mut [u32],
     scratch: &mut [u32],
 ) {
-    fill(out, OUT);
-    fill(scratch, SCRATCH);
-    print::run_answer(schedule::run(net, sheet, firings, out, scratch));
-    print::out(out, OUT);
-    print::scratch(scratch, SCRATCH);
-    print::end_line();
+    match operation {
+        1 => print::verdict(net::check(net)),
+        2 => print::check_answer(schedule::check(net, sheet, scratch)),
+        3 => print::verdict(schedule::place_bounds(net, sheet, out, scratch)),
+        4 => fresh_walker(net),
+        5 => single_firing(net, sheet, walker(words), at(words, 33), scratch),
+        6 => print::run_answer(schedule::run(net, sheet, words, out, scratch)),
+        7 => print::form_answer(minimize::minimal_form(net, sheet, out, scratch)),
+        _ => weights(net, at(words, 0), at(words, 1)),
+    }
 }
 
-pub(crate) fn minimal_form(net: &[u32], sheet: &[u32], out: &mut [u32], scratch: &mut [u32]) {
-    fill(out, OUT);
-    fill(scratch, SCRATCH);
-    print::form_answer(minimize::minimal_form(net, sheet, out, scratch));
-    print::out(out, OUT);
-    print::scratch(scratch, SCRATCH);
-    print::end_line();
+fn left_out(operation: u32, words: &[u32]) {
+    if cases::writes_out(operation) {
+        print::out(words, 9);
+    }
+}
+
+fn left_scratch(operation: u32, words: &[u32]) {
+    if cases::reads_sheet(operation) {
+        print::scratch(words, 7);
+    }
+}
+
+// The line of a case, with the buffers lent to its call.
+fn in_buffers(
+    operation: u32,
+    net: &[u32],
+    sheet: &[u32],
+    words: &[u32],
+    out: &mut [u32],
+    scratch: &mut [u32],
+) {
+    call(operation, net, sheet, words, out, scratch);
+    left_out(operation, out);
+    left_scratch(operation, scratch);
+    print::text(b"\n");
+}
+
+// The line of a case. The output buffer holds 9 before the call, and scratch 7, in the lengths lent.
+fn lending(operation: u32, net: &[u32], sheet: &[u32], words: &[u32], outs: usize, scratches: usize)
+    requires { ⌜ outs ≤ 9000 ⌝ }
+    requires { ⌜ scratches ≤ 9000 ⌝ }
+{
+    let mut out = [9u32; 9000];
+    let mut scratch = [7u32; 9000];
+    in_buffers(
+        operation,
+        net,
+        sheet,
+        words,
+        &mut out[..outs],
+        &mut scratch[..scratches],
+    );
+}
+
+// The line of a case whose net, sheet and further words lie one after the other.
+pub(crate) fn line(
+    operation: u32,
+    all: &[u32],
+    net: usize,
+    sheet: usize,
+    words: usize,
+    outs: usize,
+    scratches: usize,
+)
+    requires { ⌜ (net ≤ sheet) × (sheet ≤ words) × (words ≤ length (now all)) ⌝ }
+    requires { ⌜ outs ≤ 9000 ⌝ }
+    requires { ⌜ scratches ≤ 9000 ⌝ }
+{
+    lending(
+        operation,
+        &all[..net],
+        &all[net..sheet],
+        &all[sheet..words],
+        outs,
+        scratches,
+    );
 }

@@ -3,18 +3,12 @@ ghost use Prim.Native.Nat.{_≤_};
 ghost use lib.ListN.{length};
 use libc::STDIN_FILENO;
 
-// Where reading stands in the buffer, where the bytes in it end, and whether a comment is being read.
+// Where reading stands: the byte that is looked at, whether the input has ended, and where the bytes in the buffer go on and end.
 pub(crate) struct Text {
+    pub byte: u8,
+    pub ended: bool,
     pub at: usize,
     pub end: usize,
-    pub comment: bool,
-}
-
-// A byte and the text after it.
-struct Byte {
-    byte: u8,
-    ended: bool,
-    rest: Text,
 }
 
 // A number and the text after it.
@@ -23,86 +17,52 @@ pub(crate) struct Value {
     pub rest: Text,
 }
 
-// How many words there are, whether there is room for them, and the text after them.
-pub(crate) struct Room {
-    pub count: usize,
+// Where words that were read end, whether there was room for them, and the text after them.
+pub(crate) struct Part {
+    pub end: usize,
     pub fits: bool,
     pub rest: Text,
 }
 
-// Nothing read so far.
+// Before the first byte.
 pub(crate) fn start() -> Text {
     Text {
+        byte: b' ',
+        ended: false,
         at: 0,
         end: 0,
-        comment: false,
     }
 }
 
-// The next byte as it stands, or 0 where the input has ended.
-fn raw(buffer: &mut [u8], from: Text) -> Byte {
+// The text from the next byte on; past the end that byte is 0.
+fn next(buffer: &mut [u8], from: Text) -> Text {
     let at = from.at;
     let end = from.end;
     if at < end {
         if at < buffer.len() {
-            return Byte {
+            return Text {
                 byte: buffer[at],
                 ended: false,
-                rest: Text {
-                    at: at + 1,
-                    end,
-                    comment: from.comment,
-                },
+                at: at + 1,
+                end,
             };
         }
     }
     let got = io::read_full(STDIN_FILENO, buffer);
     if got == 0 {
-        return Byte {
+        return Text {
             byte: 0,
             ended: true,
-            rest: start(),
+            at: 0,
+            end: 0,
         };
     }
-    Byte {
+    Text {
         byte: buffer[0],
         ended: false,
-        rest: Text {
-            at: 1,
-            end: got,
-            comment: from.comment,
-        },
+        at: 1,
+        end: got,
     }
-}
-
-// Where the text goes on, in a comment or not.
-fn noted(rest: Text, comment: bool) -> Text {
-    Text {
-        at: rest.at,
-        end: rest.end,
-        comment,
-    }
-}
-
-// The next byte, with blanks for the bytes of a comment.
-fn next(buffer: &mut [u8], from: Text) -> Byte {
-    let read = raw(buffer, from);
-    let rest = read.rest;
-    if rest.comment {
-        return Byte {
-            byte: b' ',
-            ended: read.ended,
-            rest: noted(rest, read.byte != b'\n'),
-        };
-    }
-    if read.byte == b'#' {
-        return Byte {
-            byte: b' ',
-            ended: read.ended,
-            rest: noted(rest, true),
-        };
-    }
-    read
 }
 
 fn is_digit(b: u8) -> bool {
@@ -112,102 +72,134 @@ fn is_digit(b: u8) -> bool {
     b <= b'9'
 }
 
-// What a digit counts, 0 for any other byte.
-fn digit(b: u8) -> u64
-    ensures { λ r. ⌜ r ≤ 255 ⌝ }
-{
-    if b < b'0' {
-        return 0;
-    }
-    (b - b'0') as u64
-}
-
 // The number with one digit more, its lowest 32 bits.
 fn longer(value: u32, b: u8) -> u32 {
-    let wide = (value as u64) * 10 + digit(b);
+    let wide = (value as u64) * 10 + (b % 16) as u64;
     (wide % 4294967296) as u32
 }
 
-// The next digit, or the end.
-fn first_digit(buffer: &mut [u8], from: Text) -> Byte {
-    let mut read = next(buffer, from);
+// Whether the byte after this one is in a comment, by whether this one is.
+fn in_comment(b: u8, comment: bool) -> bool {
+    if comment {
+        return b != b'\n';
+    }
+    b == b'#'
+}
+
+// Whether a number begins here, or nothing follows.
+fn stops(here: Text, comment: bool) -> bool {
+    if here.ended {
+        return true;
+    }
+    if comment {
+        return false;
+    }
+    is_digit(here.byte)
+}
+
+// The text from the next number on. Nothing says that the input ends, so the turns are counted down.
+fn skip(buffer: &mut [u8], from: Text) -> Text {
+    let mut here = from;
+    let mut comment = false;
     let mut turns = u64::MAX;
     while turns > 0 {
-        if is_digit(read.byte) {
-            return read;
+        if stops(here, comment) {
+            return here;
         }
-        if read.ended {
-            return read;
-        }
-        let rest = read.rest;
-        read = next(buffer, rest);
+        comment = in_comment(here.byte, comment);
+        here = next(buffer, here);
         turns -= 1;
     }
-    read
+    here
 }
 
 // The next number, or 0 where the input has ended.
 pub(crate) fn number(buffer: &mut [u8], from: Text) -> Value {
-    let mut read = first_digit(buffer, from);
+    let mut here = skip(buffer, from);
     let mut value: u32 = 0;
     let mut turns = u64::MAX;
     while turns > 0 {
-        if !is_digit(read.byte) {
+        if !is_digit(here.byte) {
             break;
         }
-        value = longer(value, read.byte);
-        let rest = read.rest;
-        read = next(buffer, rest);
+        value = longer(value, here.byte);
+        here = next(buffer, here);
         turns -= 1;
     }
-    let rest = read.rest;
-    Value { value, rest }
+    Value { value, rest: here }
 }
 
-// A number of words of which there may be `most`.
-pub(crate) fn count(buffer: &mut [u8], from: Text, most: usize) -> Room
-    ensures { λ r. ⌜ r .count ≤ most ⌝ }
+// A length that stands here, or one that is known without.
+fn size(stands_here: bool, known: u32, buffer: &mut [u8], from: Text) -> Value {
+    if stands_here {
+        return number(buffer, from);
+    }
+    Value {
+        value: known,
+        rest: from,
+    }
+}
+
+// The length of a buffer, if one stands here, which is at most `most`.
+pub(crate) fn length_if(stands_here: bool, buffer: &mut [u8], from: Text, most: usize) -> Part
+    ensures { λ r. ⌜ r .end ≤ most ⌝ }
 {
-    let read = number(buffer, from);
+    let read = size(stands_here, 0, buffer, from);
     let value = read.value as usize;
     let rest = read.rest;
     if most < value {
-        return Room {
-            count: 0,
+        return Part {
+            end: 0,
             fits: false,
             rest,
         };
     }
-    Room {
-        count: value,
+    Part {
+        end: value,
         fits: true,
         rest,
     }
 }
 
-// As many numbers as there is room for.
-pub(crate) fn numbers(buffer: &mut [u8], from: Text, into: &mut [u32]) -> Text {
+// The next n numbers, written from an index on.
+fn numbers(buffer: &mut [u8], from: Text, into: &mut [u32], at: usize, n: usize) -> Part
+    requires { ⌜ at ≤ length (now into) ⌝ }
+    ensures { λ r. ⌜ (at ≤ r .end) × (r .end ≤ length (now (into .exit))) ⌝ }
+{
+    if into.len() - at < n {
+        return Part {
+            end: at,
+            fits: false,
+            rest: from,
+        };
+    }
     let mut here = from;
     let mut i = 0;
-    while i < into.len() {
+    while i < n {
         let read = number(buffer, here);
-        into[i] = read.value;
+        into[at + i] = read.value;
         here = read.rest;
         i += 1;
     }
-    here
+    Part {
+        end: at + i,
+        fits: true,
+        rest: here,
+    }
 }
 
-// A count, then that many words.
-pub(crate) fn words(buffer: &mut [u8], from: Text, into: &mut [u32]) -> Room
-    ensures { λ r. ⌜ r .count ≤ length (now (into .exit)) ⌝ }
+// A list of words, written from an index on. Its length stands before it, or is known without.
+pub(crate) fn list(
+    stands_here: bool,
+    known: u32,
+    buffer: &mut [u8],
+    from: Text,
+    into: &mut [u32],
+    at: usize,
+) -> Part
+    requires { ⌜ at ≤ length (now into) ⌝ }
+    ensures { λ r. ⌜ (at ≤ r .end) × (r .end ≤ length (now (into .exit))) ⌝ }
 {
-    let read = count(buffer, from, into.len());
-    let n = read.count;
-    let rest = numbers(buffer, read.rest, &mut into[..n]);
-    Room {
-        count: n,
-        fits: read.fits,
-        rest,
-    }
+    let read = size(stands_here, known, buffer, from);
+    numbers(buffer, read.rest, into, at, read.value as usize)
 }

@@ -1,11 +1,13 @@
 // Plays the calls that its standard input gives: for each case a line of what the call answers and leaves in the buffers lent.
 //
-// A case is a line of numbers: an operation, then its arguments. A list of words is their number, then the words; a buffer is its length.
-//   1 net check      net                      5 single firing  net sheet node 32-counts transition scratch
-//   2 sheet check    net sheet scratch        6 run            net sheet record out scratch
-//   3 place bounds   net sheet out scratch    7 minimal form   net sheet out scratch
-//   4 fresh walker   net                      8 weights        net transition place
-// Output buffers hold 9 before a call and scratch holds 7.
+// A case is an operation's number and its arguments:
+//   1 net check      net                         5 single firing  net, sheet, node, 32 counts, transition, scratch
+//   2 sheet check    net, sheet, scratch         6 run            net, sheet, record, out, scratch
+//   3 place bounds   net, sheet, out, scratch    7 minimal form   net, sheet, out, scratch
+//   4 fresh walker   net                         8 weights        net, transition, place
+// Net, sheet and record are their length and their words, out and scratch the length lent: out holds 9 before a call and scratch 7.
+// A line ends with the output buffer's words up to the last that is not 9 and how many follow, and with how many words of scratch are 0,
+// how many are 7, and where the first 7 is. The words of a case and each buffer have a limit, past which the program ends: `too long`.
 mod answers;
 mod cases;
 mod input;
@@ -13,17 +15,6 @@ mod print;
 
 fn main() {
     let mut buffer = io::large_buffer();
-    let mut net = [0u32; 5000];
-    let mut sheet = [0u32; 9000];
-    let mut record = [0u32; 4096];
-    let mut out = [0u32; 9000];
-    let mut scratch = [0u32; 9000];
-    cases::play(
-        &mut buffer,
-        &mut net,
-        &mut sheet,
-        &mut record,
-        &mut out,
-        &mut scratch,
-    );
+    let mut words = [0u32; 20000];
+    cases::play(&mut buffer, &mut words);
 }

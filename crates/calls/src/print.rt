@@ -1,14 +1,12 @@
 // Prints answers as words: the number, the kind of position, the position, then the call's own numbers, and what the buffers hold.
 ghost use Prim.Native.Nat.{_≤_};
-ghost use lib.ListN.{length};
+ghost use mathlib.Core.Path.{_≡_};
+ghost use lib.ListN.{length, take};
 use judge::CheckAnswer;
-use judge::Counts;
 use libc::STDOUT_FILENO;
 use minimal::FormAnswer;
 use net::Position;
-use net::Refusal;
 use net::Verdict;
-use schedule::Ran;
 use schedule::RunAnswer;
 use schedule::Walker;
 
@@ -16,17 +14,11 @@ pub(crate) fn text(bytes: &[u8]) {
     io::write_all(STDOUT_FILENO, bytes);
 }
 
-fn number(n: u64) {
+// A word, a blank, a number.
+fn named(name: &[u8], n: u64) {
+    text(name);
     text(b" ");
     io::print_decimal(STDOUT_FILENO, n);
-}
-
-fn word(w: u32) {
-    number(w as u64);
-}
-
-pub(crate) fn end_line() {
-    text(b"\n");
 }
 
 fn kind(at: Position) {
@@ -39,96 +31,66 @@ fn kind(at: Position) {
     }
 }
 
-fn answer(refusal: u32, at: Position) {
-    text(b"answer");
-    word(refusal);
-    kind(at);
-    number(at.index() as u64);
-}
-
 pub(crate) fn verdict(verdict: Verdict) {
-    answer(verdict.number(), verdict.at());
+    let at = verdict.at();
+    named(b"answer", verdict.number() as u64);
+    kind(at);
+    named(b"", at.index() as u64);
 }
 
-fn refused(refusal: Refusal) {
-    let at = refusal.at;
-    answer(refusal.number, at);
-}
-
-fn counts(counts: Counts) {
-    text(b" nodes");
-    word(counts.nodes);
-    text(b" arcs");
-    word(counts.arcs);
-    text(b" awaits");
-    word(counts.awaits);
-}
-
-fn passed(found: Counts) {
-    answer(0, Position::Nothing);
-    counts(found);
-}
-
-fn failed(found: Refusal) {
-    refused(found);
-    counts(Counts {
-        nodes: 0,
-        arcs: 0,
-        awaits: 0,
-    });
+// A sheet check's answer, with its own numbers.
+fn checked(found: Verdict, nodes: u32, arcs: u32, awaits: u32) {
+    verdict(found);
+    named(b" nodes", nodes as u64);
+    named(b" arcs", arcs as u64);
+    named(b" awaits", awaits as u64);
 }
 
 pub(crate) fn check_answer(answer: CheckAnswer) {
     match answer {
-        CheckAnswer::Passed(found) => passed(found),
-        CheckAnswer::Failed(found) => failed(found),
+        CheckAnswer::Passed(counts) => {
+            checked(Verdict::Accepted, counts.nodes, counts.arcs, counts.awaits)
+        }
+        CheckAnswer::Failed(refusal) => checked(Verdict::Refused(refusal), 0, 0, 0),
     }
 }
 
-fn ran(ran: Ran) {
-    text(b" fired");
-    number(ran.fired as u64);
-    text(b" node");
-    word(ran.node);
-}
-
-fn done(found: Ran) {
-    answer(0, Position::Nothing);
-    ran(found);
-}
-
-fn stopped(found: Refusal) {
-    refused(found);
-    ran(Ran { fired: 0, node: 0 });
+// A run's answer, with its own numbers.
+fn ran(found: Verdict, fired: usize, node: u32) {
+    verdict(found);
+    named(b" fired", fired as u64);
+    named(b" node", node as u64);
 }
 
 pub(crate) fn run_answer(answer: RunAnswer) {
     match answer {
-        RunAnswer::Done(found) => done(found),
-        RunAnswer::Stopped(found) => stopped(found),
+        RunAnswer::Done(ran_to) => ran(Verdict::Accepted, ran_to.fired, ran_to.node),
+        RunAnswer::Stopped(refusal) => ran(Verdict::Refused(refusal), 0, 0),
     }
 }
 
-fn length(n: usize) {
-    text(b" length");
-    number(n as u64);
-}
-
-fn written(n: usize) {
-    answer(0, Position::Nothing);
-    length(n);
-}
-
-fn not_written(found: Refusal) {
-    refused(found);
-    length(0);
+// A minimal form's answer, with its length.
+fn wrote(found: Verdict, length: usize) {
+    verdict(found);
+    named(b" length", length as u64);
 }
 
 pub(crate) fn form_answer(answer: FormAnswer) {
     match answer {
-        FormAnswer::Written(n) => written(n),
-        FormAnswer::Refused(found) => not_written(found),
+        FormAnswer::Written(length) => wrote(Verdict::Accepted, length),
+        FormAnswer::Refused(refusal) => wrote(Verdict::Refused(refusal), 0),
     }
+}
+
+// What a transition takes and puts at a place, and what the place starts with.
+pub(crate) fn weights(taken: u32, put: u32, start: u32) {
+    named(b"taken", taken as u64);
+    named(b" put", put as u64);
+    named(b" start", start as u64);
+}
+
+fn word(w: u32) {
+    named(b"", w as u64);
 }
 
 fn all(words: &[u32]) {
@@ -141,12 +103,12 @@ fn all(words: &[u32]) {
 
 // How many words there are up to the last that is not `blank`.
 fn used(words: &[u32], blank: u32) -> usize
-    ensures { λ r. ⌜ r ≤ length (now (words .entry)) ⌝ }
+    ensures { λ r. ⌜ (r ≤ length (now (words .entry))) × (r ≡ length (take r (now (words .entry)))) ⌝ }
 {
     let mut n = words.len();
     while n > 0 {
         if words[n - 1] != blank {
-            return n;
+            break;
         }
         n -= 1;
     }
@@ -171,7 +133,7 @@ fn first(words: &[u32], word: u32) -> usize {
     let mut i = 0;
     while i < words.len() {
         if words[i] == word {
-            return i;
+            break;
         }
         i += 1;
     }
@@ -183,34 +145,25 @@ pub(crate) fn out(words: &[u32], blank: u32) {
     let n = used(words, blank);
     text(b" out");
     all(&words[..n]);
-    text(b" rest");
-    number((words.len() - n) as u64);
-}
-
-// What a transition takes and puts at a place, and what the place starts with.
-pub(crate) fn weights(taken: u32, put: u32, start: u32) {
-    text(b"taken");
-    word(taken);
-    text(b" put");
-    word(put);
-    text(b" start");
-    word(start);
+    named(b" rest", (words.len() - n) as u64);
 }
 
 // How many words are 0, how many are still `blank`, and where the first of these is.
 pub(crate) fn scratch(words: &[u32], blank: u32) {
-    text(b" scratch");
-    number(times(words, 0) as u64);
-    number(times(words, blank) as u64);
-    number(first(words, blank) as u64);
+    named(b" scratch", times(words, 0) as u64);
+    named(b"", times(words, blank) as u64);
+    named(b"", first(words, blank) as u64);
+}
+
+fn counts(words: &[u32]) {
+    let n = used(words, 0);
+    text(b" counts");
+    all(&words[..n]);
 }
 
 // The node, and the counts up to the last that is not 0.
 pub(crate) fn walker(walker: Walker) {
-    let counts = walker.counts;
-    let n = used(&counts, 0);
-    text(b" node");
-    word(walker.node);
-    text(b" counts");
-    all(&counts[..n]);
+    let held = walker.counts;
+    named(b" node", walker.node as u64);
+    counts(&held);
 }

@@ -1,24 +1,18 @@
-use native.Mathlib.Omega.{arith}
+-- `calls::input::number` is safe and ends: the turns that are left fall; the buffer keeps its length.
 use borrow.Author.Needs.{needs}
 use mathlib.Core.Path.{_≡_}
 use lib.ListN.{length}
 use Rattle.calls.proofs.input.number.Statement.{statement}
 use Rattle.calls.proofs.input.number.Tie as tie
-use Rattle.calls.proofs.input.number.Reads as reads
-use Rattle.calls.proofs.input.number.Lts as lts
-use Rattle.calls.proofs.input.first_digit.Reads as first-digit-reads
-use Rattle.calls.proofs.input.is_digit.Reads as is-digit-reads
-use Rattle.calls.proofs.input.longer.Reads as longer-reads
-use Rattle.calls.proofs.input.next.Reads as next-reads
 
 abbrev Inv-loop : tie.InvT-loop
-Inv-loop buffer₀ read₀ value₀ turns₀ buffer read value turns = length buffer ≡ length buffer₀
+Inv-loop buffer₀ here₀ value₀ turns₀ buffer here value turns = length buffer ≡ length buffer₀
 
 abbrev μ-loop : tie.MeasureT-loop
-μ-loop buffer₀ read₀ value₀ turns₀ buffer read value turns = turns
+μ-loop buffer₀ here₀ value₀ turns₀ buffer here value turns = turns
 
-first-digit-requires : tie.Need-first-digit-requires Inv-loop μ-loop
-first-digit-requires c κs = search needs
+skip-requires : tie.Need-skip-requires Inv-loop μ-loop
+skip-requires c κs = search needs
 
 loop-holds : tie.Need-loop-holds Inv-loop μ-loop
 loop-holds c = search needs
@@ -47,13 +41,19 @@ same-length c = search needs
 returns : tie.Need-returns Inv-loop μ-loop
 returns c = search needs
 
+same-length-2 : tie.Need-same-length-2 Inv-loop μ-loop
+same-length-2 c = search needs
+
+returns-2 : tie.Need-returns-2 Inv-loop μ-loop
+returns-2 c = search needs
+
 pub number-spec : {M : Type 1} → statement M
 number-spec =
     tie.close
     (tie.spec
     Inv-loop
     μ-loop
-    first-digit-requires
+    skip-requires
     loop-holds
     is-digit-requires
     longer-requires
@@ -62,4 +62,6 @@ number-spec =
     loop-less
     loop-again
     same-length
-    returns)
+    returns
+    same-length-2
+    returns-2)

@@ -1,12 +1,9 @@
+-- `calls::print::all` is safe and ends: the index stays below the length.
 use Prim.Native.Nat.{_≤_, _-_}
 use borrow.Author.Needs.{needs}
-use native.Mathlib.Omega.{arith}
 use lib.ListN.{length}
 use Rattle.calls.proofs.print.all.Statement.{statement}
 use Rattle.calls.proofs.print.all.Tie as tie
-use Rattle.calls.proofs.print.all.Reads as reads
-use Rattle.calls.proofs.print.all.Lts as lts
-use Rattle.calls.proofs.print.word.Reads as word-reads
 
 abbrev Inv-loop : tie.InvT-loop
 Inv-loop words i₀ i = i ≤ length words

@@ -1,11 +1,9 @@
+-- `calls::print::first` is safe and ends: the index stays within the length.
 use Prim.Native.Nat.{_≤_, _-_}
 use borrow.Author.Needs.{needs}
-use native.Mathlib.Omega.{arith}
 use lib.ListN.{length}
 use Rattle.calls.proofs.print.first.Statement.{statement}
 use Rattle.calls.proofs.print.first.Tie as tie
-use Rattle.calls.proofs.print.first.Reads as reads
-use Rattle.calls.proofs.print.first.Lts as lts
 
 abbrev Inv-loop : tie.InvT-loop
 Inv-loop words word i₀ i = i ≤ length words
@@ -22,9 +20,6 @@ mul-if1 c = search needs
 shared-slice-read-if1 : tie.Need-shared-slice-read-if1 Inv-loop μ-loop
 shared-slice-read-if1 c = search needs
 
-returns : tie.Need-returns Inv-loop μ-loop
-returns c = search needs
-
 add-i : tie.Need-add-i Inv-loop μ-loop
 add-i c = search needs
 
@@ -33,6 +28,9 @@ loop-less c = search needs
 
 loop-again : tie.Need-loop-again Inv-loop μ-loop
 loop-again c = search needs
+
+returns : tie.Need-returns Inv-loop μ-loop
+returns c = search needs
 
 returns-2 : tie.Need-returns-2 Inv-loop μ-loop
 returns-2 c = search needs
@@ -46,8 +44,8 @@ first-spec =
     loop-holds
     mul-if1
     shared-slice-read-if1
-    returns
     add-i
     loop-less
     loop-again
+    returns
     returns-2)

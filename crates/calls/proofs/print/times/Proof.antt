@@ -1,3 +1,4 @@
+-- `calls::print::times` is safe and ends: what is counted stays below the index.
 use Prim.Native.Nat.{_≤_, _-_}
 use borrow.Author.Needs.{needs}
 use native.Mathlib.Omega.{arith}
@@ -5,8 +6,6 @@ use lib.ListN.{length}
 use mathlib.Core.Logic.{⊎-elim}
 use Rattle.calls.proofs.print.times.Statement.{statement}
 use Rattle.calls.proofs.print.times.Tie as tie
-use Rattle.calls.proofs.print.times.Reads as reads
-use Rattle.calls.proofs.print.times.Lts as lts
 
 abbrev Inv-loop : tie.InvT-loop
 Inv-loop words word n₀ i₀ n i = (n ≤ i) × (i ≤ length words)

@@ -1,11 +1,10 @@
+-- `calls::print::used` is safe and ends: what is left falls, and is no longer than the words.
 use Prim.Native.Nat.{_≤_}
 use borrow.Author.Needs.{needs}
 use native.Mathlib.Omega.{arith}
-use lib.ListN.{length}
+use lib.ListN.{length, length-take}
 use Rattle.calls.proofs.print.used.Statement.{statement}
 use Rattle.calls.proofs.print.used.Tie as tie
-use Rattle.calls.proofs.print.used.Reads as reads
-use Rattle.calls.proofs.print.used.Lts as lts
 
 abbrev Inv-loop : tie.InvT-loop
 Inv-loop words blank n₀ n = n ≤ length words
@@ -25,9 +24,6 @@ mul-if1 c = search needs
 shared-slice-read-if1 : tie.Need-shared-slice-read-if1 Inv-loop μ-loop
 shared-slice-read-if1 c = search needs
 
-returns : tie.Need-returns Inv-loop μ-loop
-returns c = search needs
-
 sub-n : tie.Need-sub-n Inv-loop μ-loop
 sub-n c = search needs
 
@@ -37,8 +33,11 @@ loop-less c = search needs
 loop-again : tie.Need-loop-again Inv-loop μ-loop
 loop-again c = search needs
 
+returns : tie.Need-returns Inv-loop μ-loop
+returns c = (search needs, simp length-take (omega arith))
+
 returns-2 : tie.Need-returns-2 Inv-loop μ-loop
-returns-2 c = search needs
+returns-2 c = (search needs, simp length-take (omega arith))
 
 pub used-spec : {M : Type 1} → statement M
 used-spec =
@@ -50,8 +49,8 @@ used-spec =
     sub-if1
     mul-if1
     shared-slice-read-if1
-    returns
     sub-n
     loop-less
     loop-again
+    returns
     returns-2)
