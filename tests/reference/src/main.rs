@@ -41,7 +41,10 @@ fn main() -> ExitCode {
         ["selftest"] => selftest::run(&mut tally),
         ["program", checker, seed, count] => match (seed.parse(), count.parse()) {
             (Ok(seed), Ok(count)) => {
-                if let Err(error) = program::compare(Path::new(checker), seed, count, &mut tally) {
+                let path = Path::new(checker);
+                let compared = program::compare(path, seed, count, &mut tally)
+                    .and_then(|()| program::compare_pairs(path, seed, count / 5, &mut tally));
+                if let Err(error) = compared {
                     tally.check(false, || format!("{checker}: {error}"));
                 }
             }

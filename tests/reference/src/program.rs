@@ -1,9 +1,11 @@
 //! The program of document 01: how it reads `net.bin` and `sheet.bin`, what it prints, and a
 //! comparison of a program with that.
 
+use crate::generate::schedules::Schedule;
 use crate::generate::{self, rng::Rng};
 use crate::model::{self, FORM, SCRATCH};
 use crate::tally::Tally;
+use crate::{second, selftest};
 use crate::text::{listed, position};
 use std::path::Path;
 use std::process::Command;
@@ -141,6 +143,44 @@ pub fn compare(checker: &Path, seed: u64, count: u64, tally: &mut Tally) -> std:
     }
     tell_numbers(&times, tally);
     Ok(())
+}
+
+/// Runs the program on pairs of accepted sheets of one net. What it prints as their short forms is
+/// equal exactly where both allow the same, found by exploring the two sheets together.
+pub fn compare_pairs(checker: &Path, seed: u64, count: u64, tally: &mut Tally) -> std::io::Result<()> {
+    let checker = checker.canonicalize()?;
+    let folder = std::env::temp_dir().join(format!("reference-pairs-{}", std::process::id()));
+    std::fs::create_dir_all(&folder)?;
+    let mut pairs = [0, 0];
+    for index in 0..count {
+        let rng = &mut Rng::for_case(seed, index);
+        let schedule = generate::schedule(rng);
+        let Some(other) = selftest::sibling(rng, &schedule) else {
+            continue;
+        };
+        let same = second::paths::same_language(&schedule.sheet, 0, &other.sheet, 0);
+        let forms = [short(&checker, &folder, &schedule)?, short(&checker, &folder, &other)?];
+        pairs[usize::from(!same)] += 1;
+        tally.check((forms[0] == forms[1]) == same, || {
+            format!("pair {index} of seed {seed}: same is {same}\n  {}\n  {}", forms[0], forms[1])
+        });
+    }
+    std::fs::remove_dir_all(&folder)?;
+    println!("pairs of sheets that allow the same: {}, that do not: {}", pairs[0], pairs[1]);
+    tally.check(pairs.iter().all(|&pairs| pairs > 50), || "too few pairs".to_string());
+    Ok(())
+}
+
+/// The last line that the program prints for an accepted schedule.
+fn short(checker: &Path, folder: &Path, schedule: &Schedule) -> std::io::Result<String> {
+    let (net, sheet) = schedule.words();
+    for (name, words) in [("net.bin", net), ("sheet.bin", sheet)] {
+        let bytes: Vec<u8> = words.iter().flat_map(|word| word.to_le_bytes()).collect();
+        std::fs::write(folder.join(name), bytes)?;
+    }
+    let output = Command::new(checker).current_dir(folder).output()?;
+    let text = String::from_utf8_lossy(&output.stdout).into_owned();
+    Ok(text.lines().last().filter(|line| line.starts_with("short ")).unwrap_or(&text).to_string())
 }
 
 /// Lays the two files of a case.
