@@ -15,8 +15,6 @@ use Rattle.judge.proofs.node_check.await_count.Statement.{statement}
 use Rattle.judge.proofs.node_check.await_count.Tie as tie
 use Rattle.judge.proofs.node_check.await_count.Reads as reads
 use Rattle.judge.proofs.node_check.await_count.Lts as lts
-use Rattle.judge.proofs.choice_sets.choice_table.Reads as choice-table-reads
-use Rattle.judge.proofs.choice_sets.first_source.Reads as first-source-reads
 use Rattle.judge.proofs.node_check.is_await.Reads as is-await-reads
 
 abbrev Inv-loop : tie.InvT-loop
@@ -25,14 +23,8 @@ Inv-loop net sheet table source nodes awaits₀ n₀ awaits n = (n ≤ nodes) ×
 abbrev μ-loop : tie.MeasureT-loop
 μ-loop net sheet table source nodes awaits₀ n₀ awaits n = nodes - n
 
-choice-table-requires : tie.Need-choice-table-requires Inv-loop μ-loop
-choice-table-requires c κs = (c .before .before .pre .accepted)
-
-first-source-requires : tie.Need-first-source-requires Inv-loop μ-loop
-first-source-requires c κs = (c .before .before .before .pre .accepted)
-
 shared-slice-read-nodes : tie.Need-shared-slice-read-nodes Inv-loop μ-loop
-shared-slice-read-nodes c = let k = known _ _ (c .before .before .before .before .before .pre) in omega arith
+shared-slice-read-nodes c = let k = known _ _ ((c .before .before .before .pre) .0) in omega arith
 
 loop-holds : tie.Need-loop-holds Inv-loop μ-loop
 unfolding count
@@ -40,31 +32,31 @@ loop-holds c = (omega arith, refl)
 
 is-await-requires : tie.Need-is-await-requires Inv-loop μ-loop
 unfolding nodeCount
-is-await-requires c κs = ((c .before .before .before .before .before .before .before .pre), ((c .before .before .before .before .choice-table .ensures), ((c .before .before .before .first-source .ensures), (c .loop-test .taken))))
+is-await-requires c κs = (((c .before .before .before .before .before .pre) .0), (((c .before .before .before .before .before .pre) .1 .0), (((c .before .before .before .before .before .pre) .1 .1), ((c .loop-test) .taken))))
 
 add-n : tie.Need-add-n Inv-loop μ-loop
-add-n c = let k = known _ _ (c .before .before .before .before .before .before .before .before .pre) in omega arith
+add-n c = let k = known _ _ ((c .before .before .before .before .before .before .pre) .0) in omega arith
 
 add-awaits : tie.Need-add-awaits Inv-loop μ-loop
-add-awaits c = let k = known _ _ (c .before .before .before .before .before .before .before .before .before .pre) in omega (arith, (c .before .before .before .loop .inv .1), count-le (isAwait (petriNet (c .before .before .before .before .before .before .before .before .before .args .net .now)) (graph (petriNet (c .before .before .before .before .before .before .before .before .before .args .net .now)) (c .before .before .before .before .before .before .before .before .before .args .sheet .now))) (c .before .before .before .loop .n))
+add-awaits c = let k = known _ _ ((c .before .before .before .before .before .before .before .pre) .0) in omega (arith, ((c .before .before .before .loop) .inv .1), count-le (isAwait (petriNet ((c .before .before .before .before .before .before .before .args) .net .now)) (graph (petriNet ((c .before .before .before .before .before .before .before .args) .net .now)) ((c .before .before .before .before .before .before .before .args) .sheet .now))) ((c .before .before .before .loop) .n))
 
 loop-less : tie.Need-loop-less Inv-loop μ-loop
 loop-less c = search needs
 
 loop-again : tie.Need-loop-again Inv-loop μ-loop
 unfolding bit
-loop-again c = (omega arith, rw (count-more, ← (c .before .is-await .ensures), (c .if1 .taken), (c .before .before .before .loop .inv .1)))
+loop-again c = (omega arith, rw (count-more, ← ((c .before .is-await) .ensures), ((c .if1) .taken), ((c .before .before .before .loop) .inv .1)))
 
 loop-less-2 : tie.Need-loop-less-2 Inv-loop μ-loop
 loop-less-2 c = search needs
 
 loop-again-2 : tie.Need-loop-again-2 Inv-loop μ-loop
 unfolding bit
-loop-again-2 c = (omega arith, rw (count-more, ← (c .before .is-await .ensures), (c .if1 .left)) (omega (arith, (c .before .before .before .loop .inv .1))))
+loop-again-2 c = (omega arith, rw (count-more, ← ((c .before .is-await) .ensures), ((c .if1) .left)) (omega (arith, ((c .before .before .before .loop) .inv .1))))
 
 returns : tie.Need-returns Inv-loop μ-loop
 unfolding awaitCount nodeCount
-returns c = let e : (c .before .loop .n) ≡ getD (c .before .before .before .before .before .before .before .args .sheet .now) 0 0 = omega arith in rw (← e) (c .before .loop .inv .1)
+returns c = let e : ((c .before .loop) .n) ≡ getD ((c .before .before .before .before .before .args) .sheet .now) 0 0 = omega arith in rw (← e) ((c .before .loop) .inv .1)
 
 pub await-count-spec : {M : Type 1} → statement M
 await-count-spec =
@@ -72,8 +64,6 @@ await-count-spec =
     (tie.spec
     Inv-loop
     μ-loop
-    choice-table-requires
-    first-source-requires
     shared-slice-read-nodes
     loop-holds
     is-await-requires

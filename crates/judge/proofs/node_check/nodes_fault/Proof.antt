@@ -1,11 +1,10 @@
-use mathlib.Core.Bool.{not}
-use Rattle.scan.proofs.First.{when-hit, when-miss}
 -- `judge::node_check::nodes_fault` meets its contract: nothing is found at the nodes before the counter.
+use mathlib.Core.Bool.{not}
 use Prim.Native.Nat.{_-_, _≤_, _<_}
 use mathlib.Core.Option.{none}
 use lib.ListN.{getD}
 use Rattle.scan.specs.Scan.{orElse, when, first}
-use Rattle.scan.proofs.First.{first-none, first-more, orElse-next}
+use Rattle.scan.proofs.First.{when-hit, when-miss, first-none, first-more, orElse-next}
 use Rattle.net.specs.Check.{verdictOf}
 use Rattle.net.proofs.Answer.{answer-none, answer-left, answer-first}
 use Rattle.sequential.specs.Petri.{petriNet}
@@ -19,67 +18,59 @@ use Rattle.judge.proofs.node_check.nodes_fault.Statement.{statement}
 use Rattle.judge.proofs.node_check.nodes_fault.Tie as tie
 use Rattle.judge.proofs.node_check.nodes_fault.Reads as reads
 use Rattle.judge.proofs.node_check.nodes_fault.Lts as lts
-use Rattle.judge.proofs.choice_sets.choice_table.Reads as choice-table-reads
-use Rattle.judge.proofs.choice_sets.first_source.Reads as first-source-reads
 use Rattle.judge.proofs.node_check.is_await.Reads as is-await-reads
 use Rattle.judge.proofs.node_check.node_fault.Reads as node-fault-reads
 use Rattle.net.proofs.refuse.Reads as refuse-reads
 
 abbrev Inv-loop : tie.InvT-loop
-Inv-loop net sheet table nodes n₀ n = (n ≤ nodes) × (first (nodeFault (petriNet net) sheet) n ≡ none)
+Inv-loop net sheet table source nodes n₀ n = (n ≤ nodes) × (first (nodeFault (petriNet net) sheet) n ≡ none)
 
 abbrev μ-loop : tie.MeasureT-loop
-μ-loop net sheet table nodes n₀ n = nodes - n
-
-choice-table-requires : tie.Need-choice-table-requires Inv-loop μ-loop
-choice-table-requires c κs = (c .before .before .pre .accepted)
+μ-loop net sheet table source nodes n₀ n = nodes - n
 
 shared-slice-read-nodes : tie.Need-shared-slice-read-nodes Inv-loop μ-loop
-shared-slice-read-nodes c = let k = known _ _ (c .before .before .before .before .pre) in omega arith
+shared-slice-read-nodes c = let k = known _ _ ((c .before .before .before .pre) .0) in omega arith
 
 loop-holds : tie.Need-loop-holds Inv-loop μ-loop
 loop-holds c = (omega arith, first-none _)
 
 node-fault-requires : tie.Need-node-fault-requires Inv-loop μ-loop
 unfolding nodeCount
-node-fault-requires c κs = ((c .before .before .before .before .before .before .pre), ((c .before .before .before .choice-table .ensures), (c .loop-test .taken)))
+node-fault-requires c κs = (((c .before .before .before .before .before .pre) .0), (((c .before .before .before .before .before .pre) .1 .0), ((c .loop-test) .taken)))
 
 enum-told : tie.Need-enum-told Inv-loop μ-loop
 enum-told c = search needs
 
 returns : tie.Need-returns Inv-loop μ-loop
 unfolding nodeCount
-returns c = answer-left _ _ _ _ (answer-first _ _ _ _ _ (c .before .before .before .before .loop .inv .1) (c .before .before .node-fault .ensures) (c .enum-told .given .1) (c .before .before .before .loop-test .taken)) (c .enum-told .given .1)
+returns c = answer-left _ _ _ _ (answer-first _ _ _ _ _ ((c .before .before .before .before .loop) .inv .1) ((c .before .before .node-fault) .ensures) ((c .enum-told) .given .1) ((c .before .before .before .loop-test) .taken)) ((c .enum-told) .given .1)
 
 enum-told-2 : tie.Need-enum-told-2 Inv-loop μ-loop
 enum-told-2 c = search needs
 
 add-n : tie.Need-add-n Inv-loop μ-loop
-add-n c = let k = known _ _ (c .before .before .before .before .before .before .before .before .before .pre) in omega arith
+add-n c = let k = known _ _ ((c .before .before .before .before .before .before .before .before .pre) .0) in omega arith
 
 loop-less : tie.Need-loop-less Inv-loop μ-loop
 loop-less c = omega arith
 
 loop-again : tie.Need-loop-again Inv-loop μ-loop
-loop-again c = (omega arith, first-more _ _ (c .before .before .before .before .loop .inv .1) (answer-none _ (sym (c .before .before .node-fault .ensures) ∙ (c .enum-told2 .given .1))))
-
-first-source-requires : tie.Need-first-source-requires Inv-loop μ-loop
-first-source-requires c κs = (c .before .before .before .before .before .before .pre .accepted)
+loop-again c = (omega arith, first-more _ _ ((c .before .before .before .before .loop) .inv .1) (answer-none _ (sym ((c .before .before .node-fault) .ensures) ∙ ((c .enum-told2) .given .1))))
 
 is-await-requires : tie.Need-is-await-requires Inv-loop μ-loop
 unfolding nodeCount
-is-await-requires c κs = let k = known _ _ (c .before .before .before .before .before .before .before .pre) in ((c .before .before .before .before .before .before .before .pre), ((c .before .before .before .before .choice-table .ensures), ((c .first-source .ensures), k .some-node)))
+is-await-requires c κs = let k = known _ _ ((c .before .before .before .before .before .pre) .0) in (((c .before .before .before .before .before .pre) .0), (((c .before .before .before .before .before .pre) .1 .0), (((c .before .before .before .before .before .pre) .1 .1), k .some-node)))
 
 returns-2 : tie.Need-returns-2 Inv-loop μ-loop
 unfolding nodeCount rootFault
-returns-2 c = let e : (c .before .before .before .before .loop .n) ≡ getD (c .before .before .before .before .before .before .before .before .before .args .sheet .now) 0 0 = omega arith in ap verdictOf (sym (orElse-next _ _ (rw e at (c .before .before .before .before .loop .inv .1)) ∙ when-miss _ _ (ap not (sym (c .before .is-await .ensures) ∙ (c .if1 .taken)))))
+returns-2 c = let e : ((c .before .before .before .loop) .n) ≡ getD ((c .before .before .before .before .before .before .before .args) .sheet .now) 0 0 = omega arith in ap verdictOf (sym (orElse-next _ _ (rw e at ((c .before .before .before .loop) .inv .1)) ∙ when-miss _ _ (ap not (sym ((c .before .is-await) .ensures) ∙ ((c .if1) .taken)))))
 
 refuse-requires : tie.Need-refuse-requires Inv-loop μ-loop
 refuse-requires c κs = search needs
 
 returns-3 : tie.Need-returns-3 Inv-loop μ-loop
 unfolding nodeCount rootFault
-returns-3 c = let e : (c .before .before .before .before .before .loop .n) ≡ getD (c .before .before .before .before .before .before .before .before .before .before .args .sheet .now) 0 0 = omega arith in (c .refuse .ensures) ∙ ap verdictOf (sym (orElse-next _ _ (rw e at (c .before .before .before .before .before .loop .inv .1)) ∙ when-hit _ _ (ap not (sym (c .before .before .is-await .ensures) ∙ (c .before .if1 .left)))))
+returns-3 c = let e : ((c .before .before .before .before .loop) .n) ≡ getD ((c .before .before .before .before .before .before .before .before .args) .sheet .now) 0 0 = omega arith in ((c .refuse) .ensures) ∙ ap verdictOf (sym (orElse-next _ _ (rw e at ((c .before .before .before .before .loop) .inv .1)) ∙ when-hit _ _ (ap not (sym ((c .before .before .is-await) .ensures) ∙ ((c .before .if1) .left)))))
 
 pub nodes-fault-spec : {M : Type 1} → statement M
 nodes-fault-spec =
@@ -87,7 +78,6 @@ nodes-fault-spec =
     (tie.spec
     Inv-loop
     μ-loop
-    choice-table-requires
     shared-slice-read-nodes
     loop-holds
     node-fault-requires
@@ -97,7 +87,6 @@ nodes-fault-spec =
     add-n
     loop-less
     loop-again
-    first-source-requires
     is-await-requires
     returns-2
     refuse-requires
