@@ -46,7 +46,7 @@ module _ (most : ℕ) (bytes : List ℕ) where
   unfolding wordAt wordFrom cut
   cut-word i l =
       rw (
-        getD-take (4 * most) bytes (4 * i + 0) 0 (omega arith),
+        getD-take (4 * most) bytes (4 * i) 0 (omega arith),
         getD-take (4 * most) bytes (4 * i + 1) 0 (omega arith),
         getD-take (4 * most) bytes (4 * i + 2) 0 (omega arith),
         getD-take (4 * most) bytes (4 * i + 3) 0 (omega arith),

@@ -10,7 +10,7 @@ use Rattle.files.specs.declared.Reading.{Reading}
 
 -- "words of four bytes, least significant first": the word that starts at a byte, missing bytes being 0
 unfoldable pub wordFrom : List ℕ → ℕ → ℕ
-wordFrom bytes at = getD bytes (at + 0) 0 + 256 * getD bytes (at + 1) 0 + 65536 * getD bytes (at + 2) 0 + 16777216 * getD bytes (at + 3) 0
+wordFrom bytes at = getD bytes at 0 + 256 * getD bytes (at + 1) 0 + 65536 * getD bytes (at + 2) 0 + 16777216 * getD bytes (at + 3) 0
 
 -- word i of a file
 unfoldable pub wordAt : List ℕ → ℕ → ℕ

@@ -1,5 +1,6 @@
 -- `files::word` meets its contract.
 use Rattle.files.specs.Words.{wordFrom}
+use native.Mathlib.Nat.{add-zero}
 use borrow.Author.Needs.{needs}
 use Rattle.files.proofs.word.Statement.{statement}
 use Rattle.files.proofs.word.Tie as tie
@@ -52,7 +53,7 @@ add-result-3 c = search needs
 
 returns : tie.Need-returns
 unfolding wordFrom
-returns c = search needs
+returns c = rw (((c .before .before .before .before .before .before .wide) .ensures), ((c .before .before .before .before .before .before .before .byte) .ensures), ((c .before .before .before .before .wide2) .ensures), ((c .before .before .before .before .before .byte2) .ensures), ((c .before .before .wide3) .ensures), ((c .before .before .before .byte3) .ensures), ((c .wide4) .ensures), ((c .before .byte4) .ensures), add-zero)
 
 pub word-spec : {M : Type 1} → statement M
 word-spec =
