@@ -3,14 +3,15 @@ use Prim.Native.Nat.{ℕ, _≤_, _<_}
 use mathlib.Core.Path.{_≡_, sym, ap, _∙_, subst}
 use mathlib.Core.Logic.{_↔_}
 use mathlib.Core.List.{List}
-use mathlib.Core.Option.{Option·map}
+use mathlib.Core.Option.{none, Option·map}
 use lib.Dec.{ltb}
 use borrow.Author.Tests.{ltb-true, ltb-false}
 use Rattle.scan.proofs.Tests.{byTest}
 use Rattle.automaton.specs.Automaton.{Automaton, Closed, SameLists}
 use Rattle.automaton.specs.Reach.{Reachable}
 use Rattle.automaton.specs.Equivalence.{Equivalent, Fires, same}
-use Rattle.automaton.specs.Quotient.{merged, minimalBy, minimal, number, representative, Quotient, Canonical}
+use Rattle.automaton.specs.BreadthFirst.{BreadthFirst}
+use Rattle.automaton.specs.Quotient.{merged, minimalBy, minimal, number, representative, Quotient, Confined, Canonical}
 use Rattle.automaton.proofs.Reach.{root-reachable}
 use Rattle.automaton.proofs.Equivalence.{equivalent-sym, equivalent-trans, same-equivalence}
 use Rattle.automaton.proofs.BreadthFirst.{breadth-first-reachable}
@@ -52,6 +53,21 @@ module _ (fire : List ℕ → ℕ → List ℕ) (A : Automaton) (c : Closed A) (
   pub minimal-size : (minimal A) .nodes ≤ A .nodes
   unfolding minimal minimalBy merged
   minimal-size = order-short (same A) A c (same-equivalence A .reflexive)
+
+  -- whatever is a quotient of A and numbered breadth first is the minimal automaton
+  pub quotient-unique : (M : Automaton) (g : ℕ → ℕ) → Quotient A M g → BreadthFirst M → Confined M
+      → ((i t : ℕ) → M .transitions ≤ t → M .arc i t ≡ none) → M .transitions ≡ A .transitions → M ≡ minimal A
+  quotient-unique M g R b k bounded T =
+      unique fire M (minimal A)
+      (record {
+        closed = record { root = rw (R .root) at (R .node 0 (root-reachable A)); lands = quotient-lands A M g R; bounded = bounded };
+        fires = quotient-fires A M g R fire c f;
+        breadthFirst = b;
+        reduced = quotient-reduced A M g R;
+        confined = k;
+      })
+      minimal-canonical
+      (equivalent-trans M A (minimal A) 0 0 0 (quotient-root A M g R) (equivalent-sym (minimal A) A 0 0 minimal-equivalent)) (T ∙ sym (minimal-transitions A))
 
 -- ---- canonical automata
 

@@ -5,8 +5,8 @@ ghost use lib.ListN.{length, take};
 use judge::CheckAnswer;
 use libc::STDOUT_FILENO;
 use minimal::FormAnswer;
-use net::Position;
-use net::Verdict;
+use refusal::Position;
+use refusal::Verdict;
 use schedule::RunAnswer;
 use schedule::Walker;
 

@@ -3,8 +3,8 @@ use super::output;
 use judge::CheckAnswer;
 use judge::Counts;
 use minimal::FormAnswer;
-use net::Position;
-use net::Refusal;
+use refusal::Position;
+use refusal::Refusal;
 
 fn kind(buf: &mut [u8], at: usize, position: Position) -> usize {
     match position {

@@ -4,14 +4,15 @@ use Prim.Native.Nat.{ℕ, _≤_}
 use mathlib.Core.Bool.{Bool, true, false}
 use mathlib.Core.List.{List}
 use lib.ListN.{length, take}
-use Rattle.net.specs.Refusal.{refusal}
-use Rattle.net.specs.Check.{verdictOf, netReply}
-use Rattle.net.specs.declared.Position.the-variants.{Nothing}
-use Rattle.net.specs.declared.Refusal.{Refusal}
-use Rattle.net.specs.declared.Verdict.{Verdict}
-use Rattle.net.specs.declared.Verdict.the-variants.{Accepted, Refused}
+use Rattle.refusal.specs.Refusal.{refusal}
+use Rattle.refusal.specs.Verdict.{verdictOf, andThen}
+use Rattle.net.specs.Check.{netReply}
+use Rattle.refusal.specs.declared.Position.the-variants.{Nothing}
+use Rattle.refusal.specs.declared.Refusal.{Refusal}
+use Rattle.refusal.specs.declared.Verdict.{Verdict}
+use Rattle.refusal.specs.declared.Verdict.the-variants.{Accepted, Refused}
 use Rattle.sequential.specs.Petri.{petriNet}
-use Rattle.sequential.specs.Check.{andThen, scheduleFault, scheduleReply}
+use Rattle.sequential.specs.Check.{scheduleFault, scheduleReply}
 use Rattle.judge.specs.Answer.{countsOf, checkAnswer}
 use Rattle.judge.specs.declared.CheckAnswer.the-variants.{Failed}
 use Rattle.judge.specs.declared.CheckAnswer.{CheckAnswer}

@@ -4,12 +4,13 @@ use mathlib.Core.Path.{_≡_}
 use mathlib.Core.List.{List}
 use mathlib.Core.Bool.{Bool, true, false}
 use lib.ListN.{length}
-use Rattle.net.specs.Refusal.{refusal}
+use Rattle.refusal.specs.Refusal.{refusal}
 use Rattle.net.specs.Check.{netReply}
-use Rattle.net.specs.declared.Position.the-variants.{Nothing}
-use Rattle.net.specs.declared.Verdict.{Verdict}
-use Rattle.net.specs.declared.Verdict.the-variants.{Accepted, Refused}
-use Rattle.sequential.specs.Check.{andThen, scheduleReply}
+use Rattle.refusal.specs.declared.Position.the-variants.{Nothing}
+use Rattle.refusal.specs.declared.Verdict.{Verdict}
+use Rattle.refusal.specs.declared.Verdict.the-variants.{Accepted, Refused}
+use Rattle.refusal.specs.Verdict.{andThen}
+use Rattle.sequential.specs.Check.{scheduleReply}
 use Rattle.judge.specs.Answer.{countsOf, checkAnswer}
 use Rattle.judge.specs.declared.CheckAnswer.{CheckAnswer}
 use Rattle.files.specs.Words.{isRagged, wordCount, wordsOf, decoded}

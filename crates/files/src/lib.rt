@@ -5,9 +5,9 @@ ghost use lib.ListN.{getD};
 ghost use Rattle.files.specs.Words.{wordFrom, wordCount, isRagged, FileRead};
 ghost use Rattle.files.specs.Program.{readAnswer, FilesRead};
 use judge::CheckAnswer;
-use net::Position;
-use net::Refusal;
-use net::Verdict;
+use refusal::Position;
+use refusal::Refusal;
+use refusal::Verdict;
 
 // How many words of a file are handed on, and whether a tail of one to three bytes was found.
 pub struct Reading {

@@ -10,10 +10,9 @@ use Rattle.net.proofs.Laws.{sizes}
 use Rattle.sequential.specs.Petri.{petriNet}
 use Rattle.sequential.specs.Words.{nodeCount, entryCount, arcKeys, keyLimit}
 use Rattle.graph.specs.Readable.{wordsReply, Readable}
-use Rattle.sequential.specs.Clauses.{WordsPass}
-use Rattle.sequential.proofs.Verdict.{then-accepted}
-use Rattle.net.proofs.Answer.{answer-none}
-use Rattle.net.specs.declared.Verdict.the-variants.{Accepted}
+use Rattle.sequential.specs.Known.{WordsHold}
+use Rattle.refusal.proofs.Verdicts.{then-accepted, answer-none}
+use Rattle.refusal.specs.declared.Verdict.the-variants.{Accepted}
 use Rattle.sequential.proofs.Words.{words-out}
 
 pub reply-readable : (net sheet : List ℕ) → wordsReply net sheet ≡ Accepted → Readable net sheet
@@ -33,7 +32,7 @@ pub record Sizes (net sheet : List ℕ) : Type 0 where
   pub few-arcs : getD sheet 0 0 * transitionCount net ≤ 4096
 
 module _ (net sheet : List ℕ) (r : Readable net sheet) where
-  pub words : WordsPass (petriNet net) sheet
+  pub words : WordsHold (petriNet net) sheet
   words = words-out (petriNet net) sheet (r .passes)
 
   pub known : Sizes net sheet

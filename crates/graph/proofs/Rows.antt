@@ -15,19 +15,18 @@ use Rattle.table.specs.Row.{rowEntry, entryRow, entryCode}
 use Rattle.table.proofs.Table.{entry-some}
 use Rattle.table.proofs.Row.{row-at, row-entry, row-past, entry-right, entry-past}
 use Rattle.automaton.specs.Automaton.{byArc}
-use Rattle.sequential.specs.Petri.{PetriNet}
+use Rattle.sequential.specs.Petri.{PetriNet, petriNet}
 use Rattle.sequential.specs.Words.{nodeCount, entryCount, entryKey, entryValue, isNode, entryWithKey, valueOf, arcKeys, arcKey, countKey, arcEntry, arc, count}
 use Rattle.graph.specs.Readable.{Readable}
 use Rattle.graph.specs.Rows.{arcCode, valueTold, arcTold, countInRow, arcInRow, hasRow, HasRow, markingRow, arcRow}
-use Rattle.sequential.specs.Clauses.{WordsPass}
+use Rattle.sequential.specs.Known.{WordsHold}
 use Rattle.sequential.proofs.Words.{shape-out, shape-in, words-rise, words-fit}
 use Rattle.sequential.specs.Check.{shapeFault}
-use Rattle.sequential.specs.Petri.{petriNet}
 use Rattle.net.specs.Net.{placeCount, transitionCount}
-use Rattle.net.specs.Check.{verdictOf}
-use Rattle.net.specs.declared.Refusal.{Refusal}
-use Rattle.net.specs.declared.Verdict.the-variants.{Accepted, Refused}
-use Rattle.net.proofs.Answer.{answer-none, answer-some}
+use Rattle.refusal.specs.Verdict.{verdictOf}
+use Rattle.refusal.specs.declared.Refusal.{Refusal}
+use Rattle.refusal.specs.declared.Verdict.the-variants.{Accepted, Refused}
+use Rattle.refusal.proofs.Verdicts.{answer-none, answer-some}
 use Rattle.net.proofs.Laws.{sizes}
 use Rattle.scan.specs.Scan.{found, when, tabulate}
 use Rattle.scan.proofs.Tabulate.{tabulate-ext}
@@ -154,7 +153,7 @@ unfolding when
 told-value sheet none = refl
 told-value sheet (some i) = rw (lt-ltb 0 (i + 1) (omega arith), add-one i) (unfold valueTold in refl)
 
-module _ (N : PetriNet) (sheet : List ℕ) (w : WordsPass N sheet) (n : ℕ) (l : n < nodeCount sheet) where
+module _ (N : PetriNet) (sheet : List ℕ) (w : WordsHold N sheet) (n : ℕ) (l : n < nodeCount sheet) where
   abbrev counts : List ℕ
   counts = entryRow sheet 2 (entryCount sheet) (arcKeys N sheet + n * N .places) (N .places)
 
@@ -178,7 +177,7 @@ module _ (N : PetriNet) (sheet : List ℕ) (w : WordsPass N sheet) (n : ℕ) (l 
   ]
 
 module _ (net sheet : List ℕ) (r : Readable net sheet) (n : ℕ) (l : n < nodeCount sheet) where
-  w : WordsPass (petriNet net) sheet
+  w : WordsHold (petriNet net) sheet
   w = words net sheet r
 
   has-row : hasRow net sheet n ≡ true

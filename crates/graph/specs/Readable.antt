@@ -3,11 +3,12 @@ use mathlib.Core.Path.{_≡_}
 use mathlib.Core.List.{List}
 use mathlib.Core.Option.{none}
 use Prim.Native.Nat.{ℕ}
-use Rattle.net.specs.Check.{verdictOf, netReply}
-use Rattle.net.specs.declared.Verdict.{Verdict}
-use Rattle.net.specs.declared.Verdict.the-variants.{Accepted}
+use Rattle.refusal.specs.Verdict.{verdictOf, andThen}
+use Rattle.net.specs.Check.{netReply}
+use Rattle.refusal.specs.declared.Verdict.{Verdict}
+use Rattle.refusal.specs.declared.Verdict.the-variants.{Accepted}
 use Rattle.sequential.specs.Petri.{petriNet}
-use Rattle.sequential.specs.Check.{wordsFault, andThen}
+use Rattle.sequential.specs.Check.{wordsFault}
 
 -- "then the net ..; then the sheet": its words
 unfoldable pub wordsReply : List ℕ → List ℕ → Verdict

@@ -12,7 +12,7 @@ use Rattle.net.specs.Net.{placeCount, transitionCount}
 use Rattle.sequential.specs.Petri.{PetriNet}
 use Rattle.sequential.specs.Words.{nodeCount, entryCount, entryValue, arc}
 use Rattle.sequential.specs.Check.{shapeFault}
-use Rattle.sequential.specs.Clauses.{ShapePasses}
+use Rattle.sequential.specs.Known.{ShapePasses}
 
 -- an arc as a number: 1 plus the target, or 0
 unfoldable pub arcCode : PetriNet → List ℕ → ℕ → ℕ → ℕ

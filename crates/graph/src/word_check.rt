@@ -2,14 +2,16 @@
 ghost use mathlib.Core.Path.{_≡_};
 ghost use mathlib.Core.Option.{none};
 ghost use Prim.Native.Nat.{_<_};
-ghost use Rattle.net.specs.Check.{verdictOf, netReply};
-ghost use Rattle.net.specs.declared.Verdict.the-variants.{Accepted};
+ghost use Rattle.refusal.specs.Verdict.{verdictOf};
+ghost use Rattle.net.specs.Check.{netReply};
+ghost use Rattle.refusal.specs.declared.Verdict.the-variants.{Accepted};
 ghost use Rattle.sequential.specs.Petri.{petriNet};
 ghost use Rattle.sequential.specs.Words.{entryCount};
-ghost use Rattle.sequential.specs.Check.{sizesPass, shapeFault, keyFails, valueFails, entryFault, wordsFault};
-use net::Position;
-use net::Refusal;
-use net::Verdict;
+ghost use Rattle.sequential.specs.Check.{sizesPass, shapeFault, valueFails, entryFault, wordsFault};
+ghost use Rattle.table.specs.Keys.{keyFails};
+use refusal::Position;
+use refusal::Refusal;
+use refusal::Verdict;
 
 fn sizes_pass(nodes: u32, entries: u32) -> bool
     ensures { λ r. ⌜ r ≡ sizesPass nodes entries ⌝ }
@@ -28,23 +30,23 @@ pub(crate) fn shape_fault(sheet: &[u32]) -> Verdict
     ensures { λ r. ⌜ r ≡ verdictOf (shapeFault (now (sheet .entry))) ⌝ }
 {
     if sheet.len() < 2 {
-        return net::refuse(Refusal::SCHEDULE_LENGTH, Position::Nothing);
+        return refusal::refuse(Refusal::SCHEDULE_LENGTH, Position::Nothing);
     }
     let entries = sheet[1];
     if !sizes_pass(sheet[0], entries) {
-        return net::refuse(Refusal::SCHEDULE_SIZE, Position::Nothing);
+        return refusal::refuse(Refusal::SCHEDULE_SIZE, Position::Nothing);
     }
     if sheet.len() != 2 + 2 * (entries as usize) {
-        return net::refuse(Refusal::SCHEDULE_LENGTH, Position::Nothing);
+        return refusal::refuse(Refusal::SCHEDULE_LENGTH, Position::Nothing);
     }
     Verdict::Accepted
 }
 
 // Whether the key of entry i is too large, or not above the one before.
-fn key_fails(sheet: &[u32], arcs: u32, limit: u32, i: usize) -> bool
+fn key_fails(sheet: &[u32], limit: u32, i: usize) -> bool
     requires { ⌜ shapeFault (now sheet) ≡ none ⌝ }
     requires { ⌜ i < entryCount (now sheet) ⌝ }
-    ensures { λ r. ⌜ r ≡ keyFails (now (sheet .entry)) arcs limit i ⌝ }
+    ensures { λ r. ⌜ r ≡ keyFails (now (sheet .entry)) 2 limit i ⌝ }
 {
     let key = sheet[2 + i];
     if limit <= key {
@@ -57,10 +59,10 @@ fn key_fails(sheet: &[u32], arcs: u32, limit: u32, i: usize) -> bool
 }
 
 // Whether the value of entry i lies outside the range of its key.
-fn value_fails(sheet: &[u32], arcs: u32, limit: u32, i: usize) -> bool
+fn value_fails(sheet: &[u32], arcs: u32, i: usize) -> bool
     requires { ⌜ shapeFault (now sheet) ≡ none ⌝ }
     requires { ⌜ i < entryCount (now sheet) ⌝ }
-    ensures { λ r. ⌜ r ≡ valueFails (now (sheet .entry)) arcs limit i ⌝ }
+    ensures { λ r. ⌜ r ≡ valueFails (now (sheet .entry)) arcs i ⌝ }
 {
     let entries = sheet[1] as usize;
     let value = sheet[2 + entries + i];
@@ -79,11 +81,11 @@ fn entry_fault(sheet: &[u32], arcs: u32, limit: u32, i: usize) -> Verdict
     requires { ⌜ i < entryCount (now sheet) ⌝ }
     ensures { λ r. ⌜ r ≡ verdictOf (entryFault (now (sheet .entry)) arcs limit i) ⌝ }
 {
-    if key_fails(sheet, arcs, limit, i) {
-        return net::refuse(Refusal::SCHEDULE_ORDER, Position::Entry(i));
+    if key_fails(sheet, limit, i) {
+        return refusal::refuse(Refusal::SCHEDULE_ORDER, Position::Entry(i));
     }
-    if value_fails(sheet, arcs, limit, i) {
-        return net::refuse(Refusal::SCHEDULE_VALUE, Position::Entry(i));
+    if value_fails(sheet, arcs, i) {
+        return refusal::refuse(Refusal::SCHEDULE_VALUE, Position::Entry(i));
     }
     Verdict::Accepted
 }

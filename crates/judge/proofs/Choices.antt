@@ -17,9 +17,9 @@ use Rattle.scan.proofs.Tabulate.{tabulate-at}
 use Rattle.automaton.specs.Automaton.{byArc}
 use Rattle.automaton.specs.Equivalence.{leaderBy, sameClass}
 use Rattle.automaton.proofs.Leader.{IsEquivalence, leader-test, leader-le, leader-member}
-use Rattle.sequential.specs.Petri.{PetriNet, takesNothing, isSource, takesAlike, sameChoice}
+use Rattle.sequential.specs.Petri.{PetriNet}
+use Rattle.sequential.specs.Tests.{takesNothing, isSource, takesAlike, sameChoice, offers, offersAsSource, isAwait, offersSome, firstOffered, offersAsChoice, offersOneChoiceSet}
 use Rattle.sequential.specs.Words.{arc, graph}
-use Rattle.sequential.specs.Schedule.{offers, offersAsSource, isAwait, offersSome, firstOffered, offersAsChoice, offersOneChoiceSet}
 use Rattle.judge.specs.Rows.{choiceOf, firstSource, present, presentAsChoice}
 use Rattle.graph.specs.Rows.{arcCode}
 

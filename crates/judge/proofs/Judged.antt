@@ -15,18 +15,18 @@ use Rattle.scan.proofs.First.{orElse-left}
 use Rattle.table.specs.Table.{keyAt}
 use Rattle.table.specs.Bisection.{lowerBound}
 use Rattle.table.proofs.Bisection.{LowerBound, lower-bound}
-use Rattle.net.proofs.Answer.{answer-none}
-use Rattle.net.specs.Check.{verdictOf, netReply}
-use Rattle.net.specs.declared.Refusal.{Refusal}
-use Rattle.net.specs.declared.Verdict.{Verdict}
-use Rattle.net.specs.declared.Verdict.the-variants.{Accepted, Refused}
+use Rattle.refusal.proofs.Verdicts.{answer-none, verdict-next, then-next, then-accepted}
+use Rattle.refusal.specs.Verdict.{verdictOf, andThen}
+use Rattle.net.specs.Check.{netReply}
+use Rattle.refusal.specs.declared.Refusal.{Refusal}
+use Rattle.refusal.specs.declared.Verdict.{Verdict}
+use Rattle.refusal.specs.declared.Verdict.the-variants.{Accepted, Refused}
 use Rattle.sequential.specs.Petri.{PetriNet, petriNet}
-use Rattle.sequential.specs.Words.{nodeCount, entryCount, entryKey, arcKeys}
-use Rattle.sequential.specs.Check.{isArc, arcCount, wordsFault, graphFault, scheduleFault, andThen, scheduleReply}
-use Rattle.sequential.specs.Clauses.{WordsPass}
+use Rattle.sequential.specs.Words.{nodeCount, entryCount, entryKey, arcKeys, isArc}
+use Rattle.sequential.specs.Check.{arcCount, wordsFault, graphFault, scheduleFault, scheduleReply}
+use Rattle.sequential.specs.Known.{WordsHold}
 use Rattle.graph.specs.Readable.{wordsReply, Readable}
 use Rattle.sequential.proofs.Words.{words-rise, words-fit}
-use Rattle.sequential.proofs.Verdict.{verdict-next, then-next, then-accepted}
 
 then-left : (v : Verdict) (a b : Option Refusal) (r : Refusal) → andThen v (verdictOf a) ≡ Refused r → andThen v (verdictOf a) ≡ andThen v (verdictOf (orElse a b))
 unfolding orElse
@@ -53,12 +53,12 @@ words-accepted net sheet h =
     then-next (netReply net) (verdictOf (orElse faults (graphFault (petriNet net) sheet))) a ∙ verdict-next faults (graphFault (petriNet net) sheet) b
 
 -- the arcs' keys come first, so bisection for the first key of a count counts them
-pub arc-count-is : (N : PetriNet) (sheet : List ℕ) → WordsPass N sheet → lowerBound sheet 2 (entryCount sheet) (arcKeys N sheet) ≡ arcCount N sheet
+pub arc-count-is : (N : PetriNet) (sheet : List ℕ) → WordsHold N sheet → lowerBound sheet 2 (entryCount sheet) (arcKeys N sheet) ≡ arcCount N sheet
 unfolding arcCount isArc entryKey
 arc-count-is N sheet w =
     let b = lower-bound sheet 2 (entryCount sheet) (arcKeys N sheet) (words-rise N sheet w) (words-fit N sheet w) in
     sym (count-prefix (isArc N sheet) (entryCount sheet) (lowerBound sheet 2 (entryCount sheet) (arcKeys N sheet)) (b .within)
     (λ i l. lt-ltb _ _ (b .below i l)) (λ i l m. le-ltb _ _ (b .above i l m)))
 
-pub arc-count-low : (N : PetriNet) (sheet : List ℕ) → WordsPass N sheet → lowerBound sheet 2 (entryCount sheet) (arcKeys N sheet) ≤ entryCount sheet
+pub arc-count-low : (N : PetriNet) (sheet : List ℕ) → WordsHold N sheet → lowerBound sheet 2 (entryCount sheet) (arcKeys N sheet) ≤ entryCount sheet
 arc-count-low N sheet w = lower-bound sheet 2 (entryCount sheet) (arcKeys N sheet) (words-rise N sheet w) (words-fit N sheet w) .within

@@ -6,17 +6,19 @@ use mathlib.Core.List.{List}
 use mathlib.Core.Bool.{not}
 use lib.ListN.{getD}
 use lib.Dec.{eqb}
+use Rattle.refusal.specs.Finding.{lineFinds, foundAt}
 use Rattle.scan.specs.Scan.{tabulate, when}
 use Rattle.scan.proofs.Tabulate.{tabulate-at}
 use Rattle.net.specs.Net.{placeCount, taken, start}
 use Rattle.net.specs.Check.{netReply}
 use Rattle.net.specs.Accessors.{takenRowReply, startRowReply}
-use Rattle.net.specs.Refusal.{refusal}
-use Rattle.net.specs.declared.Position.the-variants.{Place}
-use Rattle.net.specs.declared.Verdict.the-variants.{Accepted}
-use Rattle.net.proofs.Demands.{accessors-mean}
+use Rattle.refusal.specs.Refusal.{refusal}
+use Rattle.refusal.specs.declared.Position.the-variants.{Place}
+use Rattle.refusal.specs.declared.Verdict.the-variants.{Accepted}
+use Rattle.net.proofs.Laws.{accessors}
 use Rattle.net.proofs.Laws.{sizes}
-use Rattle.sequential.specs.Petri.{petriNet, takesNothing, takesAlike}
+use Rattle.sequential.specs.Petri.{petriNet}
+use Rattle.sequential.specs.Tests.{takesNothing, takesAlike}
 use Rattle.sequential.specs.Words.{count}
 use Rattle.sequential.specs.Check.{startFault}
 
@@ -25,10 +27,10 @@ module _ (net : List ℕ) (accepted : netReply net ≡ Accepted) (p : ℕ) (with
   in-row = let s = sizes net accepted in omega arith
 
   taken-at : (t : ℕ) (row : List ℕ) → row ≡ takenRowReply net t → getD row p 0 ≡ taken net t p
-  taken-at t row e = ap (λ (l : List ℕ). getD l p 0) (e ∙ accessors-mean net accepted .takes-row t) ∙ tabulate-at (taken net t) 0 32 p in-row
+  taken-at t row e = ap (λ (l : List ℕ). getD l p 0) (e ∙ accessors net accepted .takes-row t) ∙ tabulate-at (taken net t) 0 32 p in-row
 
   start-at : (row : List ℕ) → row ≡ startRowReply net → getD row p 0 ≡ start net p
-  start-at row e = ap (λ (l : List ℕ). getD l p 0) (e ∙ accessors-mean net accepted .starts-row) ∙ tabulate-at (start net) 0 32 p in-row
+  start-at row e = ap (λ (l : List ℕ). getD l p 0) (e ∙ accessors net accepted .starts-row) ∙ tabulate-at (start net) 0 32 p in-row
 
   pub nothing-told : (t : ℕ) (row : List ℕ) → row ≡ takenRowReply net t → takesNothing (petriNet net) t p ≡ eqb (getD row p 0) 0
   unfolding takesNothing
@@ -39,7 +41,7 @@ module _ (net : List ℕ) (accepted : netReply net ≡ Accepted) (p : ℕ) (with
   alike-told t u a b e f = rw (taken-at t a e, taken-at u b f)
 
   pub start-told : (sheet held starts : List ℕ) → held ≡ tabulate (count (petriNet net) sheet 0) 32 → starts ≡ startRowReply net → startFault (petriNet net) sheet p ≡ when (not (eqb (getD held p 0) (getD starts p 0))) (refusal 10 (Place p))
-  unfolding startFault
+  unfolding startFault lineFinds foundAt
   start-told sheet held starts e f =
       let h : getD held p 0 ≡ count (petriNet net) sheet 0 p = ap (λ (l : List ℕ). getD l p 0) e ∙ tabulate-at (count (petriNet net) sheet 0) 0 32 p in-row in
       rw (h, start-at starts f)

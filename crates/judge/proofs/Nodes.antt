@@ -8,17 +8,19 @@ use mathlib.Core.Option.{Option, none, some}
 use lib.ListN.{getD}
 use lib.Dec.{eqb}
 use borrow.Author.Tests.{eq-eqb}
+use Rattle.refusal.specs.Finding.{lineFinds, foundAt}
 use Rattle.scan.specs.Scan.{orElse, when, all, any, least, tabulate}
 use Rattle.scan.proofs.Every.{all-in, any-in}
 use Rattle.scan.proofs.Tabulate.{tabulate-at}
-use Rattle.net.specs.Refusal.{refusal}
-use Rattle.net.specs.Check.{verdictOf, netReply}
+use Rattle.refusal.specs.Refusal.{refusal}
+use Rattle.refusal.specs.Verdict.{verdictOf}
+use Rattle.net.specs.Check.{netReply}
 use Rattle.net.proofs.Laws.{some-source}
-use Rattle.net.specs.declared.Position.the-variants.{Node}
-use Rattle.net.specs.declared.Verdict.the-variants.{Accepted, Refused}
-use Rattle.sequential.specs.Petri.{PetriNet, petriNet, takesNothing, isSource}
+use Rattle.refusal.specs.declared.Position.the-variants.{Node}
+use Rattle.refusal.specs.declared.Verdict.the-variants.{Accepted, Refused}
+use Rattle.sequential.specs.Petri.{PetriNet, petriNet}
+use Rattle.sequential.specs.Tests.{takesNothing, isSource, isAwait, offersSome, firstOffered, offersOneChoiceSet}
 use Rattle.sequential.specs.Words.{graph}
-use Rattle.sequential.specs.Schedule.{isAwait, offersSome, firstOffered, offersOneChoiceSet}
 use Rattle.sequential.specs.Check.{nodeFault, rootFault}
 use Rattle.judge.specs.Rows.{choiceOf, firstSource, present, presentAsChoice}
 use Rattle.graph.specs.Rows.{arcCode}
@@ -38,7 +40,7 @@ module _ (N : PetriNet) (sheet : List ℕ) (few : N .transitions ≤ 32) (n : �
 
   -- no arc
   pub node-none : (t : ℕ) → t ≡ least (present arcs) T → T ≤ t → Refused (refusal 11 (Node n)) ≡ verdictOf (nodeFault N sheet n)
-  unfolding nodeFault orElse when
+  unfolding nodeFault orElse when lineFinds foundAt
   node-none t e l = rw (no-offer N sheet n (omega (arith, first-is t e, all-of)))
 
   one-choice : (t : ℕ) → t ≡ least (present arcs) T → t < T → (b : Bool) → b ≡ all (presentAsChoice arcs table (getD table t 0)) T → b ≡ offersOneChoiceSet N (graph N sheet) n
@@ -48,13 +50,13 @@ module _ (N : PetriNet) (sheet : List ℕ) (few : N .transitions ≤ 32) (n : �
 
   -- one whole choice set
   pub node-whole : (t : ℕ) → t ≡ least (present arcs) T → t < T → (b : Bool) → b ≡ all (presentAsChoice arcs table (getD table t 0)) T → b ≡ true → Accepted ≡ verdictOf (nodeFault N sheet n)
-  unfolding nodeFault orElse when
+  unfolding nodeFault orElse when lineFinds foundAt
   node-whole t e l b q h = rw (some-offer N sheet n (omega (arith, first-is t e, all-of)), sym (one-choice t e l b q) ∙ h)
 
   -- something else
   pub node-torn : (t : ℕ) → t ≡ least (present arcs) T → t < T → (b : Bool) → b ≡ all (presentAsChoice arcs table (getD table t 0)) T → b ≡ false
       → Refused (refusal 12 (Node n)) ≡ verdictOf (nodeFault N sheet n)
-  unfolding nodeFault orElse when
+  unfolding nodeFault orElse when lineFinds foundAt
   node-torn t e l b q h = rw (some-offer N sheet n (omega (arith, first-is t e, all-of)), sym (one-choice t e l b q) ∙ h)
 
   pub await-row : any (isSource N) (N .transitions) ≡ true → (s : ℕ) → s ≡ firstSource N → all (presentAsChoice arcs table s) T ≡ isAwait N (graph N sheet) n

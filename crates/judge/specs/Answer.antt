@@ -1,9 +1,9 @@
 -- Document 01, "The calls", the sheet check: "on acceptance the numbers of nodes, arcs and await nodes".
 use Prim.Native.Nat.{ℕ}
 use mathlib.Core.List.{List, [], _∷_}
-use Rattle.net.specs.Refusal.{kindOf, indexOf}
-use Rattle.net.specs.declared.Verdict.{Verdict}
-use Rattle.net.specs.declared.Verdict.the-variants.{Accepted, Refused}
+use Rattle.refusal.specs.Refusal.{told}
+use Rattle.refusal.specs.declared.Verdict.{Verdict}
+use Rattle.refusal.specs.declared.Verdict.the-variants.{Accepted, Refused}
 use Rattle.sequential.specs.Petri.{petriNet}
 use Rattle.sequential.specs.Words.{nodeCount}
 use Rattle.sequential.specs.Check.{arcCount, awaitCount}
@@ -21,4 +21,4 @@ checkAnswer (Refused r) numbers = Failed r
 -- number, kind, position, nodes, arcs, await nodes; 0 where refused
 abbrev pub plainCheck : CheckAnswer → List ℕ
 plainCheck (Passed c) = 0 ∷ 0 ∷ 0 ∷ c .nodes ∷ c .arcs ∷ c .awaits ∷ []
-plainCheck (Failed r) = r .number ∷ kindOf (r .at) ∷ indexOf (r .at) ∷ 0 ∷ 0 ∷ 0 ∷ []
+plainCheck (Failed r) = told r 3

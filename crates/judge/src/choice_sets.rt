@@ -3,8 +3,9 @@ ghost use mathlib.Core.Path.{_≡_};
 ghost use Prim.Native.Nat.{_≤_};
 ghost use Rattle.scan.specs.Scan.{all, least, tabulate};
 ghost use Rattle.net.specs.Check.{netReply};
-ghost use Rattle.net.specs.declared.Verdict.the-variants.{Accepted};
-ghost use Rattle.sequential.specs.Petri.{petriNet, isSource, sameChoice};
+ghost use Rattle.refusal.specs.declared.Verdict.the-variants.{Accepted};
+ghost use Rattle.sequential.specs.Petri.{petriNet};
+ghost use Rattle.sequential.specs.Tests.{isSource, sameChoice};
 ghost use Rattle.judge.specs.Rows.{choiceOf, firstSource, present, presentAsChoice};
 
 // Whether t and u take the same weight from every place.

@@ -16,8 +16,7 @@ use Rattle.automaton.proofs.Automaton.{arc-cases}
 use Rattle.sequential.specs.Petri.{PetriNet}
 use Rattle.sequential.specs.Words.{valueOf, entryWithKey, graph}
 use Rattle.sequential.proofs.Entries.{row-lt, row-div, row-mod, graph-closed}
-use Rattle.minimal.specs.Encoding.{held, encode}
-use Rattle.minimal.specs.Demands.{Encodable}
+use Rattle.minimal.specs.Encoding.{held, encode, Encodable}
 use Rattle.minimal.proofs.Encoding.{Says}
 use Rattle.minimal.proofs.Entries.{look-up-entered, look-up-absent}
 use Rattle.minimal.proofs.Encoded.{encoded-nodes, encoded-says, says-encoded, encoded-rising, encoded-passes}

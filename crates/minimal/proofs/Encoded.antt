@@ -11,10 +11,9 @@ use Rattle.table.specs.Table.{keyAt, valueAt, Rising}
 use Rattle.automaton.specs.Automaton.{Automaton}
 use Rattle.sequential.specs.Petri.{PetriNet}
 use Rattle.sequential.specs.Words.{nodeCount, entryCount, entryKey, entryValue, arcKeys, keyLimit}
-use Rattle.sequential.specs.Clauses.{WordsPass}
+use Rattle.sequential.specs.Known.{WordsHold}
 use Rattle.sequential.proofs.Entries.{row-lt}
-use Rattle.minimal.specs.Encoding.{keys, values, encode}
-use Rattle.minimal.specs.Demands.{Encodable}
+use Rattle.minimal.specs.Encoding.{keys, values, encode, Encodable}
 use Rattle.minimal.proofs.Lists.{Stands}
 use Rattle.minimal.proofs.Encoding.{ArcAt, CountAt, Says, keys-paired, keys-between, stands→says, says→stands}
 use Rattle.minimal.proofs.Entries.{Entered}
@@ -95,7 +94,11 @@ module _ (N : PetriNet) (A : Automaton) where
     own : (i : ℕ) → i < entryCount (encode N A) → Says N A (entryKey (encode N A) i) (entryValue (encode N A) i)
     own i l = encoded-says (entryKey (encode N A) i) (entryValue (encode N A) i) (record { index = i; entry = l; key = refl; value = refl })
 
-    pub encoded-passes : WordsPass N (encode N A)
+    key-low : (i : ℕ) → i < entryCount (encode N A) → keyAt (encode N A) 2 i < keyLimit N (encode N A)
+    unfolding entryKey
+    key-low i l = let e : keyAt (encode N A) 2 i ≡ getD (keys N A) i 0 = encoded-key i l in rw (e, encoded-limit) (keys-between N A .below i (rw encoded-entries at l))
+
+    pub encoded-passes : WordsHold N (encode N A)
     encoded-passes = record {
       shape = record {
         some-node = rw encoded-nodes (E .closed .root);
@@ -103,7 +106,10 @@ module _ (N : PetriNet) (A : Automaton) where
         few-entries = rw encoded-entries (E .few-entries);
         whole = encoded-length;
       };
-      keys = λ i l. record { low = rw (encoded-key i l, encoded-limit) (keys-between N A .below i (rw encoded-entries at l)); above = λ z. encoded-above (i - 1) i (omega arith) l };
+      keys = λ i l. record {
+        low = key-low i l;
+        above = λ z. unfold entryKey in (encoded-above (i - 1) i (omega arith) l);
+      };
       values = λ i l. record {
         target = λ h. rw encoded-nodes (says-target _ _ (rw encoded-arcs at h) (own i l));
         some = λ h. says-count _ _ (rw encoded-arcs at h) (own i l) .0;

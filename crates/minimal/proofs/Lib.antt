@@ -9,8 +9,4 @@ pub mod Recoded
 pub mod Length
 pub mod Schedule
 pub mod Minimal
-pub mod Form
-pub mod Buffers
-pub mod Demands
-pub mod Examples
-pub mod Nine
+pub mod Done

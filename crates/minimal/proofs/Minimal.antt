@@ -11,17 +11,18 @@ use Rattle.automaton.specs.BreadthFirst.{BreadthFirst}
 use Rattle.automaton.specs.Equivalence.{Equivalent, Fires}
 use Rattle.automaton.specs.Quotient.{minimal, number, representative, Quotient, Renumbering}
 use Rattle.automaton.proofs.Quotient.{minimal-transitions, minimal-label, minimal-confined, minimal-breadth-first, representative-node, quotient}
-use Rattle.automaton.proofs.Minimal.{minimal-closed, minimal-equivalent, minimal-size, minimal-idempotent, minimal-equal↔lists, minimal-fewest}
+use Rattle.automaton.proofs.Minimal.{minimal-closed, minimal-equivalent, minimal-size, minimal-idempotent, minimal-equal↔lists, minimal-fewest, quotient-unique}
 use Rattle.automaton.proofs.Fewest.{fewest-renumbering}
 use Rattle.net.proofs.Laws.{sizes}
 use Rattle.sequential.specs.Petri.{PetriNet, petriNet, fire}
 use Rattle.sequential.specs.Words.{nodeCount, entryCount, graph}
 use Rattle.sequential.specs.Schedule.{IsSchedule}
-use Rattle.sequential.specs.Demands.{Accepts}
-use Rattle.sequential.proofs.Demands.{accepted-exactly}
-use Rattle.minimal.specs.Encoding.{held, encode}
-use Rattle.minimal.specs.Minimal.{minimalForm}
-use Rattle.minimal.specs.Demands.{Accepted, SameFirings, Encodable, QuotientForm, Fewest}
+use Rattle.sequential.specs.Known.{WordsHold}
+use Rattle.refusal.specs.declared.Verdict.the-variants as verdict
+use Rattle.sequential.specs.Check.{scheduleReply}
+use Rattle.sequential.proofs.Accepted.{accepted-exactly, accepts, some-transition}
+use Rattle.minimal.specs.Encoding.{held, encode, Encodable}
+use Rattle.minimal.specs.Minimal.{minimalForm, QuotientForm, Fewest}
 use Rattle.minimal.proofs.Encoded.{encoded-length, encoded-entries, encoded-passes}
 use Rattle.minimal.proofs.Decoded.{decode-encode}
 use Rattle.minimal.proofs.Recoded.{encode-decode, decoded-encodable}
@@ -51,6 +52,9 @@ module _ (N : PetriNet) (A : Automaton) (E : Encodable N A) (s : IsSchedule N A)
 
 -- ---- an accepted sheet
 
+abbrev pub Accepted : List ℕ → List ℕ → Type 0
+Accepted net sheet = scheduleReply net sheet ≡ verdict.Accepted
+
 module _ (net sheet : List ℕ) (h : Accepted net sheet) where
   abbrev N : PetriNet
   N = petriNet net
@@ -58,41 +62,34 @@ module _ (net sheet : List ℕ) (h : Accepted net sheet) where
   abbrev A : Automaton
   A = graph (petriNet net) sheet
 
-  accepts : Accepts net sheet
-  accepts = accepted-exactly net sheet .0 h
-
-  some-transition : 0 < petriNet net .transitions
-  some-transition = sizes net (accepts .net-accepted) .some-transition
-
   some-place : 0 < petriNet net .places
-  some-place = sizes net (accepts .net-accepted) .some-place
+  some-place = sizes net (accepts net sheet h .net-accepted) .some-place
 
   pub accepted-encodable : Encodable (petriNet net) (graph (petriNet net) sheet)
-  accepted-encodable = decoded-encodable N sheet some-transition some-place (accepts .words)
+  accepted-encodable = decoded-encodable N sheet (some-transition net sheet h) some-place (accepts net sheet h .words)
 
   pub accepted-closed : Closed (graph (petriNet net) sheet)
   accepted-closed = accepted-encodable .closed
 
   pub accepted-fires : Fires (fire (petriNet net)) (graph (petriNet net) sheet)
-  accepted-fires = schedule-fires N A (accepts .schedule)
+  accepted-fires = schedule-fires N A (accepts net sheet h .schedule)
 
   form-encodable : Encodable N (minimal A)
-  form-encodable = minimal-encodable N A accepted-encodable (accepts .schedule)
+  form-encodable = minimal-encodable N A accepted-encodable (accepts net sheet h .schedule)
 
   -- the graph that the minimal form says is the minimal automaton
   pub form-graph : graph (petriNet net) (minimalForm net sheet) ≡ minimal (graph (petriNet net) sheet)
   unfolding minimalForm
-  form-graph = decode-encode N (minimal A) some-transition form-encodable
+  form-graph = decode-encode N (minimal A) (some-transition net sheet h) form-encodable
 
   pub form-accepted : Accepted net (minimalForm net sheet)
   form-accepted = accepted-exactly net (minimalForm net sheet) .1 (record {
-    net-accepted = accepts .net-accepted;
+    net-accepted = accepts net sheet h .net-accepted;
     words = unfold minimalForm in (encoded-passes N (minimal A) form-encodable);
-    schedule = subst (IsSchedule N) (sym form-graph) (minimal-schedule N A accepted-encodable (accepts .schedule));
+    schedule = subst (IsSchedule N) (sym form-graph) (minimal-schedule N A accepted-encodable (accepts net sheet h .schedule));
   })
 
-  pub form-lists : SameFirings net (minimalForm net sheet) sheet
-  unfolding SameLists
+  pub form-lists : SameLists (graph (petriNet net) (minimalForm net sheet)) (graph (petriNet net) sheet) 0 0
   form-lists = subst (λ (M : Automaton). SameLists M A 0 0) (sym form-graph) (minimal-equivalent (fire N) A accepted-closed accepted-fires .lists)
 
   -- ---- its length
@@ -105,7 +102,7 @@ module _ (net sheet : List ℕ) (h : Accepted net sheet) where
         encoded-entries N (minimal A),
         minimal-keys N (fire N) A accepted-closed accepted-fires,
         encoded-entries N A,
-        ap entryCount (encode-decode N sheet some-transition some-place (accepts .words)),
+        ap entryCount (encode-decode N sheet (some-transition net sheet h) some-place (accepts net sheet h .words)),
       )
 
   form-length : length (minimalForm net sheet) ≡ 2 + 2 * entryCount (minimalForm net sheet)
@@ -113,10 +110,10 @@ module _ (net sheet : List ℕ) (h : Accepted net sheet) where
   form-length = encoded-length N (minimal A)
 
   pub form-no-longer : length (minimalForm net sheet) ≤ length sheet
-  form-no-longer = omega (arith, form-length, form-entries, accepts .words .shape .whole)
+  form-no-longer = omega (arith, form-length, form-entries, accepts net sheet h .words .shape .whole)
 
   pub form-short : length (minimalForm net sheet) ≤ 8194
-  form-short = omega (arith, form-length, form-entries, accepts .words .shape .few-entries)
+  form-short = omega (arith, form-length, form-entries, accepts net sheet h .words .shape .few-entries)
 
   -- ---- its graph
 
@@ -125,8 +122,16 @@ module _ (net sheet : List ℕ) (h : Accepted net sheet) where
     number = number A;
     quotient = subst (λ (M : Automaton). Quotient A M (number A)) (sym form-graph) (quotient (fire N) A accepted-closed accepted-fires);
     breadthFirst = subst BreadthFirst (sym form-graph) (minimal-breadth-first (fire N) A accepted-closed accepted-fires);
-    encoded = ap (encode N) form-graph ∙ unfold minimalForm in refl;
   }
+
+  -- and no other words that pass 6 to 9 do
+  pub form-unique : (form : List ℕ) → WordsHold (petriNet net) form → QuotientForm (petriNet net) sheet form → form ≡ minimalForm net sheet
+  unfolding minimalForm
+  form-unique form w q =
+      let E = decoded-encodable N form (some-transition net sheet h) some-place w in
+      sym (encode-decode N form (some-transition net sheet h) some-place w)
+      ∙ ap (encode N) (quotient-unique (fire N) A accepted-closed accepted-fires (graph N form) (q .number) (q .quotient) (q .breadthFirst)
+      (E .confined) (E .closed .bounded) (unfold graph in refl))
 
   pub form-twice : minimalForm net (minimalForm net sheet) ≡ minimalForm net sheet
   unfolding minimalForm
@@ -151,15 +156,14 @@ module _ (net x y : List ℕ) (hx : Accepted net x) (hy : Accepted net y) where
       one-net one-start
 
   -- equal words say equal graphs
-  pub forms-equal : (minimalForm net x ≡ minimalForm net y) ↔ SameFirings net x y
-  unfolding SameLists
+  pub forms-equal : (minimalForm net x ≡ minimalForm net y) ↔ SameLists (graph (petriNet net) x) (graph (petriNet net) y) 0 0
   forms-equal = (
     λ e. automata .0 (sym (form-graph net x hx) ∙ ap G e ∙ form-graph net y hy),
     λ s. unfold minimalForm in (ap (encode (petriNet net)) (automata .1 s)),
   )
 
   -- no sheet that allows the same lists has fewer nodes
-  pub form-fewest : SameFirings net x y → Fewest (petriNet net) (minimalForm net x) y
+  pub form-fewest : SameLists (graph (petriNet net) x) (graph (petriNet net) y) 0 0 → Fewest (petriNet net) (minimalForm net x) y
   form-fewest s = record {
     fewest = rw nodes fewer;
     renumbered = λ e. (
@@ -173,7 +177,7 @@ module _ (net x y : List ℕ) (hx : Accepted net x) (hy : Accepted net y) where
       F = fire (petriNet net)
 
       same : Equivalent (G x) (G y) 0 0
-      same = record { labels = one-start; lists = unfold SameLists in s }
+      same = record { labels = one-start; lists = s }
 
       fewer : (minimal (G x)) .nodes ≤ nodeCount y
       fewer = unfold graph in (minimal-fewest F (G x) (G y) (accepted-closed net x hx) (accepted-closed net y hy) (accepted-fires net x hx) (accepted-fires net y hy) same)

@@ -13,19 +13,17 @@ use borrow.Author.Tests.{ltb-false}
 use Rattle.scan.proofs.Tests.{byTest}
 use Rattle.table.proofs.Table.{entry-some}
 use Rattle.sequential.specs.Petri.{PetriNet}
-use Rattle.sequential.specs.Words.{nodeCount, entryCount, entryKey, entryValue, entryWithKey, valueOf, arcKeys, keyLimit, graph}
-use Rattle.sequential.specs.Check.{isArc, arcNode, arcTransition}
-use Rattle.sequential.specs.Clauses.{WordsPass}
+use Rattle.sequential.specs.Words.{nodeCount, entryCount, entryKey, entryValue, entryWithKey, valueOf, arcKeys, keyLimit, graph, isArc, arcNode, arcTransition}
+use Rattle.sequential.specs.Known.{WordsHold}
 use Rattle.sequential.proofs.Words.{words-rise}
 use Rattle.sequential.proofs.Entries.{ArcEntry, arc-entry, entry-arc, entry-node, graph-closed, count-most, marking-at}
-use Rattle.minimal.specs.Encoding.{held, keys, encode}
-use Rattle.minimal.specs.Demands.{Encodable}
+use Rattle.minimal.specs.Encoding.{held, keys, encode, Encodable}
 use Rattle.minimal.proofs.Encoding.{ArcAt, CountAt, Says}
 use Rattle.minimal.proofs.Entries.{Entered, look-up-entered, same-words}
 use Rattle.minimal.proofs.Encoded.{encoded-nodes, encoded-entries, encoded-length, encoded-says, says-encoded, encoded-rising}
 use Rattle.minimal.proofs.Reading.{held-inside, value-there, graph-confined, graph-places}
 
-module _ (N : PetriNet) (sheet : List ℕ) (T : 0 < N .transitions) (P : 0 < N .places) (w : WordsPass N sheet) where
+module _ (N : PetriNet) (sheet : List ℕ) (T : 0 < N .transitions) (P : 0 < N .places) (w : WordsHold N sheet) where
   -- ---- an entry is said by the graph
 
   arc-said : (i : ℕ) → i < entryCount sheet → isArc N sheet i ≡ true → ArcAt N (graph N sheet) (entryKey sheet i) (entryValue sheet i)
@@ -58,7 +56,7 @@ module _ (N : PetriNet) (sheet : List ℕ) (T : 0 < N .transitions) (P : 0 < N .
       above = unfold arcKeys in h
 
       below : entryKey sheet i < nodeCount sheet * N .transitions + nodeCount sheet * N .places
-      below = let q : entryKey sheet i < nodeCount sheet * (N .transitions + N .places) = unfold keyLimit in (w .keys i l .low) in rw (mul-add (nodeCount sheet) (N .transitions) (N .places)) at q
+      below = let q : entryKey sheet i < nodeCount sheet * (N .transitions + N .places) = unfold keyLimit entryKey in (w .keys i l .low) in rw (mul-add (nodeCount sheet) (N .transitions) (N .places)) at q
 
       is-node : j / N .places < nodeCount sheet
       is-node = div-lt-iff-lt-mul P .1 (omega (arith, above, below))

@@ -11,8 +11,8 @@ use Rattle.automaton.specs.Equivalence.{Fires}
 use Rattle.automaton.specs.Quotient.{Quotient}
 use Rattle.automaton.proofs.Reach.{reachable-node, root-reachable, follow-reachable}
 use Rattle.automaton.proofs.Kept.{quotient-follow, quotient-fires}
-use Rattle.sequential.specs.Petri.{PetriNet, fire}
-use Rattle.sequential.specs.Schedule.{Enabled, Offers, Await, OneChoiceSet, IsSchedule}
+use Rattle.sequential.specs.Petri.{PetriNet, fire, Enabled}
+use Rattle.sequential.specs.Schedule.{Offers, Await, OneChoiceSet, IsSchedule}
 
 pub schedule-fires : (N : PetriNet) (A : Automaton) → IsSchedule N A → Fires (fire N) A
 schedule-fires N A s = record { fires = s .lands }

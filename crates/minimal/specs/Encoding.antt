@@ -1,11 +1,13 @@
--- Document 01, "The sheet as words", from the graph to the words: V, K, then K rising keys, then K values.
-use Prim.Native.Nat.{ℕ, zero, suc, _+_, _*_}
+-- The words of a graph: V, K, then K rising keys, then K values; and which graphs have words.
+use Prim.Native.Nat.{ℕ, zero, suc, _+_, _*_, _≤_, _<_}
+use mathlib.Core.Path.{_≡_}
 use mathlib.Core.List.{List, [], _∷_, _++_}
 use mathlib.Core.Option.{Option, none, some}
 use lib.ListN.{length, getD}
 use lib.Dec.{ltb}
 use Rattle.scan.specs.Scan.{when, found}
-use Rattle.automaton.specs.Automaton.{Automaton}
+use Rattle.automaton.specs.Automaton.{Automaton, Closed}
+use Rattle.automaton.specs.Quotient.{Confined}
 use Rattle.sequential.specs.Petri.{PetriNet}
 
 -- ---- what is found, in order
@@ -51,3 +53,14 @@ module _ (N : PetriNet) (A : Automaton) where
   -- "A sheet is V, K, then K keys, then K values."
   unfoldable pub encode : List ℕ
   encode = A .nodes ∷ length keys ∷ (keys ++ values)
+
+-- ---- what a schedule's words can say
+
+pub record Encodable (N : PetriNet) (A : Automaton) : Type 0 where
+  pub transitions : A .transitions ≡ N .transitions
+  pub few-nodes : A .nodes ≤ 128
+  pub few-entries : length (keys N A) ≤ 4096
+  pub closed : Closed A
+  pub confined : Confined A
+  pub places : (n : ℕ) → n < A .nodes → length (A .label n) ≡ N .places
+  pub most : (n p : ℕ) → n < A .nodes → p < N .places → held N A n p ≤ 1000000000

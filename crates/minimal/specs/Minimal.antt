@@ -1,12 +1,23 @@
--- Document 01, "Short form": "two nodes become one exactly when their counts are equal and they allow the same finite firing sequences";
--- "The merged nodes are numbered breadth first from the root, arcs by rising transition."
-use Prim.Native.Nat.{ℕ}
+-- The minimal form of a schedule: the words of the minimal automaton of the graph that its words say; and what holds of it.
+use Prim.Native.Nat.{ℕ, _≤_}
+use mathlib.Core.Path.{_≡_}
 use mathlib.Core.List.{List}
-use Rattle.automaton.specs.Quotient.{minimal}
-use Rattle.sequential.specs.Petri.{petriNet}
-use Rattle.sequential.specs.Words.{graph}
+use Rattle.automaton.specs.BreadthFirst.{BreadthFirst}
+use Rattle.automaton.specs.Quotient.{minimal, Quotient, Renumbering}
+use Rattle.sequential.specs.Petri.{PetriNet, petriNet}
+use Rattle.sequential.specs.Words.{nodeCount, graph}
 use Rattle.minimal.specs.Encoding.{encode}
 
--- the words of the minimal automaton of the graph that the sheet's words say
 unfoldable pub minimalForm : List ℕ → List ℕ → List ℕ
 minimalForm net sheet = encode (petriNet net) (minimal (graph (petriNet net) sheet))
+
+-- it says the quotient, numbered breadth first
+pub record QuotientForm (N : PetriNet) (sheet form : List ℕ) : Type 0 where
+  pub number : ℕ → ℕ
+  pub quotient : Quotient (graph N sheet) (graph N form) number
+  pub breadthFirst : BreadthFirst (graph N form)
+
+-- another schedule has no fewer nodes; with as many it is this one up to the numbers of its nodes
+pub record Fewest (N : PetriNet) (form other : List ℕ) : Type 0 where
+  pub fewest : nodeCount form ≤ nodeCount other
+  pub renumbered : nodeCount other ≡ nodeCount form → (f : ℕ → ℕ) × Renumbering (graph N other) (graph N form) f

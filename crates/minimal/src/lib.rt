@@ -1,5 +1,5 @@
 // The minimal form of a schedule (document 01: short form).
-use net::Refusal;
+use refusal::Refusal;
 
 // What the minimal form's call answers: the length in words of what it wrote, or a refusal.
 pub enum FormAnswer {

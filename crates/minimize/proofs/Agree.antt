@@ -23,7 +23,7 @@ use Rattle.automaton.specs.Equivalence.{equalLabels, equalArcs, agree, sameIn}
 use Rattle.automaton.proofs.Same.{equalLabels-in, equalLabels-out}
 use Rattle.sequential.specs.Petri.{PetriNet}
 use Rattle.sequential.specs.Words.{nodeCount, entryCount, entryKey, entryValue, isNode, entryWithKey, valueOf, arcKeys, arcKey, countKey, arcEntry, arc, count, graph}
-use Rattle.sequential.specs.Clauses.{WordsPass}
+use Rattle.sequential.specs.Known.{WordsHold}
 use Rattle.sequential.proofs.Words.{words-rise, words-fit}
 use Rattle.sequential.proofs.Entries.{marking-node, row-lt}
 use Rattle.minimize.specs.Agree.{hasKey, keyValue, keysAgree, rowStart, RowStarts}
@@ -141,7 +141,7 @@ labels-all f g k =
     (sym (tabulate-at f 0 k p l) ∙ ap (λ (x : List ℕ). getD x p 0) (equalLabels-out (tabulate f k) (tabulate g k) e) ∙ tabulate-at g 0 k p l)))
     (λ e. equalLabels-in (tabulate f k) (tabulate g k) (tabulate-ext f g k (λ p l. eqb-true (f p) (g p) (all-out (λ p. eqb (f p) (g p)) k e p l))))
 
-module _ (N : PetriNet) (sheet : List ℕ) (w : WordsPass N sheet) where
+module _ (N : PetriNet) (sheet : List ℕ) (w : WordsHold N sheet) where
   arc-value : (n : ℕ) → n < nodeCount sheet → (t : ℕ) → t < N .transitions → arc N sheet n t ≡ keyValue sheet (n * N .transitions + t)
   unfolding arc arcEntry isNode arcKey keyValue
   arc-value n l t m = rw (lt-ltb n (nodeCount sheet) l, lt-ltb t (N .transitions) m)

@@ -29,7 +29,7 @@ use Rattle.automaton.proofs.Quotient.{minimal-nodes, minimal-arc, minimal-label
 use Rattle.sequential.specs.Petri.{PetriNet, petriNet}
 use Rattle.sequential.specs.Words.{nodeCount, entryCount, entryKey, arcKeys, arc, graph}
 use Rattle.sequential.specs.Words as words-of
-use Rattle.sequential.specs.Clauses.{WordsPass}
+use Rattle.sequential.specs.Known.{WordsHold}
 use Rattle.sequential.proofs.Words.{words-rise, words-fit}
 use Rattle.sequential.proofs.Entries.{graph-closed, marking-at}
 use Rattle.graph.specs.Rows.{valueTold}
@@ -68,7 +68,7 @@ module _ (sheet numbers : List ℕ) (counts values : Bool) (first : ℕ) (told :
 
 -- ---- a node's rows
 
-module _ (N : PetriNet) (sheet : List ℕ) (w : WordsPass N sheet) (n : ℕ) (l : n < nodeCount sheet) where
+module _ (N : PetriNet) (sheet : List ℕ) (w : WordsHold N sheet) (n : ℕ) (l : n < nodeCount sheet) where
   node-arc : (t : ℕ) → t < 32 → arc N sheet n t ≡ when (ltb 0 (getD (toldRow N sheet false n) t 0)) (valueTold sheet (getD (toldRow N sheet false n) t 0))
   unfolding toldRow widthOf
   node-arc t h = arc-of-told N sheet w n l t h
@@ -108,7 +108,7 @@ module _ (net sheet reps numbers : List ℕ) (rows : ℕ) (r : Readable net shee
   abbrev node : ℕ → ℕ
   node i = getD reps i 0
 
-  W : WordsPass N sheet
+  W : WordsHold N sheet
   W = words net sheet r
 
   closed : Closed A

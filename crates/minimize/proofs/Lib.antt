@@ -8,4 +8,3 @@ pub mod Placed
 pub mod Gathered
 pub mod Cells
 pub mod Parts
-pub mod Answers

@@ -1,4 +1,3 @@
-pub mod Written
 pub mod Tables
 pub mod Agree
 pub mod Leaders

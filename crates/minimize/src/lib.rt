@@ -1,14 +1,11 @@
-// The call that writes the minimal form of a schedule (document 01: short form).
+// The call that writes the minimal form of a schedule.
 mod classes;
 mod numbering;
 mod writer;
 
-ghost use Rattle.minimal.specs.Form.{FormDone};
-ghost use Rattle.minimize.specs.Written.{FormWritten};
+ghost use Rattle.minimal.specs.Form.{FormWritten, FormDone};
 use minimal::FormAnswer;
-use net::Position;
-use net::Refusal;
-use net::Verdict;
+use refusal::Verdict;
 use schedule::Walker;
 
 // The minimal form without scratch.
@@ -30,11 +27,9 @@ pub fn form_into(net: &[u32], sheet: &[u32], out: &mut [u32]) -> FormAnswer
 pub fn minimal_form(net: &[u32], sheet: &[u32], out: &mut [u32], scratch: &mut [u32]) -> FormAnswer
     ensures { λ r. ⌜ FormDone (now (net .entry)) (now (sheet .entry)) (now (out .entry)) (now (scratch .entry)) r (now (out .exit)) (now (scratch .exit)) ⌝ }
 {
-    if scratch.len() < Walker::SCRATCH {
-        return FormAnswer::Refused(Refusal {
-            number: Refusal::SMALL_SCRATCH,
-            at: Position::Nothing,
-        });
+    let found = call::scratch_fault(Walker::SCRATCH, scratch.len());
+    if let Verdict::Refused(r) = found {
+        return FormAnswer::Refused(r);
     }
     let answer = form_into(net, sheet, out);
     scan::clear_front(scratch, Walker::SCRATCH);

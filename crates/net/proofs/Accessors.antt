@@ -12,7 +12,7 @@ use Rattle.net.specs.Net.{placeCount, transitionCount, entryCount, weigh
 use Rattle.net.specs.Check.{shapeFault}
 use Rattle.net.specs.Accessors.{weightFound, weightReply, rowReply, shaped, takenReply, putReply, startReply, takenRowReply, putRowReply, startRowReply}
 use Rattle.net.specs.Demands.{AccessorsRight}
-use Rattle.net.specs.declared.Refusal.{Refusal}
+use Rattle.refusal.specs.declared.Refusal.{Refusal}
 use Rattle.net.proofs.Shape.{shape-in}
 use Rattle.net.proofs.Entries.{EntriesPass, entries-rise, entries-fit}
 use Rattle.net.proofs.Rows.{row-right, row-guarded}

@@ -12,14 +12,17 @@ use borrow.Author.Tests.{leb-true, leb-false, le-ltb, ne-eqb}
 use Rattle.scan.specs.Scan.{orElse, when}
 use Rattle.scan.proofs.Tests.{byTest}
 use Rattle.scan.proofs.First.{orElse-hit}
-use Rattle.net.specs.Refusal.{refusal}
+use Rattle.refusal.specs.Refusal.{refusal}
 use Rattle.net.specs.Net.{placeCount, transitionCount, entryCount}
-use Rattle.net.specs.Check.{sizesPass, shapeFault, entryFault, entriesFault, netFault, verdictOf, netReply}
-use Rattle.net.specs.declared.Position.the-variants.{Nothing}
-use Rattle.net.specs.declared.Refusal.{Refusal}
-use Rattle.net.specs.declared.Verdict.{Verdict}
-use Rattle.net.specs.declared.Verdict.the-variants.{Refused}
+use Rattle.refusal.specs.Finding.{foundBy, finding}
+use Rattle.net.specs.Check.{sizesPass, shapeFault, entriesFault, netReply}
+use Rattle.refusal.specs.Verdict.{verdictOf}
+use Rattle.refusal.specs.declared.Position.the-variants.{Nothing}
+use Rattle.refusal.specs.declared.Refusal.{Refusal}
+use Rattle.refusal.specs.declared.Verdict.{Verdict}
+use Rattle.refusal.specs.declared.Verdict.the-variants.{Refused}
 use Rattle.net.proofs.Shape.{sizes-out, limit-high}
+use Rattle.net.proofs.Checks.{net-fault}
 
 -- what more words than fit are refused by: sizes, or else the length
 unfoldable pub overlongFault : ℕ → ℕ → ℕ → Refusal
@@ -33,14 +36,14 @@ module _ (net : List ℕ) (l : 4164 ≤ length net) where
       ne-eqb (length net) (3 + 2 * entryCount net) (λ e. omega (arith, e, m, s .few-entries))
 
   shape-overlong : shapeFault net ≡ some (overlongFault (placeCount net) (transitionCount net) (entryCount net))
-  unfolding shapeFault orElse when overlongFault
+  unfolding shapeFault finding foundBy orElse when overlongFault
   shape-overlong =
       let a : ltb (length net) 3 ≡ false = le-ltb (length net) 3 (omega arith) in
       byTest (sizesPass (placeCount net) (transitionCount net) (entryCount net)) (λ h. rw (a, h, not-whole h)) (λ h. rw (a, h))
 
   pub overlong : netReply net ≡ Refused (overlongFault (placeCount net) (transitionCount net) (entryCount net))
-  unfolding netReply netFault entriesFault
-  overlong = ap verdictOf (orElse-hit _ _ _ (orElse-hit _ _ _ shape-overlong))
+  unfolding netReply entriesFault
+  overlong = ap verdictOf (net-fault net ∙ orElse-hit _ _ _ (orElse-hit _ _ _ shape-overlong))
 
 module _ (n : ℕ) (l : 4164 ≤ n) (net : List ℕ) where
   cut-overlong : n < length net → netReply (take n net) ≡ netReply net

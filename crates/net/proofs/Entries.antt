@@ -14,22 +14,12 @@ use Rattle.scan.proofs.First.{orElse-left, orElse-right, when-none, first-all}
 use Rattle.table.specs.Table.{Rising, entryOf}
 use Rattle.table.proofs.Table.{entry-some}
 use Rattle.net.specs.Net.{entryCount, entryKey, entryWeight, keyLimit, weightOf, weightAt}
-use Rattle.net.specs.Check.{keyFails, weightFails, entryFault, entriesFault}
-use Rattle.net.specs.Demands.{KeyPasses, WeightPasses, EntryPasses, ShapePasses}
-use Rattle.net.proofs.Shape.{shape-out}
-
-pub key-out : (net : List ℕ) (i : ℕ) → keyFails net i ≡ false → KeyPasses net i
-unfolding keyFails
-key-out net i h = record {
-  low = leb-false _ _ (or-none-left (leb (keyLimit net) (entryKey net i)) _ h);
-  above = λ l. leb-false _ _ (rw (lt-ltb 0 i l) at (or-none-right (leb (keyLimit net) (entryKey net i)) _ h));
-}
-
-pub key-in : (net : List ℕ) (i : ℕ) → KeyPasses net i → keyFails net i ≡ false
-unfolding keyFails
-key-in net i k =
-    rw (lt-leb (keyLimit net) (entryKey net i) (k .low))
-    (byTest (ltb 0 i) (λ e. rw (e, lt-leb (entryKey net i) (entryKey net (i - 1)) (k .above (ltb-true 0 i e)))) (λ e. rw e))
+use Rattle.table.specs.Table.{KeyPasses}
+use Rattle.table.proofs.Keys.{key-passes, keys-rise}
+use Rattle.refusal.specs.Finding.{foundAt, lineFinds}
+use Rattle.net.specs.Checks.{WeightPasses}
+use Rattle.net.specs.Check.{weightFails, entryFault, entriesFault}
+use Rattle.net.proofs.Shape.{ShapePasses, shape-out}
 
 pub weight-out : (net : List ℕ) (i : ℕ) → weightFails (entryWeight net i) ≡ false → WeightPasses net i
 unfolding weightFails
@@ -44,13 +34,16 @@ weight-in net i w =
     let a = w .some in
     rw (ne-eqb (entryWeight net i) 0 (λ e. omega arith), le-ltb 1000000000 (entryWeight net i) (w .most))
 
-pub entry-out : (net : List ℕ) (i : ℕ) → entryFault net i ≡ none → EntryPasses net i
-unfolding entryFault
-entry-out net i h = record { key = key-out net i (when-none _ _ (orElse-left _ _ h)); weight = weight-out net i (when-none _ _ (orElse-right _ _ h)) }
+pub record EntryPasses (net : List ℕ) (i : ℕ) : Type 0 where
+  pub key : KeyPasses net 3 (keyLimit net) i
+  pub weight : WeightPasses net i
 
-pub entry-in : (net : List ℕ) (i : ℕ) → EntryPasses net i → entryFault net i ≡ none
-unfolding entryFault orElse when
-entry-in net i e = rw (key-in net i (e .key), weight-in net i (e .weight))
+pub entry-out : (net : List ℕ) (i : ℕ) → entryFault net i ≡ none → EntryPasses net i
+unfolding entryFault lineFinds foundAt
+entry-out net i h = record {
+  key = key-passes net 3 (keyLimit net) i .0 (when-none _ _ (orElse-left _ _ h));
+  weight = weight-out net i (when-none _ _ (orElse-right _ _ h));
+}
 
 -- a net that passes 1 to 4
 pub record EntriesPass (net : List ℕ) : Type 0 where
@@ -62,10 +55,7 @@ unfolding entriesFault
 entries-out net h = record { shape = shape-out net (orElse-left _ _ h); each = λ i l. entry-out net i (first-all _ _ (orElse-right _ _ h) i l) }
 
 pub entries-rise : (net : List ℕ) → EntriesPass net → Rising net 3 (entryCount net)
-unfolding entryKey
-entries-rise net e = record {
-  above = λ i l. let z : i + 1 - 1 ≡ i = omega arith in rw z at (e .each (i + 1) l .key .above (omega arith));
-}
+entries-rise net e = keys-rise net 3 (keyLimit net) (entryCount net) (λ i l. e .each i l .key)
 
 pub entries-fit : (net : List ℕ) → EntriesPass net → 3 + entryCount net ≤ length net
 entries-fit net e = omega (arith, e .shape .whole)

@@ -9,10 +9,13 @@ use lib.Dec.{ltb}
 use borrow.Author.Tests.{le-ltb}
 use Rattle.net.specs.Net.{placeCount, transitionCount, weightAt, takenKey, putKey, startKey, isPlace, isTransition, taken, put, start}
 use Rattle.net.specs.Check.{netReply}
-use Rattle.net.specs.Demands.{SizesPass, IsNet, HasSource}
-use Rattle.net.specs.declared.Verdict.the-variants.{Accepted}
+use Rattle.refusal.specs.Checks.{Passes, AllPass}
+use Rattle.net.specs.Checks.{SizesPass, IsNet, HasSource}
+use Rattle.refusal.specs.declared.Verdict.the-variants.{Accepted}
+use Rattle.net.specs.Demands.{AccessorsRight}
+use Rattle.net.proofs.Accessors.{accessors-right}
 use Rattle.net.proofs.Entries.{EntriesPass, weight-small}
-use Rattle.net.proofs.Demands.{accepted-exactly}
+use Rattle.net.proofs.Checks.{net-judged, net-entries}
 
 -- ---- outside the net
 
@@ -44,17 +47,20 @@ guarded true w h = h
 guarded false w h = omega arith
 
 module _ (net : List ℕ) (accepted : netReply net ≡ Accepted) where
-  is-net : IsNet net
-  is-net = accepted-exactly net .0 accepted
+  pub is-net : IsNet net
+  is-net = net-judged net .accepts .0 accepted
 
   passes : EntriesPass net
-  passes = record { shape = is-net .shape; each = is-net .entries }
+  passes = net-entries net is-net
+
+  pub accessors : AccessorsRight net
+  accessors = accessors-right net passes
 
   pub sizes : SizesPass net
-  sizes = is-net .shape .sizes
+  sizes = passes .shape .sizes
 
   pub some-source : HasSource net
-  some-source = is-net .source
+  some-source = let (a, (b, (c, (d, (e, u))))) = is-net in e
 
   pub taken-most : (t p : ℕ) → taken net t p ≤ 1000000000
   unfolding taken

@@ -1,9 +1,9 @@
-pub mod Answer
 pub mod Shape
 pub mod Entries
 pub mod Source
 pub mod Rows
 pub mod Accessors
+pub mod Checks
 pub mod Demands
 pub mod Examples
 pub mod Laws

@@ -12,8 +12,9 @@ use Rattle.scan.specs.Scan.{orElse, when}
 use Rattle.scan.proofs.Tests.{and-left, and-right, and-both}
 use Rattle.scan.proofs.First.{orElse-left, orElse-right, when-none}
 use Rattle.net.specs.Net.{placeCount, transitionCount, entryCount, keyLimit}
+use Rattle.refusal.specs.Finding.{foundBy, finding}
+use Rattle.net.specs.Checks.{SizesPass}
 use Rattle.net.specs.Check.{sizesPass, shapeFault}
-use Rattle.net.specs.Demands.{SizesPass, ShapePasses}
 
 pub sizes-out : (net : List ℕ) → sizesPass (placeCount net) (transitionCount net) (entryCount net) ≡ true → SizesPass net
 unfolding sizesPass keyLimit
@@ -35,15 +36,19 @@ sizes-in net s =
     let e = le-leb _ _ (s .few-entries) in
     search and-both depth 12
 
+pub record ShapePasses (net : List ℕ) : Type 0 where
+  pub sizes : SizesPass net
+  pub whole : length net ≡ 3 + 2 * entryCount net
+
 pub shape-out : (net : List ℕ) → shapeFault net ≡ none → ShapePasses net
-unfolding shapeFault
+unfolding shapeFault finding foundBy
 shape-out net h = record {
   sizes = sizes-out net (not-false _ (when-none _ _ (orElse-left _ _ (orElse-right _ _ h))));
   whole = eqb-true _ _ (not-false _ (when-none _ _ (orElse-right _ _ (orElse-right _ _ h))));
 }
 
 pub shape-in : (net : List ℕ) → ShapePasses net → shapeFault net ≡ none
-unfolding shapeFault orElse when
+unfolding shapeFault finding foundBy orElse when
 shape-in net s =
     rw (le-ltb (length net) 3 (omega (arith, s .whole)), sizes-in net (s .sizes), eq-eqb (length net) (3 + 2 * entryCount net) (s .whole))
 

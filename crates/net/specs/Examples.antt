@@ -1,11 +1,11 @@
 -- Worked nets with the answers that document 01 asks for: the nets of its list, and the boundaries.
 use Prim.Native.Nat.{ℕ}
 use mathlib.Core.List.{List, [], _∷_}
-use Rattle.net.specs.Refusal.{refusal}
+use Rattle.refusal.specs.Refusal.{refusal}
 use Rattle.net.specs.Check.{netReply}
-use Rattle.net.specs.declared.Position.the-variants.{Nothing, Entry}
-use Rattle.net.specs.declared.Verdict.{Verdict}
-use Rattle.net.specs.declared.Verdict.the-variants.{Accepted, Refused}
+use Rattle.refusal.specs.declared.Position.the-variants.{Nothing, Entry}
+use Rattle.refusal.specs.declared.Verdict.{Verdict}
+use Rattle.refusal.specs.declared.Verdict.the-variants.{Accepted, Refused}
 
 pub record Example : Type 0 where
   pub net : List ℕ

@@ -1,5 +1,5 @@
-pub mod Refusal
 pub mod Net
+pub mod Checks
 pub mod Check
 pub mod Accessors
 pub mod Demands

@@ -40,6 +40,11 @@ module _ {A : Type 0} where
   orElse-cases none b x h = inr (refl, h)
   orElse-cases (some a) b x h = inl h
 
+  pub orElse-assoc : (a b c : Option A) → orElse (orElse a b) c ≡ orElse a (orElse b c)
+  unfolding orElse
+  orElse-assoc none b c = refl
+  orElse-assoc (some x) b c = refl
+
   -- ---- a finding by a test
 
   pub when-hit : (b : Bool) (a : A) → b ≡ true → when b a ≡ some a
@@ -75,6 +80,11 @@ module _ {A : Type 0} where
   pub first-none : (f : ℕ → Option A) → first f 0 ≡ none
   unfolding first
   first-none f = refl
+
+  -- a scan of one index
+  pub first-one : (f : ℕ → Option A) → first f 1 ≡ f 0
+  unfolding first orElse
+  first-one f = refl
 
   -- a turn that finds nothing
   pub first-more : (f : ℕ → Option A) (i : ℕ) → first f i ≡ none → f i ≡ none → first f (i + 1) ≡ none

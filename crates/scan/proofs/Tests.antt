@@ -3,9 +3,9 @@
 use Prim.Native.Nat.{ℕ, suc, _<_}
 use native.Mathlib.Nat.{eq-or-lt-of-le, le-of-suc-le-suc}
 use native.Mathlib.Omega.{arith}
-use mathlib.Core.Path.{_≡_, refl, sym}
-use mathlib.Core.Logic.{_⊎_, inl, inr}
-use mathlib.Core.Bool.{Bool, true, false, _&&_, _||_}
+use mathlib.Core.Path.{_≡_, refl, sym, ap}
+use mathlib.Core.Logic.{_⊎_, _↔_, inl, inr}
+use mathlib.Core.Bool.{Bool, true, false, not, _&&_, _||_}
 
 pub byTest {ℓ} : {C : Type ℓ} (b : Bool) → (b ≡ true → C) → (b ≡ false → C) → C
 byTest true f g = f refl
@@ -26,6 +26,16 @@ pub iff→eq : (a b : Bool) → (a ≡ true → b ≡ true) → (b ≡ true → 
 iff→eq true b f g = sym (f refl)
 iff→eq false true f g = g refl
 iff→eq false false f g = refl
+
+-- a test that is asked the other way round
+pub decides-not : {P : Type 0} (b : Bool) → (b ≡ true → P) → (P → b ≡ true) → (not b ≡ false) ↔ P
+decides-not true f g = (λ e. f refl, λ p. refl)
+decides-not false f g = (λ e. true-false true refl e, λ p. ap not (g p))
+
+-- what is asked only where a holds
+pub decides-unless : {A B : Type 0} (a b : Bool) → (a ≡ true) ↔ A → (A → (b ≡ true) ↔ B) → ((a && not b) ≡ false) ↔ (A → B)
+decides-unless true b f g = let x = f .0 refl in let (h, k) = decides-not b (g x .0) (g x .1) in (λ e y. h e, λ h′. k (h′ x))
+decides-unless false b f g = (λ e x. true-false false (f .1 x) refl, λ h. refl)
 
 pub and-left : (a b : Bool) → (a && b) ≡ true → a ≡ true
 and-left true b e = refl

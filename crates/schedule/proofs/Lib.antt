@@ -1,8 +1,6 @@
 pub mod Walks
-pub mod RunEnds
-pub mod Scratch
 pub mod BoundRows
 pub mod Walkers
+pub mod Following
 pub mod Folded
-pub mod Replies
-pub mod CallDemands
+pub mod Done

@@ -4,7 +4,7 @@ use native.Mathlib.Omega.{arith}
 use native.Mathlib.Numerals.{add-one}
 use native.Mathlib.Decide.{decLt}
 use mathlib.Core.Path.{_≡_, refl, sym, ap, _∙_}
-use mathlib.Core.List.{List}
+use mathlib.Core.List.{List, []}
 use mathlib.Core.Bool.{Bool, true, false, cond, not, _&&_, and-false}
 use mathlib.Core.Option.{Option, none, some}
 use lib.ListN.{getD}
@@ -19,22 +19,30 @@ use Rattle.table.specs.declared.Found.the-variants.{At, Nothing as NotFound}
 use Rattle.table.proofs.Table.{entry-some}
 use Rattle.table.proofs.Bisection.{look-up}
 use Rattle.net.specs.Net.{placeCount}
-use Rattle.net.specs.Refusal.{refusal}
-use Rattle.net.specs.declared.Position.the-variants.{Nothing, Place, Record}
-use Rattle.net.specs.declared.Refusal.{Refusal}
-use Rattle.net.specs.declared.Verdict.{Verdict}
-use Rattle.net.specs.declared.Verdict.the-variants.{Accepted, Refused}
+use Rattle.refusal.specs.Refusal.{refusal}
+use Rattle.refusal.specs.declared.Position.the-variants.{Nothing, Place, Record}
+use Rattle.refusal.specs.declared.Refusal.{Refusal}
+use Rattle.refusal.specs.declared.Verdict.{Verdict}
+use Rattle.refusal.specs.declared.Verdict.the-variants.{Accepted, Refused}
 use Rattle.net.proofs.Laws.{put-no-place, sizes}
 use Rattle.sequential.specs.Petri.{PetriNet, petriNet, fire, firedCount}
 use Rattle.sequential.specs.Words.{nodeCount, entryCount, entryValue, isNode, entryWithKey, arcKey, arcEntry, arc, count, graph}
 use Rattle.sequential.specs.Check.{scheduleReply}
-use Rattle.sequential.specs.Clauses.{WordsPass}
+use Rattle.sequential.specs.Known.{WordsHold}
 use Rattle.graph.specs.Readable.{Readable}
-use Rattle.schedule.specs.Calls.{walker, countFault, walkerFault, stepFault, follows, nextWalker, nodeAfter, firingFault}
+use Rattle.refusal.specs.Verdict.{verdictOf}
+use Rattle.refusal.proofs.Verdicts.{answer-some, then-next}
+use Rattle.call.specs.Call.{WordsDone}
+use Rattle.call.proofs.Laws.{refused-words, answered-none}
+use Rattle.schedule.specs.Calls.{fireCore}
+use Rattle.schedule.specs.Walker.{walker}
+use Rattle.schedule.specs.Firing.{countFault, walkerFault, stepFault, follows, nodeAfter, firingFault}
 use Rattle.schedule.specs.declared.Walker.{Walker}
 use Rattle.sequential.proofs.Words.{words-in, words-rise, words-fit}
 use Rattle.sequential.proofs.Entries.{graph-closed, marking-at}
-use Rattle.sequential.proofs.Demands.{accepted-exactly}
+use Rattle.sequential.proofs.Accepted.{accepts}
+use Rattle.schedule.proofs.Walkers.{count-past, step-fault}
+use Rattle.refusal.specs.Finding.{foundAt, foundBy, lineFinds, finding}
 
 pub refused-accepted {ℓ} : {C : Type ℓ} (v : Verdict) (r : Refusal) → v ≡ Refused r → v ≡ Accepted → C
 refused-accepted v r p q = let z : _≡_ {A = ℕ} 0 1 = cc in absurd (omega arith)
@@ -54,7 +62,7 @@ module _ (N : PetriNet) (sheet : List ℕ) (n t : ℕ) where
   unfolding arcEntry
   entry-outside l = byTest (isNode sheet n) (λ e. rw (e, le-ltb t (N .transitions) l)) (λ e. rw e)
 
-  pub entry-looked-up : WordsPass N sheet → n < nodeCount sheet → t < N .transitions
+  pub entry-looked-up : WordsHold N sheet → n < nodeCount sheet → t < N .transitions
       → lookUp sheet 2 (entryCount sheet) (n * N .transitions + t) ≡ foundOf (arcEntry N sheet n t)
   unfolding arcEntry isNode entryWithKey arcKey
   entry-looked-up w l m =
@@ -77,7 +85,7 @@ module _ (N : PetriNet) (sheet : List ℕ) (n t : ℕ) where
   unfolding arc
   entry-stays e = rw e
 
-  pub target-node : 0 < N .transitions → WordsPass N sheet → n < nodeCount sheet → (i : ℕ) → arcEntry N sheet n t ≡ some i → entryValue sheet i < nodeCount sheet
+  pub target-node : 0 < N .transitions → WordsHold N sheet → n < nodeCount sheet → (i : ℕ) → arcEntry N sheet n t ≡ some i → entryValue sheet i < nodeCount sheet
   unfolding graph
   target-node T w l i e = graph-closed N sheet T w .lands n t (entryValue sheet i) l (entry-leads i e)
 
@@ -85,54 +93,47 @@ module _ (N : PetriNet) (sheet : List ℕ) (n t : ℕ) where
 
 module _ (N : PetriNet) (sheet : List ℕ) (w : Walker) where
   pub no-such-node : nodeCount sheet ≤ w .node → walkerFault N sheet w ≡ some (refusal 18 Nothing)
-  unfolding walkerFault
+  unfolding walkerFault countFault finding foundBy lineFinds foundAt
   no-such-node l = orElse-hit _ _ _ (when-hit _ _ (le-leb _ _ l))
 
   pub count-right : (p : ℕ) → getD (w .counts) p 0 ≡ count N sheet (w .node) p → countFault N sheet w p ≡ none
-  unfolding countFault
+  unfolding countFault lineFinds foundAt
   count-right p e = when-miss _ _ (ap not (eq-eqb _ _ e))
 
   pub count-astray : (p : ℕ) → (getD (w .counts) p 0 ≡ count N sheet (w .node) p → ⊥) → countFault N sheet w p ≡ some (refusal 19 (Place p))
-  unfolding countFault
+  unfolding countFault lineFinds foundAt
   count-astray p e = when-hit _ _ (ap not (ne-eqb _ _ e))
 
   -- the scan of the counts is left at p, or runs out
   pub astray-at : w .node < nodeCount sheet → (p : ℕ) → first (countFault N sheet w) p ≡ none → p < 32 → (getD (w .counts) p 0 ≡ count N sheet (w .node) p → ⊥)
       → walkerFault N sheet w ≡ some (refusal 19 (Place p))
-  unfolding walkerFault
+  unfolding walkerFault countFault finding foundBy lineFinds foundAt
   astray-at l p h m e = orElse-next _ _ (when-miss _ _ (lt-leb _ _ l)) ∙ first-hit _ p _ h (count-astray p e) 32 m
 
   pub walker-right : w .node < nodeCount sheet → first (countFault N sheet w) 32 ≡ none → walkerFault N sheet w ≡ none
-  unfolding walkerFault
+  unfolding walkerFault countFault finding foundBy lineFinds foundAt
   walker-right l h = orElse-next _ _ (when-miss _ _ (lt-leb _ _ l)) ∙ h
 
   -- where neither refuses, the walker stands at a node and has its counts
   module _ (h : walkerFault N sheet w ≡ none) where
     pub walker-node : w .node < nodeCount sheet
-    unfolding walkerFault
+    unfolding walkerFault countFault finding foundBy lineFinds foundAt
     walker-node = leb-false _ _ (when-none _ _ (orElse-left _ _ h))
 
     pub walker-counts : (p : ℕ) → p < 32 → getD (w .counts) p 0 ≡ count N sheet (w .node) p
-    unfolding walkerFault countFault
+    unfolding walkerFault countFault finding foundBy lineFinds foundAt
     walker-counts p l = eqb-true _ _ (not-false _ (when-none _ _ (first-all _ _ (orElse-right _ _ h) p l)))
 
 -- ---- a single firing
 
-pub next-refused : (v : Verdict) (r : Refusal) (net sheet : List ℕ) (w : Walker) (t : ℕ) → v ≡ Refused r → w ≡ nextWalker v net sheet w t
-next-refused v r net sheet w t h = rw h
-
 module _ (N : PetriNet) (sheet : List ℕ) (w : Walker) (t : ℕ) (h : walkerFault N sheet w ≡ none) where
   pub step-refused : arcEntry N sheet (w .node) t ≡ none → stepFault N sheet w t ≡ some (refusal 20 Nothing)
-  unfolding stepFault found
-  step-refused e = orElse-next _ _ h ∙ when-hit _ _ (rw (entry-stays N sheet (w .node) t e))
+  unfolding found
+  step-refused e = step-fault N sheet w t ∙ orElse-next _ _ h ∙ when-hit _ _ (rw (entry-stays N sheet (w .node) t e))
 
-  pub step-passes : (i : ℕ) → arcEntry N sheet (w .node) t ≡ some i → stepFault N sheet w t ≡ none
-  unfolding stepFault found
-  step-passes i e = orElse-next _ _ h ∙ when-miss _ _ (rw (entry-leads N sheet (w .node) t i e))
-
-count-outside : (N : PetriNet) (sheet : List ℕ) (n p : ℕ) → N .places ≤ p → count N sheet n p ≡ 0
-unfolding count
-count-outside N sheet n p l = rw (le-ltb p (N .places) l, and-false (isNode sheet n))
+  pub step-goes : (i : ℕ) → arcEntry N sheet (w .node) t ≡ some i → stepFault N sheet w t ≡ none
+  unfolding found
+  step-goes i e = step-fault N sheet w t ∙ orElse-next _ _ h ∙ when-miss _ _ (rw (entry-leads N sheet (w .node) t i e))
 
 module _ (net sheet : List ℕ) (w : Walker) (t : ℕ) (a : scheduleReply net sheet ≡ Accepted) (h : walkerFault (petriNet net) sheet w ≡ none) where
   -- the target's counts are what firing gives
@@ -145,12 +146,12 @@ module _ (net sheet : List ℕ) (w : Walker) (t : ℕ) (a : scheduleReply net sh
       let c = walker-counts N sheet w h p l in
       elim (decLt p (placeCount net)) [
         | yes q ↦
-            let s = accepted-exactly net sheet .0 a .schedule .lands (w .node) t m n e in
+            let s = accepts net sheet a .schedule .lands (w .node) t m n e in
             sym (marking-at N sheet m p k q) ∙ ap (λ (x : List ℕ). getD x p 0) s ∙ tabulate-at _ 0 (placeCount net) p q
             ∙ rw (marking-at N sheet (w .node) p n q, c)
         | no q ↦
-            let z = count-outside N sheet m p (omega arith) in
-            let y = count-outside N sheet (w .node) p (omega arith) in
+            let z = count-past N sheet m p (omega arith) in
+            let y = count-past N sheet (w .node) p (omega arith) in
             let x = put-no-place net t p (omega arith) in
             rw (z, x, c, y) (omega arith)
       ]
@@ -160,9 +161,31 @@ module _ (net sheet : List ℕ) (w : Walker) (t : ℕ) (a : scheduleReply net sh
   unfolding follows
   step-lands i e =
       let N = petriNet net in
-      let b = accepted-exactly net sheet .0 a in
+      let b = accepts net sheet a in
       let k = target-node N sheet (w .node) t (sizes net (b .net-accepted) .some-transition) (b .words) (walker-node N sheet w h) i e in
       rw (entry-leads N sheet (w .node) t i e) (ap (walker (entryValue sheet i)) (tabulate-ext _ _ 32 (counts-fired (entryValue sheet i) k (entry-leads N sheet (w .node) t i e))))
+
+-- ---- a single firing without scratch
+
+pub refused-fired : {w : Walker} {v : Verdict} {r : Refusal} → v ≡ Refused r → _≡_ {A = Verdict × Walker} (v, w) (Refused r, w)
+refused-fired {w} e = ap (λ (x : Verdict). (x, w)) e
+
+module _ (net sheet : List ℕ) (w : Walker) (t : ℕ) (a : scheduleReply net sheet ≡ Accepted) where
+  step-refuses : (v : Verdict) (r : Refusal) → v ≡ Refused r → stepFault (petriNet net) sheet w t ≡ some r → WordsDone (fireCore net sheet w t) [] (v, w) []
+  step-refuses v r e f = refused-words (then-next _ _ a ∙ ap verdictOf f) (refused-fired e)
+
+  pub walker-refused : (v : Verdict) (r : Refusal) → v ≡ verdictOf (walkerFault (petriNet net) sheet w) → v ≡ Refused r → WordsDone (fireCore net sheet w t) [] (v, w) []
+  walker-refused v r h e = step-refuses v r e (step-fault (petriNet net) sheet w t ∙ orElse-hit _ _ r (answer-some _ r (sym h ∙ e)))
+
+  module _ (h : walkerFault (petriNet net) sheet w ≡ none) where
+    pub not-offered : (v : Verdict) → v ≡ Refused (refusal 20 Nothing) → arcEntry (petriNet net) sheet (w .node) t ≡ none → WordsDone (fireCore net sheet w t) [] (v, w) []
+    not-offered v e q = step-refuses v _ e (step-refused (petriNet net) sheet w t h q)
+
+    pub follows-on : (i m : ℕ) (counts : List ℕ) → arcEntry (petriNet net) sheet (w .node) t ≡ some i → m ≡ entryValue sheet i
+        → counts ≡ tabulate (count (petriNet net) sheet m) 32 → WordsDone (fireCore net sheet w t) [] (Accepted, walker m counts) []
+    follows-on i m counts q e k =
+        answered-none refl (then-next _ _ a ∙ ap verdictOf (step-goes (petriNet net) sheet w t h i q))
+        (ap (λ (x : Walker). (Accepted, x)) (rw (k, e) (step-lands net sheet w t a h i q)))
 
 -- ---- a list of firings
 

@@ -1,3 +1,6 @@
+pub mod Walker
+pub mod Firing
 pub mod Calls
-pub mod CallDemands
+pub mod Plain
+pub mod Walks
 pub mod Rows

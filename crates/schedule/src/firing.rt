@@ -3,19 +3,20 @@ ghost use mathlib.Core.Path.{_≡_};
 ghost use Prim.Native.Nat.{_+_, _*_, _<_};
 ghost use lib.ListN.{length};
 ghost use Rattle.table.specs.Bisection.{foundOf};
-ghost use Rattle.net.specs.Check.{verdictOf};
-ghost use Rattle.net.specs.declared.Verdict.the-variants.{Accepted};
+ghost use Rattle.refusal.specs.Verdict.{verdictOf};
+ghost use Rattle.refusal.specs.declared.Verdict.the-variants.{Accepted};
 ghost use Rattle.sequential.specs.Petri.{petriNet};
 ghost use Rattle.sequential.specs.Words.{nodeCount, entryCount, entryValue, arcEntry};
 ghost use Rattle.sequential.specs.Check.{scheduleReply};
 ghost use Rattle.graph.specs.Readable.{Readable};
-ghost use Rattle.schedule.specs.Calls.{walkerFault, stepFault, nextWalker, FollowedTo};
+ghost use Rattle.schedule.specs.Firing.{walkerFault, stepFault, FollowedTo};
+ghost use Rattle.schedule.specs.Calls.{StepDone};
 use super::Fired;
 use super::Walker;
 use super::node_rows;
-use net::Position;
-use net::Refusal;
-use net::Verdict;
+use refusal::Position;
+use refusal::Refusal;
+use refusal::Verdict;
 use table::Found;
 
 // The entry of the arc of t at node n.
@@ -50,13 +51,13 @@ fn walker_fault(walker: Walker, net: &[u32], sheet: &[u32]) -> Verdict
     let n = walker.node;
     let counts = walker.counts;
     if sheet[0] <= n {
-        return net::refuse(Refusal::NO_SUCH_NODE, Position::Nothing);
+        return refusal::refuse(Refusal::NO_SUCH_NODE, Position::Nothing);
     }
     let held = node_rows::marking(net, sheet, n);
     let mut p = 0;
     while p < Walker::PLACES {
         if counts[p] != held[p] {
-            return net::refuse(Refusal::WRONG_COUNTS, Position::Place(p));
+            return refusal::refuse(Refusal::WRONG_COUNTS, Position::Place(p));
         }
         p += 1;
     }
@@ -66,7 +67,7 @@ fn walker_fault(walker: Walker, net: &[u32], sheet: &[u32]) -> Verdict
 // A single firing: refusals 18 to 20, or the walker that follows. The target's counts are what firing gives.
 pub(crate) fn step(walker: Walker, net: &[u32], sheet: &[u32], t: u32) -> Fired
     requires { ⌜ scheduleReply (now net) (now sheet) ≡ Accepted ⌝ }
-    ensures { λ r. ⌜ (r .verdict ≡ verdictOf (stepFault (petriNet (now (net .entry))) (now (sheet .entry)) walker t)) × (r .next ≡ nextWalker (r .verdict) (now (net .entry)) (now (sheet .entry)) walker t) ⌝ }
+    ensures { λ r. ⌜ StepDone (now (net .entry)) (now (sheet .entry)) walker t (r .verdict) (r .next) ⌝ }
 {
     let found = walker_fault(walker, net, sheet);
     if let Verdict::Refused(_) = found {
@@ -78,7 +79,7 @@ pub(crate) fn step(walker: Walker, net: &[u32], sheet: &[u32], t: u32) -> Fired
     let n = walker.node;
     match arc_entry(net, sheet, n, t) {
         Found::Nothing => Fired {
-            verdict: net::refuse(Refusal::NOT_OFFERED, Position::Nothing),
+            verdict: refusal::refuse(Refusal::NOT_OFFERED, Position::Nothing),
             next: walker,
         },
         Found::At(i) => {
@@ -108,7 +109,7 @@ pub(crate) fn follow(net: &[u32], sheet: &[u32], firings: &[u32]) -> Followed
         match arc_entry(net, sheet, node, firings[i]) {
             Found::Nothing => {
                 return Followed {
-                    verdict: net::refuse(Refusal::NOT_OFFERED, Position::Record(i)),
+                    verdict: refusal::refuse(Refusal::NOT_OFFERED, Position::Record(i)),
                     node,
                 };
             }

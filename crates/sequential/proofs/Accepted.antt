@@ -1,139 +1,113 @@
--- 6 to 17 find nothing exactly where the words pass and the graph that they say is a schedule.
+-- Accepted exactly where all checks pass, and so exactly where the net is one, the words pass, and the graph that they say is a schedule.
 use Prim.Native.Nat.{ℕ, _<_}
-use mathlib.Core.Path.{_≡_, sym, ap, _∙_}
+use native.Mathlib.Omega.{arith}
+use mathlib.Core.Path.{_≡_, _∙_}
 use mathlib.Core.Logic.{_↔_}
-use mathlib.Core.List.{List}
-use mathlib.Core.Option.{none, some}
-use lib.ListN.{getD}
-use Rattle.scan.specs.Scan.{first}
-use Rattle.scan.proofs.First.{orElse-left, orElse-right, orElse-next, first-all, first-empty}
-use Rattle.scan.proofs.Tabulate.{tabulate-at, tabulate-ext}
-use Rattle.sequential.specs.Petri.{PetriNet, initial, firedCount, fire}
-use Rattle.sequential.specs.Words.{nodeCount, entryCount, entryValue, arc, count, marking, graph}
-use Rattle.sequential.specs.Schedule.{Enabled, Await, IsSchedule}
-use Rattle.sequential.specs.Check.{startFault, nodeFault, arcTransition, arcFault, reachFault, returnFault, graphFault, scheduleFault}
-use Rattle.sequential.specs.Clauses.{WordsPass, Starts, Chooses, ArcsPass, Reached, ToAwait}
-use Rattle.sequential.proofs.Words.{words-out, words-in}
-use Rattle.sequential.proofs.Entries.{arc-entry, entry-arc, entry-node, entry-target, marking-node, marking-at}
-use Rattle.sequential.proofs.Faults.{start↔, node↔, root↔, isArc↔, arc↔, reach↔, return↔}
+use mathlib.Core.List.{List, _++_}
+use mathlib.Core.Option.{some}
+use Rattle.automaton.specs.Automaton.{Closed}
+use Rattle.refusal.specs.Checks.{AllPass}
+use Rattle.refusal.specs.declared.Verdict.the-variants.{Accepted}
+use Rattle.refusal.proofs.Checks.{Tells}
+use Rattle.refusal.proofs.Judges.{Judges, judges-found, judges-then, tells-append, pass-append}
+use Rattle.net.specs.Checks.{netChecks}
+use Rattle.net.specs.Check.{netReply}
+use Rattle.net.proofs.Checks.{net-judged}
+use Rattle.net.proofs.Laws.{sizes}
+use Rattle.sequential.specs.Petri.{PetriNet, petriNet, Enabled, fire}
+use Rattle.sequential.specs.Words.{nodeCount, entryCount, entryValue, arcNode, arcTransition, arc, marking, graph}
+use Rattle.sequential.specs.Schedule.{IsSchedule}
+use Rattle.sequential.specs.Checks.{IsArc, wordChecks, graphChecks, sheetChecks}
+use Rattle.sequential.specs.Check.{scheduleFault, scheduleReply}
+use Rattle.sequential.specs.Known.{WordsHold, Accepts}
+use Rattle.sequential.proofs.Words.{words-tell, words-hold, words-pass}
+use Rattle.sequential.proofs.Entries.{arc-entry, entry-arc, entry-node, graph-closed}
+use Rattle.sequential.proofs.Clauses.{choice-refl}
+use Rattle.sequential.proofs.Faults.{start-marking, isArc↔, graph-tells}
 
--- 10 to 17 refuse nothing: the clauses of a schedule, as its words say them
-pub record GraphPasses (N : PetriNet) (sheet : List ℕ) : Type 0 where
-  pub starts : Starts N sheet
-  pub chooses : Chooses N sheet
-  pub root-awaits : Await N (graph N sheet) 0
-  pub arcs : ArcsPass N sheet
-  pub reached : Reached N sheet
-  pub returns : (n : ℕ) → n < nodeCount sheet → ToAwait N (graph N sheet) n
+-- ---- the clauses on the words are those on the graph
 
-module _ (N : PetriNet) (sheet : List ℕ) where
-  -- ---- markings, place by place
+module _ (N : PetriNet) (sheet : List ℕ) (T : 0 < N .transitions) (w : WordsHold N sheet) where
+  pub passes-schedule : AllPass (graphChecks N sheet) → IsSchedule N (graph N sheet)
+  unfolding graph
+  passes-schedule (a, (b, (c, (d, (e, (f, u)))))) = record {
+    starts = start-marking N sheet (w .shape .some-node) .1 (λ p l. a p l .0);
+    choices = λ n l. b n l .1 .0;
+    root-awaits = c 0 (omega arith) .0;
+    enables = λ n t m l h.
+        let (i, x) = arc-entry N sheet T w n t m h in
+        rw (x .node, x .transition) at (d i (x .entry) .0 (isArc↔ N sheet i .0 (x .arc)));
+    lands = λ n t m l h.
+        let (i, x) = arc-entry N sheet T w n t m h in
+        rw (x .node, x .transition, x .target) at (d i (x .entry) .1 .0 (isArc↔ N sheet i .0 (x .arc)));
+    reached = λ n l. e n l .0;
+    returns = λ n l. f n l .0;
+  }
 
-  start-marking : 0 < nodeCount sheet → (marking N sheet 0 ≡ initial N) ↔ Starts N sheet
-  unfolding initial
-  start-marking z = (
-    λ e p l. sym (marking-at N sheet 0 p z l) ∙ ap (λ (x : List ℕ). getD x p 0) e ∙ tabulate-at (N .start) 0 (N .places) p l,
-    λ h. marking-node N sheet 0 z ∙ tabulate-ext (count N sheet 0) (N .start) (N .places) h,
+  pub schedule-passes : IsSchedule N (graph N sheet) → AllPass (graphChecks N sheet)
+  unfolding graph
+  schedule-passes s = (
+    λ p l. (start-marking N sheet (w .shape .some-node) .0 (s .starts) p l, tt),
+    (
+      λ n l. (let (t, k, h) = s .choices n l in (t, h t k .1 (choice-refl N t)), (s .choices n l, tt)),
+      (
+        λ n l. let z : n ≡ 0 = omega arith in rw z (s .root-awaits, tt),
+        (
+          λ i l. (λ a. s .enables _ _ _ (node i l a) (at i l a), (λ a. s .lands _ _ _ (node i l a) (at i l a), tt)),
+          (
+            λ n l. (s .reached n l, tt),
+            (λ n l. (s .returns n l, tt), tt),
+          ),
+        ),
+      ),
+    ),
+  )
+    where
+      node : (i : ℕ) → i < entryCount sheet → IsArc N sheet i → arcNode N sheet i < nodeCount sheet
+      node i l a = entry-node N sheet T w i l (isArc↔ N sheet i .1 a)
+
+      at : (i : ℕ) → i < entryCount sheet → IsArc N sheet i → arc N sheet (arcNode N sheet i) (arcTransition N sheet i) ≡ some (entryValue sheet i)
+      at i l a = entry-arc N sheet T w i l (isArc↔ N sheet i .1 a)
+
+-- ---- the verdict
+
+module _ (N : PetriNet) (sheet : List ℕ) (T : 0 < N .transitions) where
+  pub sheet-tells : Tells (scheduleFault N sheet) (sheetChecks N sheet)
+  unfolding scheduleFault
+  sheet-tells = tells-append _ _ (wordChecks N sheet) (graphChecks N sheet) (words-tell N sheet) (λ p. graph-tells N sheet T (words-hold N sheet p))
+
+  pub sheet-schedule : AllPass (sheetChecks N sheet) ↔ (WordsHold N sheet × IsSchedule N (graph N sheet))
+  sheet-schedule =
+      let (f, g) = pass-append (wordChecks N sheet) (graphChecks N sheet) in (
+        λ p. let (a, b) = f p in let w = words-hold N sheet a in (w, passes-schedule N sheet T w b),
+        λ (w, s). g (words-pass N sheet w, schedule-passes N sheet T w s),
+      )
+
+module _ (net sheet : List ℕ) where
+  pub schedule-judged : Judges (scheduleReply net sheet) (netChecks net ++ sheetChecks (petriNet net) sheet)
+  unfolding scheduleReply
+  schedule-judged =
+      judges-then (netReply net) _ (netChecks net) (sheetChecks (petriNet net) sheet) (net-judged net)
+      (λ p. judges-found _ (sheetChecks (petriNet net) sheet) (sheet-tells (petriNet net) sheet (sizes net (net-judged net .accepts .1 p) .some-transition)))
+
+  pub accepted-exactly : (scheduleReply net sheet ≡ Accepted) ↔ Accepts net sheet
+  accepted-exactly = (
+    λ h. let (a, b) = pass-append (netChecks net) (sheetChecks (petriNet net) sheet) .0 (schedule-judged .accepts .0 h) in
+        let n = net-judged net .accepts .1 a in
+        let (w, s) = sheet-schedule (petriNet net) sheet (sizes net n .some-transition) .0 b in
+        record { net-accepted = n; words = w; schedule = s },
+    λ a. schedule-judged .accepts .1 (pass-append (netChecks net) (sheetChecks (petriNet net) sheet) .1
+        (net-judged net .accepts .0 (a .net-accepted), sheet-schedule (petriNet net) sheet (sizes net (a .net-accepted) .some-transition) .1 (a .words, a .schedule))),
   )
 
-  fired-marking : (m t : ℕ) (before : List ℕ) → m < nodeCount sheet
-      → (marking N sheet m ≡ fire N before t) ↔ ((p : ℕ) → p < N .places → count N sheet m p ≡ firedCount N before t p)
-  unfolding fire
-  fired-marking m t before l = (
-    λ e p k. sym (marking-at N sheet m p l k) ∙ ap (λ (x : List ℕ). getD x p 0) e ∙ tabulate-at (firedCount N before t) 0 (N .places) p k,
-    λ h. marking-node N sheet m l ∙ tabulate-ext (count N sheet m) (firedCount N before t) (N .places) h,
-  )
+-- ---- an accepted schedule
 
-  -- ---- scans that find nothing
+module _ (net sheet : List ℕ) (h : scheduleReply net sheet ≡ Accepted) where
+  pub accepts : Accepts net sheet
+  accepts = accepted-exactly net sheet .0 h
 
-  pub starts-none : Starts N sheet → first (startFault N sheet) (N .places) ≡ none
-  starts-none h = first-empty (startFault N sheet) (N .places) (λ p l. start↔ N sheet p .1 (h p l))
+  pub some-transition : 0 < petriNet net .transitions
+  some-transition = sizes net (accepts .net-accepted) .some-transition
 
-  pub chooses-none : Chooses N sheet → first (nodeFault N sheet) (nodeCount sheet) ≡ none
-  chooses-none h = first-empty (nodeFault N sheet) (nodeCount sheet) (λ n l. node↔ N sheet n .1 (h n l))
-
-  pub arcs-none : ArcsPass N sheet → first (arcFault N sheet) (entryCount sheet) ≡ none
-  arcs-none h = first-empty (arcFault N sheet) (entryCount sheet) (λ i l. arc↔ N sheet i .1 (h i l))
-
-  module _ (T : 0 < N .transitions) (w : WordsPass N sheet) where
-    -- ---- an arc and its entry
-
-    arc-enabled : ArcsPass N sheet → (n t m : ℕ) → arc N sheet n t ≡ some m → Enabled N (marking N sheet n) t
-    arc-enabled h n t m e =
-        let (i, a) = arc-entry N sheet T w n t m e in
-        rw (a .node, a .transition) at (h i (a .entry) (isArc↔ N sheet i .0 (a .arc)) .0)
-
-    arc-lands : ArcsPass N sheet → (n t m : ℕ) → arc N sheet n t ≡ some m → marking N sheet m ≡ fire N (marking N sheet n) t
-    arc-lands h n t m e =
-        let (i, a) = arc-entry N sheet T w n t m e in
-        let l = entry-target N sheet T w i (a .entry) (a .arc) in
-        rw (a .node, a .transition, a .target) at (fired-marking (entryValue sheet i) (arcTransition N sheet i) _ l .1 (h i (a .entry) (isArc↔ N sheet i .0 (a .arc)) .1))
-
-    -- ---- the clauses on the words are those on the graph
-
-    pub passes-schedule : GraphPasses N sheet → IsSchedule N (graph N sheet)
-    unfolding graph
-    passes-schedule g = record {
-      starts = start-marking (w .shape .some-node) .1 (g .starts);
-      choices = g .chooses;
-      root-awaits = g .root-awaits;
-      enables = λ n t m l e. arc-enabled (g .arcs) n t m e;
-      lands = λ n t m l e. arc-lands (g .arcs) n t m e;
-      reached = g .reached;
-      returns = g .returns;
-    }
-
-    pub schedule-passes : IsSchedule N (graph N sheet) → GraphPasses N sheet
-    unfolding graph
-    schedule-passes s = record {
-      starts = start-marking (w .shape .some-node) .0 (s .starts);
-      chooses = s .choices;
-      root-awaits = s .root-awaits;
-      arcs = λ i l a.
-          let b = isArc↔ N sheet i .1 a in
-          let n = entry-node N sheet T w i l b in
-          let e = entry-arc N sheet T w i l b in
-          (s .enables _ _ _ n e, fired-marking _ _ _ (entry-target N sheet T w i l b) .0 (s .lands _ _ _ n e));
-      reached = s .reached;
-      returns = s .returns;
-    }
-
-    -- ---- what the checks find
-
-    pub graph-out : graphFault N sheet ≡ none → GraphPasses N sheet
-    unfolding graphFault
-    graph-out h =
-        let h₁ = orElse-right _ _ h in
-        let h₂ = orElse-right _ _ h₁ in
-        let h₃ = orElse-right _ _ h₂ in
-        let h₄ = orElse-right _ _ h₃ in
-        record {
-          starts = λ p l. start↔ N sheet p .0 (first-all _ _ (orElse-left _ _ h) p l);
-          chooses = λ n l. node↔ N sheet n .0 (first-all _ _ (orElse-left _ _ h₁) n l);
-          root-awaits = root↔ N sheet .0 (orElse-left _ _ h₂);
-          arcs = λ i l. arc↔ N sheet i .0 (first-all _ _ (orElse-left _ _ h₃) i l);
-          reached = λ n l. reach↔ N sheet T w n .0 (first-all _ _ (orElse-left _ _ h₄) n l);
-          returns = λ n l. return↔ N sheet T w n l .0 (first-all _ _ (orElse-right _ _ h₄) n l);
-        }
-
-    pub reached-none : Reached N sheet → first (reachFault N sheet) (nodeCount sheet) ≡ none
-    reached-none h = first-empty (reachFault N sheet) (nodeCount sheet) (λ n l. reach↔ N sheet T w n .1 (h n l))
-
-    pub graph-in : GraphPasses N sheet → graphFault N sheet ≡ none
-    unfolding graphFault
-    graph-in g =
-        orElse-next _ _ (starts-none (g .starts)) ∙ orElse-next _ _ (chooses-none (g .chooses)) ∙ orElse-next _ _ (root↔ N sheet .1 (g .root-awaits))
-        ∙ orElse-next _ _ (arcs-none (g .arcs)) ∙ orElse-next _ _ (reached-none (g .reached))
-        ∙ first-empty (returnFault N sheet) (nodeCount sheet) (λ n l. return↔ N sheet T w n l .1 (g .returns n l))
-
--- ---- 6 to 17 together
-
-pub fault-none : (N : PetriNet) (sheet : List ℕ) → 0 < N .transitions → scheduleFault N sheet ≡ none → WordsPass N sheet × IsSchedule N (graph N sheet)
-unfolding scheduleFault
-fault-none N sheet T h =
-    let w = words-out N sheet (orElse-left _ _ h) in
-    (w, passes-schedule N sheet T w (graph-out N sheet T w (orElse-right _ _ h)))
-
-pub none-fault : (N : PetriNet) (sheet : List ℕ) → 0 < N .transitions → WordsPass N sheet → IsSchedule N (graph N sheet) → scheduleFault N sheet ≡ none
-unfolding scheduleFault
-none-fault N sheet T w s = orElse-next _ _ (words-in N sheet w) ∙ graph-in N sheet T w (schedule-passes N sheet T w s)
+  pub closed : Closed (graph (petriNet net) sheet)
+  closed = graph-closed (petriNet net) sheet some-transition (accepts .words)

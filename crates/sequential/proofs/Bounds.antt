@@ -14,8 +14,8 @@ use Rattle.sequential.specs.Petri.{PetriNet}
 use Rattle.sequential.specs.Words.{nodeCount, count, graph}
 use Rattle.sequential.specs.Schedule.{IsSchedule}
 use Rattle.sequential.specs.Bounds.{heldAt, bound, bounds}
-use Rattle.sequential.specs.Clauses.{WordsPass}
-use Rattle.sequential.specs.Demands.{heldAfterAll, LeastBound}
+use Rattle.sequential.specs.Known.{WordsHold}
+use Rattle.sequential.specs.Runs.{heldAfterAll, LeastBound}
 use Rattle.sequential.proofs.Entries.{graph-closed, marking-at}
 use Rattle.sequential.proofs.Runs.{from-root}
 
@@ -28,7 +28,7 @@ module _ (N : PetriNet) (sheet : List ℕ) where
   unfolding bounds
   bounds-at p l = tabulate-at (bound N sheet) 0 (N .places) p l
 
-  module _ (T : 0 < N .transitions) (w : WordsPass N sheet) (s : IsSchedule N (graph N sheet)) (p : ℕ) (l : p < N .places) where
+  module _ (T : 0 < N .transitions) (w : WordsHold N sheet) (s : IsSchedule N (graph N sheet)) (p : ℕ) (l : p < N .places) where
     -- after an allowed list the place holds what it holds at the node where the list ends
     held : (σ : List ℕ) (n : ℕ) → follow (graph N sheet) 0 σ ≡ some n → (n < nodeCount sheet) × (heldAfterAll N σ p ≡ count N sheet n p)
     unfolding graph
@@ -52,4 +52,4 @@ module _ (N : PetriNet) (sheet : List ℕ) where
         (σ, follow-allows (graph N sheet) 0 n σ e, held σ n e .1 ∙ q)
 
     pub least-bound : LeastBound N (graph N sheet) p (bound N sheet p)
-    least-bound = record { kept = no-more; attained = as-much; least = λ b h. let (σ, a, q) = as-much in rw q at (h σ a) }
+    least-bound = record { kept = no-more; attained = as-much }

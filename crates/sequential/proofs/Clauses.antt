@@ -13,9 +13,9 @@ use Rattle.scan.proofs.First.{found-some}
 use Rattle.scan.proofs.Every.{all-in, all-out, any-in, any-out}
 use Rattle.scan.proofs.Least.{least-hit, least-of}
 use Rattle.automaton.specs.Automaton.{Automaton}
-use Rattle.sequential.specs.Petri.{PetriNet, holdsEnough, enabled, takesNothing, isSource, takesAlike, sameChoice}
-use Rattle.sequential.specs.Schedule.{offers, offersAsSource, isAwait, offersSome, firstOffered, offersAsChoice, offersOneChoiceSet, Enabled, Source, SameChoice, Offers, Await, OneChoiceSet}
-use Rattle.sequential.specs.Demands.{Partition}
+use Rattle.sequential.specs.Petri.{PetriNet, Enabled, Source, SameChoice}
+use Rattle.sequential.specs.Tests.{holdsEnough, enabled, takesNothing, isSource, takesAlike, sameChoice, offers, offersAsSource, isAwait, offersSome, firstOffered, offersAsChoice, offersOneChoiceSet}
+use Rattle.sequential.specs.Schedule.{Offers, Await, OneChoiceSet}
 
 -- ---- two tests that agree
 
@@ -36,25 +36,15 @@ agree-out a b e f g = let q = beq-out a b e in (λ x. g .0 (sym q ∙ f .1 x), �
 agree-in : {A B : Type 0} (a b : Bool) → A ↔ B → (a ≡ true) ↔ A → (b ≡ true) ↔ B → Bool·beq a b ≡ true
 agree-in a b e f g = beq-in a b (iff→eq a b (λ x. g .1 (e .0 (f .0 x))) (λ y. f .1 (e .1 (g .0 y))))
 
--- an index that does not pass
-pub all-missing : (f : ℕ → Bool) (n : ℕ) → all f n ≡ false → (i : ℕ) × (i < n) × (f i ≡ false)
-unfolding all
-all-missing f zero e = true-false true refl e
-all-missing f (suc n) e = byTest (all f n) (λ p. (n, omega arith, rw p at e)) (λ p. let (i, l, q) = all-missing f n p in (i, omega arith, q))
-
 -- ---- the net
 
 module _ (N : PetriNet) where
   pub enabled↔ : (m : List ℕ) (t : ℕ) → (enabled N m t ≡ true) ↔ Enabled N m t
   unfolding enabled holdsEnough
   enabled↔ m t = (
-    λ e p l. leb-true _ _ (all-out (holdsEnough N m t) (N .places) e p l),
-    λ h. all-in (holdsEnough N m t) (N .places) (λ p l. le-leb _ _ (h p l)),
+    λ e. record { holds = λ p l. leb-true _ _ (all-out (holdsEnough N m t) (N .places) e p l) },
+    λ h. all-in (holdsEnough N m t) (N .places) (λ p l. le-leb _ _ (h .holds p l)),
   )
-
-  pub enabled-fails : (m : List ℕ) (t : ℕ) → enabled N m t ≡ false → (p : ℕ) × (p < N .places) × (getD m p 0 < N .taken t p)
-  unfolding enabled holdsEnough
-  enabled-fails m t e = let (p, l, q) = all-missing (holdsEnough N m t) (N .places) e in (p, l, leb-false _ _ q)
 
   pub source↔ : (t : ℕ) → (isSource N t ≡ true) ↔ Source N t
   unfolding isSource takesNothing
@@ -83,18 +73,6 @@ module _ (N : PetriNet) where
 
   pub choice-source : (t u : ℕ) → Source N t → SameChoice N t u ↔ Source N u
   choice-source t u s = (λ h p l. sym (h p l) ∙ s p l, λ h p l. s p l ∙ sym (h p l))
-
-  pub partition : (t : ℕ) × (t < N .transitions) × Source N t → Partition N
-  partition (t, l, s) = record {
-    means = choice↔;
-    reflexive = λ t. choice↔ t t .1 (choice-refl t);
-    symmetric = λ t u h. choice↔ u t .1 (choice-sym t u (choice↔ t u .0 h));
-    transitive = λ t u v h k. choice↔ t v .1 (choice-trans t u v (choice↔ t u .0 h) (choice↔ u v .0 k));
-    source = (t, l, source↔ t .1 s);
-    sources = λ t u h.
-        let (f, g) = choice-source t u (source↔ t .0 h) in
-        (λ k. source↔ u .1 (f (choice↔ t u .0 k)), λ k. choice↔ t u .1 (g (source↔ u .0 k)));
-  }
 
 -- ---- the nodes
 

@@ -12,16 +12,18 @@ use borrow.Author.Tests.{leb-true, leb-false, le-ltb, ne-eqb}
 use Rattle.scan.specs.Scan.{orElse, when}
 use Rattle.scan.proofs.Tests.{byTest}
 use Rattle.scan.proofs.First.{orElse-hit}
-use Rattle.net.specs.Refusal.{refusal}
-use Rattle.net.specs.Check.{verdictOf, netReply}
-use Rattle.net.specs.declared.Position.the-variants.{Nothing}
-use Rattle.net.specs.declared.Refusal.{Refusal}
+use Rattle.refusal.specs.Refusal.{refusal}
+use Rattle.refusal.specs.Verdict.{verdictOf, andThen}
+use Rattle.net.specs.Check.{netReply}
+use Rattle.refusal.specs.declared.Position.the-variants.{Nothing}
+use Rattle.refusal.specs.declared.Refusal.{Refusal}
 use Rattle.net.proofs.Cut.{overlong, cut-reply}
+use Rattle.refusal.specs.Finding.{foundBy, finding}
 use Rattle.sequential.specs.Petri.{PetriNet, petriNet}
 use Rattle.sequential.specs.Words.{nodeCount, entryCount}
-use Rattle.sequential.specs.Check.{sizesPass, shapeFault, wordsFault, scheduleFault, andThen, scheduleReply}
-use Rattle.sequential.proofs.Verdict.{then-refused}
-use Rattle.sequential.proofs.Words.{sizes-out}
+use Rattle.sequential.specs.Check.{sizesPass, shapeFault, scheduleFault, scheduleReply}
+use Rattle.refusal.proofs.Verdicts.{then-refused}
+use Rattle.sequential.proofs.Words.{sizes-out, words-fault}
 
 -- what more words than fit are refused by: sizes, or else the length
 unfoldable overlongFault : ℕ → ℕ → Refusal
@@ -34,14 +36,14 @@ module _ (N : PetriNet) (sheet : List ℕ) (l : 8195 ≤ length sheet) where
       ne-eqb (length sheet) (2 + 2 * entryCount sheet) (λ e. omega (arith, e, c))
 
   shape-overlong : shapeFault sheet ≡ some (overlongFault (nodeCount sheet) (entryCount sheet))
-  unfolding shapeFault orElse when overlongFault
+  unfolding shapeFault finding foundBy orElse when overlongFault
   shape-overlong =
       let a : ltb (length sheet) 2 ≡ false = le-ltb (length sheet) 2 (omega arith) in
       byTest (sizesPass (nodeCount sheet) (entryCount sheet)) (λ h. rw (a, h, not-whole h)) (λ h. rw (a, h))
 
   sheet-overlong : scheduleFault N sheet ≡ some (overlongFault (nodeCount sheet) (entryCount sheet))
-  unfolding scheduleFault wordsFault
-  sheet-overlong = orElse-hit _ _ _ (orElse-hit _ _ _ shape-overlong)
+  unfolding scheduleFault
+  sheet-overlong = orElse-hit _ _ _ (words-fault N sheet ∙ orElse-hit _ _ _ shape-overlong)
 
 module _ (N : PetriNet) (m : ℕ) (l : 8195 ≤ m) (sheet : List ℕ) where
   cut-overlong : m < length sheet → scheduleFault N (take m sheet) ≡ scheduleFault N sheet

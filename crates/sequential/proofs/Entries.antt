@@ -17,9 +17,8 @@ use Rattle.table.specs.Table.{keyAt, entryOf}
 use Rattle.table.proofs.Table.{entry-at, entry-some}
 use Rattle.automaton.specs.Automaton.{Automaton, Closed}
 use Rattle.sequential.specs.Petri.{PetriNet}
-use Rattle.sequential.specs.Words.{nodeCount, entryCount, entryKey, entryValue, isNode, entryWithKey, valueOf, arcKeys, arcKey, countKey, arcEntry, arc, count, marking, graph}
-use Rattle.sequential.specs.Check.{isArc, arcNode, arcTransition}
-use Rattle.sequential.specs.Clauses.{WordsPass}
+use Rattle.sequential.specs.Words.{nodeCount, entryCount, entryKey, entryValue, isNode, entryWithKey, valueOf, arcKeys, arcKey, countKey, arcEntry, arc, count, marking, graph, isArc, arcNode, arcTransition}
+use Rattle.sequential.specs.Known.{WordsHold}
 use Rattle.sequential.proofs.Words.{words-rise}
 
 -- ---- rows
@@ -41,7 +40,7 @@ pub record ArcEntry (N : PetriNet) (sheet : List ℕ) (i n t m : ℕ) : Type 0 w
   pub transition : arcTransition N sheet i ≡ t
   pub target : entryValue sheet i ≡ m
 
-module _ (N : PetriNet) (sheet : List ℕ) (T : 0 < N .transitions) (w : WordsPass N sheet) where
+module _ (N : PetriNet) (sheet : List ℕ) (T : 0 < N .transitions) (w : WordsHold N sheet) where
   -- an arc of the graph stands at an entry
   pub arc-entry : (n t m : ℕ) → arc N sheet n t ≡ some m → (i : ℕ) × ArcEntry N sheet i n t m
   unfolding arc arcEntry isNode

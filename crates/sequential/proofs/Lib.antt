@@ -1,15 +1,11 @@
-pub mod Verdict
 pub mod Words
 pub mod Entries
 pub mod Clauses
 pub mod Faults
 pub mod Accepted
-pub mod RefusedWords
-pub mod Refused
 pub mod Runs
+pub mod Published
 pub mod Paths
 pub mod Numbers
 pub mod Bounds
-pub mod Demands
-pub mod Examples
 pub mod Cut

@@ -1,4 +1,4 @@
--- The number of arc entries is the number of arcs of the graph: what all its nodes offer, together.
+-- The number of arc entries is the number of arcs of the graph.
 use Prim.Native.Nat.{ℕ, zero, suc, _+_, _*_, _/_, _%_, _<_}
 use native.Mathlib.Omega.{arith}
 use native.Mathlib.Nat.{div-add-mod'}
@@ -8,18 +8,16 @@ use mathlib.Core.List.{List}
 use mathlib.Core.Bool.{Bool, true, false, or-false}
 use lib.Dec.{ltb, eqb}
 use borrow.Author.Tests.{ltb-true, ltb-false, eqb-true, eq-eqb, ne-eqb}
-use Rattle.scan.specs.Scan.{any, bit, count, sum}
+use Rattle.scan.specs.Scan.{any, bit, count}
 use Rattle.scan.proofs.Tests.{byTest, iff→eq, lt-suc-cases}
 use Rattle.scan.proofs.Every.{any-in, any-out, any-none, any-none-yet}
 use Rattle.scan.proofs.Count.{count-ext}
-use Rattle.scan.proofs.Sum.{count-rows}
 use Rattle.table.proofs.Table.{rising}
 use Rattle.sequential.specs.Petri.{PetriNet}
-use Rattle.sequential.specs.Words.{nodeCount, entryCount, entryKey, arcKeys, graph}
-use Rattle.sequential.specs.Schedule.{offers}
-use Rattle.sequential.specs.Check.{isArc, arcNode, arcTransition, arcCount}
-use Rattle.sequential.specs.Clauses.{WordsPass}
-use Rattle.sequential.specs.Demands.{offeredAt}
+use Rattle.sequential.specs.Words.{nodeCount, entryCount, entryKey, arcKeys, graph, isArc, arcNode, arcTransition}
+use Rattle.sequential.specs.Tests.{offers}
+use Rattle.sequential.specs.Check.{arcCount}
+use Rattle.sequential.specs.Known.{WordsHold}
 use Rattle.sequential.proofs.Words.{words-rise}
 use Rattle.sequential.proofs.Entries.{arc-entry, entry-arc}
 use Rattle.sequential.proofs.Clauses.{offers↔}
@@ -67,9 +65,9 @@ module _ (key : ℕ → ℕ) where
 
 -- ---- arcs
 
-module _ (N : PetriNet) (sheet : List ℕ) (T : 0 < N .transitions) (w : WordsPass N sheet) where
+module _ (N : PetriNet) (sheet : List ℕ) (T : 0 < N .transitions) (w : WordsHold N sheet) where
   -- by key: the node that a key of an arc names offers the transition that it names
-  abbrev offersKey : ℕ → Bool
+  abbrev pub offersKey : ℕ → Bool
   offersKey k = offers N (graph N sheet) (k / N .transitions) (k % N .transitions)
 
   key-offered : (k : ℕ) → k < arcKeys N sheet → isKey (entryKey sheet) (entryCount sheet) k ≡ true → offersKey k ≡ true
@@ -88,9 +86,9 @@ module _ (N : PetriNet) (sheet : List ℕ) (T : 0 < N .transitions) (w : WordsPa
       let e : entryKey sheet i / N .transitions * N .transitions + entryKey sheet i % N .transitions ≡ k = rw (r .node, r .transition) (div-add-mod' k (N .transitions)) in
       any-in (is (entryKey sheet) k) (entryCount sheet) i (r .entry) (eq-eqb (entryKey sheet i) k (sym (div-add-mod' (entryKey sheet i) (N .transitions)) ∙ e))
 
-  pub arcs-counted : arcCount N sheet ≡ sum (offeredAt N (graph N sheet)) (nodeCount sheet)
-  unfolding arcCount isArc arcKeys offeredAt
+  -- as many as the keys below V × T whose arc the graph has
+  pub arcs-counted : arcCount N sheet ≡ count offersKey (nodeCount sheet * N .transitions)
+  unfolding arcCount isArc arcKeys
   arcs-counted =
       keys-below (entryKey sheet) (arcKeys N sheet) (entryCount sheet) (unfold entryKey in (rising sheet 2 (entryCount sheet) (words-rise N sheet w)))
       ∙ count-ext (isKey (entryKey sheet) (entryCount sheet)) offersKey (arcKeys N sheet) (λ k l. iff→eq _ _ (key-offered k l) (offered-key k))
-      ∙ count-rows (offers N (graph N sheet)) (nodeCount sheet) (N .transitions)

@@ -1,33 +1,19 @@
 -- Lists that a schedule allows: they fire from the initial marking, go on by one choice set, and lead on to an await node.
 use Prim.Native.Nat.{ℕ, _<_}
-use native.Mathlib.Omega.{arith}
 use mathlib.Core.Path.{_≡_, sym, ap, _∙_}
-use mathlib.Core.Logic.{_↔_}
 use mathlib.Core.List.{List, [], _∷_, _++_}
 use mathlib.Core.Bool.{true}
 use mathlib.Core.Option.{some}
-use lib.ListN.{getD}
-use Rattle.scan.proofs.Tabulate.{tabulate-at}
 use Rattle.automaton.specs.Automaton.{Automaton, Closed, follow, allows}
-use Rattle.automaton.specs.Reach.{Reachable}
 use Rattle.automaton.proofs.Automaton.{arc-transition, follow-first, follow-on, follow-snoc, follow-lands, allows-follow, follow-allows}
-use Rattle.sequential.specs.Petri.{PetriNet, initial, firedCount, fire}
-use Rattle.sequential.specs.Schedule.{Enabled, SameChoice, Offers, Await, IsSchedule}
-use Rattle.sequential.specs.Demands.{fireAll, FiresEnabled, fires-none, fires-first, Runs, GoesOn, ReachableMarking, FiresTo, SequentialSchedule}
-use Rattle.sequential.proofs.Clauses.{choice-refl, choice-sym, choice-trans}
-
--- firing puts and takes, at each place
-pub fires-to : (N : PetriNet) (m : List ℕ) (t : ℕ) (m′ : List ℕ) → Enabled N m t → m′ ≡ fire N m t → FiresTo N m t m′
-unfolding fire firedCount
-fires-to N m t m′ e q = record {
-  enabled = e;
-  balance = λ p l. let x = ap (λ (y : List ℕ). getD y p 0) q ∙ tabulate-at (firedCount N m t) 0 (N .places) p l in omega (arith, e p l);
-  result = q;
-}
+use Rattle.sequential.specs.Petri.{PetriNet, initial, SameChoice, fireAll, FiresEnabled, fires-none, fires-first}
+use Rattle.sequential.specs.Schedule.{Await, IsSchedule}
+use Rattle.sequential.specs.Runs.{Runs, GoesOn}
+use Rattle.sequential.proofs.Clauses.{choice-refl}
 
 module _ (N : PetriNet) (A : Automaton) (c : Closed A) (same : A .transitions ≡ N .transitions) (s : IsSchedule N A) where
   -- only a transition of the net has an arc
-  arc-below : (n t m : ℕ) → A .arc n t ≡ some m → t < N .transitions
+  pub arc-below : (n t m : ℕ) → A .arc n t ≡ some m → t < N .transitions
   arc-below n t m e = rw same at (arc-transition A c n t m e)
 
   -- ---- firing along a list
@@ -80,31 +66,3 @@ module _ (N : PetriNet) (A : Automaton) (c : Closed A) (same : A .transitions �
       let (n, e) = allows-follow A 0 σ a in
       let (τ, m, f, w) = s .returns n (follow-lands A c σ 0 n (c .root) e) in
       (τ, m, follow-on A σ τ 0 n e ∙ f, w)
-
-  -- ---- the published definition
-
-  marking-reached : (n : ℕ) → n < A .nodes → ReachableMarking N (A .label n)
-  unfolding Reachable
-  marking-reached n l =
-      let (σ, e) = s .reached n l in
-      let (f, h) = from-root σ n e in
-      (σ, f, h)
-
-  -- whichever member of the choice set is offered, the others are those that take as it does
-  one-choice : (n t u : ℕ) → n < A .nodes → u < N .transitions → Offers N A n t → Offers N A n u ↔ SameChoice N t u
-  one-choice n t u l k (m, e) =
-      let (v, j, h) = s .choices n l in
-      let q : SameChoice N v t = h t (arc-below n t m e) .0 (m, e) in
-      (λ o. choice-trans N t v u (choice-sym N v t q) (h u k .0 o), λ x. h u k .1 (choice-trans N v t u q x))
-
-  pub sequential : SequentialSchedule N A
-  sequential = record {
-    root = c .root;
-    steps = λ n t m l e. (arc-below n t m e, c .lands n t m l e);
-    maps = marking-reached;
-    maps-root = s .starts;
-    fires = λ n t m l e. fires-to N _ t _ (s .enables n t m l e) (s .lands n t m l e);
-    chooses = one-choice;
-    sources = s .root-awaits;
-    serves = λ n t l k h. let (σ, m, e, w) = s .returns n l in (σ, m, e, w t k .1 h);
-  }

@@ -1,8 +1,10 @@
 pub mod Petri
 pub mod Words
 pub mod Schedule
+pub mod Published
+pub mod Runs
+pub mod Checks
+pub mod Tests
 pub mod Check
+pub mod Known
 pub mod Bounds
-pub mod Clauses
-pub mod Demands
-pub mod Examples

@@ -1,5 +1,5 @@
 -- Document 01, "The sheet as words": a schedule (its word is sheet) is V, K, then K keys, then K values. A missing word counts as 0.
-use Prim.Native.Nat.{ℕ, _+_, _*_}
+use Prim.Native.Nat.{ℕ, _+_, _*_, _/_, _%_}
 use mathlib.Core.List.{List, []}
 use mathlib.Core.Bool.{Bool, cond, _&&_}
 use mathlib.Core.Option.{Option, none, some, Option·map}
@@ -67,3 +67,15 @@ module _ (N : PetriNet) (sheet : List ℕ) where
   -- the graph that the words say, each node with its marking
   unfoldable pub graph : Automaton
   graph = record { nodes = nodeCount sheet; transitions = N .transitions; arc = arc; label = marking }
+
+  -- ---- the arc that an entry says
+
+  unfoldable pub isArc : ℕ → Bool
+  isArc i = ltb (entryKey sheet i) arcKeys
+
+  -- from this node, by this transition; its value is the target
+  unfoldable pub arcNode : ℕ → ℕ
+  arcNode i = entryKey sheet i / N .transitions
+
+  unfoldable pub arcTransition : ℕ → ℕ
+  arcTransition i = entryKey sheet i % N .transitions

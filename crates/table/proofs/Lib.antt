@@ -1,4 +1,5 @@
 pub mod Table
+pub mod Keys
 pub mod Bisection
 pub mod Next
 pub mod Row

@@ -1,3 +1,4 @@
 pub mod Table
+pub mod Keys
 pub mod Bisection
 pub mod Row

@@ -1,5 +1,5 @@
 -- Keyed words: from an offset on, as many keys as there are entries, then as many values.
-use Prim.Native.Nat.{ℕ, _+_, _<_}
+use Prim.Native.Nat.{ℕ, _+_, _-_, _<_}
 use mathlib.Core.List.{List}
 use mathlib.Core.Option.{Option}
 use lib.ListN.{getD}
@@ -23,3 +23,8 @@ module _ (words : List ℕ) (offset : ℕ) where
   -- the keys rise strictly
   pub record Rising (entries : ℕ) : Type 0 where
     pub above : (i : ℕ) → i + 1 < entries → keyAt i < keyAt (i + 1)
+
+  -- a key lies below the limit, and above the one before it
+  pub record KeyPasses (limit i : ℕ) : Type 0 where
+    pub low : keyAt i < limit
+    pub above : 0 < i → keyAt (i - 1) < keyAt i

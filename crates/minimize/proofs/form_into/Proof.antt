@@ -1,16 +1,16 @@
--- `minimize::form_into` meets its contract: the check, then the form.
+-- `minimize::form_into` meets its contract.
+use mathlib.Core.Path.{_≡_, refl, sym, ap, _∙_}
 use Rattle.judge.proofs.Judged.{accepted-readable}
-use Rattle.minimize.proofs.Answers.{check-refuses, check-accepts}
+use Rattle.call.proofs.Laws.{refused-words}
 use borrow.Author.Needs.{needs}
-use mathlib.Core.Path.{sym, _∙_}
 use Rattle.minimize.proofs.form_into.Statement.{statement}
 use Rattle.minimize.proofs.form_into.Tie as tie
 use Rattle.minimize.proofs.form_into.Reads as reads
 use Rattle.minimize.proofs.form_into.Lts as lts
+use Rattle.judge.proofs.judge.Reads as judge-reads
 use Rattle.minimize.proofs.classes.classes.Reads as classes-reads
 use Rattle.minimize.proofs.numbering.numbering.Reads as numbering-reads
 use Rattle.minimize.proofs.writer.write.Reads as write-reads
-use Rattle.judge.proofs.judge.Reads as judge-reads
 
 judge-requires : tie.Need-judge-requires
 judge-requires c κs = search needs
@@ -19,25 +19,25 @@ enum-known-found : tie.Need-enum-known-found
 enum-known-found c = search needs
 
 returns : tie.Need-returns
-returns c = check-refuses _ _ _ _ (sym ((c .before .before .before .judge) .ensures) ∙ ((c .before .found) .given .1))
+returns c = refused-words (sym (c .before .before .before .judge .ensures) ∙ (c .before .found .given .1)) refl
 
 enum-told : tie.Need-enum-told
 enum-told c = search needs
 
 classes-requires : tie.Need-classes-requires
-classes-requires c κs = accepted-readable _ _ (sym ((c .before .before .judge) .ensures) ∙ ((c .enum-told) .given .1))
+classes-requires c κs = accepted-readable _ _ (sym (c .before .before .judge .ensures) ∙ (c .enum-told .given .1))
 
 numbering-requires : tie.Need-numbering-requires
-numbering-requires c κs = (accepted-readable _ _ (sym ((c .before .before .before .judge) .ensures) ∙ ((c .before .enum-told) .given .1)), (c .classes) .ensures)
+numbering-requires c κs = (accepted-readable _ _ (sym (c .before .before .before .judge .ensures) ∙ (c .before .enum-told .given .1)), c .classes .ensures)
 
 write-requires : tie.Need-write-requires
-write-requires c κs = (accepted-readable _ _ (sym ((c .before .before .before .before .before .before .before .judge) .ensures) ∙ ((c .before .before .before .before .before .enum-told) .given .1)), (c .before .before .before .numbering) .ensures)
+write-requires c κs = (sym (c .before .before .before .before .before .before .before .judge .ensures) ∙ (c .before .before .before .before .before .enum-told .given .1), c .before .before .before .numbering .ensures)
 
 same-length : tie.Need-same-length
 same-length c = search needs
 
 returns-2 : tie.Need-returns-2
-returns-2 c = check-accepts _ _ _ _ _ (sym ((c .before .before .before .before .before .before .before .before .before .before .judge) .ensures) ∙ ((c .before .before .before .before .before .before .before .before .enum-told) .given .1)) ((c .before .before .write) .ensures)
+returns-2 c = c .before .before .write .ensures
 
 pub form-into-spec : {M : Type 1} → statement M
 form-into-spec =

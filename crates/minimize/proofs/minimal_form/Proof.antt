@@ -1,15 +1,26 @@
 -- `minimize::minimal_form` meets its contract.
-use Rattle.minimize.proofs.Answers.{scratch-refuses, scratch-serves}
+use mathlib.Core.Path.{_≡_, refl, sym, ap, _∙_}
+use Rattle.call.proofs.Laws.{refused-scratch, served}
 use borrow.Author.Needs.{needs}
 use Rattle.minimize.proofs.minimal_form.Statement.{statement}
 use Rattle.minimize.proofs.minimal_form.Tie as tie
 use Rattle.minimize.proofs.minimal_form.Reads as reads
 use Rattle.minimize.proofs.minimal_form.Lts as lts
+use Rattle.call.proofs.scratch_fault.Reads as scratch-fault-reads
 use Rattle.minimize.proofs.form_into.Reads as form-into-reads
 use Rattle.scan.proofs.clear_front.Reads as clear-front-reads
 
+scratch-fault-requires : tie.Need-scratch-fault-requires
+scratch-fault-requires c κs = search needs
+
+enum-known-found : tie.Need-enum-known-found
+enum-known-found c = search needs
+
 returns : tie.Need-returns
-returns c = scratch-refuses _ _ _ _ ((c .if1) .taken)
+returns c = refused-scratch (sym (c .before .before .before .scratch-fault .ensures) ∙ (c .before .found .given .1)) refl
+
+enum-told : tie.Need-enum-told
+enum-told c = search needs
 
 form-into-requires : tie.Need-form-into-requires
 form-into-requires c κs = search needs
@@ -24,9 +35,19 @@ same-length-2 : tie.Need-same-length-2
 same-length-2 c = search needs
 
 returns-2 : tie.Need-returns-2
-returns-2 c = scratch-serves _ _ _ _ _ _ _ ((c .before .before .before .before .before .before .before .before .if1) .left) ((c .before .before .before .before .before .before .form-into) .ensures) ((c .before .before .clear-front) .ensures)
+returns-2 c =
+    served (sym (c .before .before .before .before .before .before .before .before .before .before .scratch-fault .ensures) ∙ (c .before .before .before .before .before .before .before .before .enum-told .given .1)) (c .before .before .before .before .before .before .form-into .ensures) (c .before .before .clear-front .ensures)
 
 pub minimal-form-spec : {M : Type 1} → statement M
 minimal-form-spec =
     tie.close
-    (tie.spec returns form-into-requires clear-front-requires same-length same-length-2 returns-2)
+    (tie.spec
+    scratch-fault-requires
+    enum-known-found
+    returns
+    enum-told
+    form-into-requires
+    clear-front-requires
+    same-length
+    same-length-2
+    returns-2)

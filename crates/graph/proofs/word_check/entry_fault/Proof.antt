@@ -1,5 +1,6 @@
 -- `graph::word_check::entry_fault` meets its contract.
 use Rattle.scan.specs.Scan.{orElse, when}
+use Rattle.refusal.specs.Finding.{foundAt}
 use Rattle.sequential.specs.Check.{entryFault}
 use borrow.Author.Needs.{needs}
 use native.Mathlib.Omega.{arith}
@@ -9,7 +10,7 @@ use Rattle.graph.proofs.word_check.entry_fault.Tie as tie
 use Rattle.graph.proofs.word_check.entry_fault.Reads as reads
 use Rattle.graph.proofs.word_check.entry_fault.Lts as lts
 use Rattle.graph.proofs.word_check.key_fails.Reads as key-fails-reads
-use Rattle.net.proofs.refuse.Reads as refuse-reads
+use Rattle.refusal.proofs.refuse.Reads as refuse-reads
 use Rattle.graph.proofs.word_check.value_fails.Reads as value-fails-reads
 
 key-fails-requires : tie.Need-key-fails-requires
@@ -19,7 +20,7 @@ refuse-requires : tie.Need-refuse-requires
 refuse-requires c κs = search needs
 
 returns : tie.Need-returns
-unfolding entryFault orElse when
+unfolding entryFault foundAt orElse when
 returns c = (c .refuse .ensures) ∙ rw (sym (c .before .before .key-fails .ensures) ∙ (c .before .if1 .taken))
 
 value-fails-requires : tie.Need-value-fails-requires
@@ -29,11 +30,11 @@ refuse-requires-2 : tie.Need-refuse-requires-2
 refuse-requires-2 c κs = search needs
 
 returns-2 : tie.Need-returns-2
-unfolding entryFault orElse when
+unfolding entryFault foundAt orElse when
 returns-2 c = (c .refuse2 .ensures) ∙ rw (sym (c .before .before .before .before .key-fails .ensures) ∙ (c .before .before .before .if1 .left), sym (c .before .before .value-fails .ensures) ∙ (c .before .if2 .taken))
 
 returns-3 : tie.Need-returns-3
-unfolding entryFault orElse when
+unfolding entryFault foundAt orElse when
 returns-3 c = rw (sym (c .before .before .before .key-fails .ensures) ∙ (c .before .before .if1 .left), sym (c .before .value-fails .ensures) ∙ (c .if2 .left))
 
 pub entry-fault-spec : {M : Type 1} → statement M

@@ -3,8 +3,8 @@ use Prim.Native.Nat.{_+_, _-_, _<_}
 use mathlib.Core.Bool.{true, false, _&&_, _||_}
 use borrow.Author.Tests.{lt-ltb, le-leb, lt-leb}
 use Rattle.table.specs.Table.{keyAt}
-use Rattle.sequential.specs.Words.{nodeCount, entryCount, entryKey}
-use Rattle.sequential.specs.Check.{keyFails}
+use Rattle.sequential.specs.Words.{entryCount}
+use Rattle.table.specs.Keys.{keyFails}
 use Rattle.sequential.proofs.Words.{shape-out}
 use borrow.Author.Needs.{needs}
 use native.Mathlib.Omega.{arith}
@@ -27,11 +27,11 @@ unfolding entryCount
 shared-slice-read-key c = let s = shape-out _ (c .before .pre .0) in omega arith
 
 returns : tie.Need-returns
-unfolding keyFails entryKey keyAt
+unfolding keyFails keyAt
 returns c = rw (le-leb _ _ (c .if1 .taken))
 
 returns-2 : tie.Need-returns-2
-unfolding keyFails entryKey keyAt
+unfolding keyFails keyAt
 returns-2 c = rw (lt-leb _ _ (c .before .if1 .left), (c .if2 .taken))
 
 add-result : tie.Need-add-result
@@ -47,7 +47,7 @@ unfolding entryCount
 shared-slice-read-result c = let s = shape-out _ (c .before .before .before .before .pre .0) in omega arith
 
 returns-3 : tie.Need-returns-3
-unfolding keyFails entryKey keyAt
+unfolding keyFails keyAt
 returns-3 c = let l : 0 < (c .before .before .before .before .args .i) = omega arith in let e : 2 + ((c .before .before .before .before .args .i) - 1) ≡ 1 + (c .before .before .before .before .args .i) = omega arith in rw (lt-leb _ _ (c .before .before .if1 .left), lt-ltb _ _ l, e)
 
 pub key-fails-spec : {M : Type 1} → statement M

@@ -3,6 +3,7 @@ use mathlib.Core.Bool.{true, false, not, _&&_, _||_}
 use borrow.Author.Tests.{le-ltb, lt-ltb, eq-eqb, ne-eqb, not-true, not-false}
 use Rattle.scan.specs.Scan.{orElse, when}
 use Rattle.sequential.specs.Words.{nodeCount, entryCount}
+use Rattle.refusal.specs.Finding.{foundBy, finding}
 use Rattle.sequential.specs.Check.{shapeFault}
 use borrow.Author.Needs.{needs}
 use native.Mathlib.Omega.{arith}
@@ -11,14 +12,14 @@ use Rattle.graph.proofs.word_check.shape_fault.Statement.{statement}
 use Rattle.graph.proofs.word_check.shape_fault.Tie as tie
 use Rattle.graph.proofs.word_check.shape_fault.Reads as reads
 use Rattle.graph.proofs.word_check.shape_fault.Lts as lts
-use Rattle.net.proofs.refuse.Reads as refuse-reads
+use Rattle.refusal.proofs.refuse.Reads as refuse-reads
 use Rattle.graph.proofs.word_check.sizes_pass.Reads as sizes-pass-reads
 
 refuse-requires : tie.Need-refuse-requires
 refuse-requires c κs = search needs
 
 returns : tie.Need-returns
-unfolding shapeFault orElse when
+unfolding shapeFault finding foundBy orElse when
 returns c = (c .refuse .ensures) ∙ rw (lt-ltb _ _ (c .before .if1 .taken))
 
 shared-slice-read-entries : tie.Need-shared-slice-read-entries
@@ -34,7 +35,7 @@ refuse-requires-2 : tie.Need-refuse-requires-2
 refuse-requires-2 c κs = search needs
 
 returns-2 : tie.Need-returns-2
-unfolding shapeFault orElse when nodeCount entryCount
+unfolding shapeFault finding foundBy orElse when nodeCount entryCount
 returns-2 c = (c .refuse2 .ensures) ∙ rw (le-ltb _ _ (c .before .before .before .before .before .if1 .left), sym (c .before .before .sizes-pass .ensures) ∙ not-true _ (c .before .if2 .taken))
 
 cast-if3 : tie.Need-cast-if3
@@ -50,11 +51,11 @@ refuse-requires-3 : tie.Need-refuse-requires-3
 refuse-requires-3 c κs = search needs
 
 returns-3 : tie.Need-returns-3
-unfolding shapeFault orElse when nodeCount entryCount
+unfolding shapeFault finding foundBy orElse when nodeCount entryCount
 returns-3 c = (c .refuse3 .ensures) ∙ rw (le-ltb _ _ (c .before .before .before .before .before .before .if1 .left), sym (c .before .before .before .sizes-pass .ensures) ∙ not-false _ (c .before .before .if2 .left), ne-eqb _ _ (c .before .if3 .taken))
 
 returns-4 : tie.Need-returns-4
-unfolding shapeFault orElse when nodeCount entryCount
+unfolding shapeFault finding foundBy orElse when nodeCount entryCount
 returns-4 c = rw (le-ltb _ _ (c .before .before .before .before .before .if1 .left), sym (c .before .before .sizes-pass .ensures) ∙ not-false _ (c .before .if2 .left), eq-eqb _ _ (c .if3 .left))
 
 pub shape-fault-spec : {M : Type 1} → statement M

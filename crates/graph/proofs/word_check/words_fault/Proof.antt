@@ -5,12 +5,12 @@ use mathlib.Core.Option.{none}
 use lib.ListN.{getD}
 use Rattle.scan.specs.Scan.{first}
 use Rattle.scan.proofs.First.{first-none, first-more, orElse-next}
-use Rattle.net.specs.Check.{verdictOf}
-use Rattle.net.proofs.Answer.{answer-none, answer-left, answer-first}
+use Rattle.refusal.specs.Verdict.{verdictOf}
+use Rattle.refusal.proofs.Verdicts.{answer-none, answer-left, answer-first}
 use Rattle.net.proofs.Laws.{sizes}
 use Rattle.sequential.specs.Words.{nodeCount, entryCount, arcKeys, keyLimit}
-use Rattle.sequential.specs.Check.{entryFault, wordsFault}
-use Rattle.sequential.proofs.Words.{shape-out}
+use Rattle.sequential.specs.Check.{entryFault}
+use Rattle.sequential.proofs.Words.{shape-out, words-fault}
 use borrow.Author.Needs.{needs}
 use native.Mathlib.Omega.{arith}
 use mathlib.Core.Path.{_≡_, refl, sym, ap, _∙_}
@@ -36,8 +36,7 @@ enum-told : tie.Need-enum-told Inv-loop μ-loop
 enum-told c = search needs
 
 returns : tie.Need-returns Inv-loop μ-loop
-unfolding wordsFault
-returns c = answer-left _ _ _ _ (c .before .before .shape-fault .ensures) (c .enum-told .given .1)
+returns c = rw (words-fault _ _) (answer-left _ _ _ _ (c .before .before .shape-fault .ensures) (c .enum-told .given .1))
 
 enum-told-2 : tie.Need-enum-told-2 Inv-loop μ-loop
 enum-told-2 c = search needs
@@ -82,8 +81,8 @@ enum-told-3 : tie.Need-enum-told-3 Inv-loop μ-loop
 enum-told-3 c = search needs
 
 returns-2 : tie.Need-returns-2 Inv-loop μ-loop
-unfolding wordsFault entryCount arcKeys keyLimit nodeCount
-returns-2 c = rw (← (c .before .before .before .before .before .before .before .transitions .ensures), ← (c .before .before .before .before .before .before .places .ensures)) (answer-first _ _ _ _ _ (c .before .before .before .before .loop .inv .1) (c .before .before .entry-fault .ensures) (c .enum-told3 .given .1) (omega arith) ∙ ap verdictOf (sym (orElse-next _ _ (answer-none _ (sym (c .before .before .before .before .before .before .before .before .before .before .before .shape-fault .ensures) ∙ (c .before .before .before .before .before .before .before .before .before .enum-told2 .given .1))))))
+unfolding entryCount arcKeys keyLimit nodeCount
+returns-2 c = rw (words-fault _ _, ← (c .before .before .before .before .before .before .before .transitions .ensures), ← (c .before .before .before .before .before .before .places .ensures)) (answer-first _ _ _ _ _ (c .before .before .before .before .loop .inv .1) (c .before .before .entry-fault .ensures) (c .enum-told3 .given .1) (omega arith) ∙ ap verdictOf (sym (orElse-next _ _ (answer-none _ (sym (c .before .before .before .before .before .before .before .before .before .before .before .shape-fault .ensures) ∙ (c .before .before .before .before .before .before .before .before .before .enum-told2 .given .1))))))
 
 enum-told-4 : tie.Need-enum-told-4 Inv-loop μ-loop
 enum-told-4 c = search needs
@@ -99,8 +98,8 @@ loop-again : tie.Need-loop-again Inv-loop μ-loop
 loop-again c = (omega arith, first-more _ _ (c .before .before .before .before .loop .inv .1) (answer-none _ (sym (c .before .before .entry-fault .ensures) ∙ (c .enum-told4 .given .1))))
 
 returns-3 : tie.Need-returns-3 Inv-loop μ-loop
-unfolding wordsFault entryCount arcKeys keyLimit nodeCount
-returns-3 c = rw (← (c .before .before .before .before .transitions .ensures), ← (c .before .before .before .places .ensures)) (let s = answer-none _ (sym (c .before .before .before .before .before .before .before .before .shape-fault .ensures) ∙ (c .before .before .before .before .before .before .enum-told2 .given .1)) in let e : (c .before .loop .i) ≡ getD (c .before .before .before .before .before .before .before .before .before .before .before .args .sheet .now) 1 0 = omega arith in ap verdictOf (sym (orElse-next _ _ s ∙ rw e at (c .before .loop .inv .1))))
+unfolding entryCount arcKeys keyLimit nodeCount
+returns-3 c = rw (words-fault _ _, ← (c .before .before .before .before .transitions .ensures), ← (c .before .before .before .places .ensures)) (let s = answer-none _ (sym (c .before .before .before .before .before .before .before .before .shape-fault .ensures) ∙ (c .before .before .before .before .before .before .enum-told2 .given .1)) in let e : (c .before .loop .i) ≡ getD (c .before .before .before .before .before .before .before .before .before .before .before .args .sheet .now) 1 0 = omega arith in ap verdictOf (sym (orElse-next _ _ s ∙ rw e at (c .before .loop .inv .1))))
 
 pub words-fault-spec : {M : Type 1} → statement M
 words-fault-spec =

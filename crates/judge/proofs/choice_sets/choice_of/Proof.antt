@@ -8,7 +8,8 @@ use Rattle.scan.specs.Scan.{any}
 use Rattle.scan.proofs.Every.{any-none-yet, any-more}
 use Rattle.scan.proofs.Least.{least-found, least-none}
 use Rattle.automaton.specs.Equivalence.{inClass, leaderBy}
-use Rattle.sequential.specs.Petri.{petriNet, sameChoice}
+use Rattle.sequential.specs.Petri.{petriNet}
+use Rattle.sequential.specs.Tests.{sameChoice}
 use Rattle.judge.specs.Rows.{choiceOf}
 use Rattle.judge.proofs.choice_sets.choice_of.Statement.{statement}
 use Rattle.judge.proofs.choice_sets.choice_of.Tie as tie

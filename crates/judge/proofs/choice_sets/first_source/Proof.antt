@@ -8,7 +8,8 @@ use Rattle.scan.specs.Scan.{any}
 use Rattle.scan.proofs.Every.{any-none-yet, any-more}
 use Rattle.scan.proofs.Least.{least-found, least-none}
 use Rattle.net.specs.Net.{transitionCount}
-use Rattle.sequential.specs.Petri.{petriNet, isSource}
+use Rattle.sequential.specs.Petri.{petriNet}
+use Rattle.sequential.specs.Tests.{isSource}
 use Rattle.judge.specs.Rows.{firstSource}
 use Rattle.judge.proofs.choice_sets.first_source.Statement.{statement}
 use Rattle.judge.proofs.choice_sets.first_source.Tie as tie

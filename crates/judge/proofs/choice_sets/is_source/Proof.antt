@@ -9,7 +9,8 @@ use Rattle.scan.specs.Scan.{all}
 use Rattle.scan.proofs.Every.{all-in, all-more, all-fails}
 use Rattle.net.specs.Net.{placeCount}
 use Rattle.net.proofs.Laws.{sizes}
-use Rattle.sequential.specs.Petri.{petriNet, takesNothing, isSource}
+use Rattle.sequential.specs.Petri.{petriNet}
+use Rattle.sequential.specs.Tests.{takesNothing, isSource}
 use Rattle.judge.proofs.NetRows.{nothing-told}
 use Rattle.judge.proofs.choice_sets.is_source.Statement.{statement}
 use Rattle.judge.proofs.choice_sets.is_source.Tie as tie

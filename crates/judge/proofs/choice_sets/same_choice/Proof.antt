@@ -9,7 +9,8 @@ use Rattle.scan.specs.Scan.{all}
 use Rattle.scan.proofs.Every.{all-in, all-more, all-fails}
 use Rattle.net.specs.Net.{placeCount}
 use Rattle.net.proofs.Laws.{sizes}
-use Rattle.sequential.specs.Petri.{petriNet, takesAlike, sameChoice}
+use Rattle.sequential.specs.Petri.{petriNet}
+use Rattle.sequential.specs.Tests.{takesAlike, sameChoice}
 use Rattle.judge.proofs.NetRows.{alike-told}
 use Rattle.judge.proofs.choice_sets.same_choice.Statement.{statement}
 use Rattle.judge.proofs.choice_sets.same_choice.Tie as tie

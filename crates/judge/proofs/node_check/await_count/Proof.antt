@@ -5,7 +5,7 @@ use Rattle.scan.specs.Scan.{bit, count}
 use Rattle.scan.proofs.Count.{count-more, count-le}
 use Rattle.sequential.specs.Petri.{petriNet}
 use Rattle.sequential.specs.Words.{nodeCount, graph}
-use Rattle.sequential.specs.Schedule.{isAwait}
+use Rattle.sequential.specs.Tests.{isAwait}
 use Rattle.sequential.specs.Check.{awaitCount}
 use Rattle.graph.proofs.Readable.{known}
 use borrow.Author.Needs.{needs}

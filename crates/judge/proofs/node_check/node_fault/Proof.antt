@@ -14,7 +14,7 @@ use Rattle.net.proofs.transitions.Reads as transitions-reads
 use Rattle.judge.proofs.choice_sets.are_choice.Reads as are-choice-reads
 use Rattle.judge.proofs.choice_sets.first_present.Reads as first-present-reads
 use Rattle.judge.proofs.node_rows.arcs_from.Reads as arcs-from-reads
-use Rattle.net.proofs.refuse.Reads as refuse-reads
+use Rattle.refusal.proofs.refuse.Reads as refuse-reads
 
 arcs-from-requires : tie.Need-arcs-from-requires
 arcs-from-requires c κs = ((c .before .before .pre .0), (c .before .before .pre .1 .1))

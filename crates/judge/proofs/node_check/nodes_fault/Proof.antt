@@ -3,10 +3,11 @@ use mathlib.Core.Bool.{not}
 use Prim.Native.Nat.{_-_, _≤_, _<_}
 use mathlib.Core.Option.{none}
 use lib.ListN.{getD}
+use Rattle.refusal.specs.Finding.{lineFinds, foundAt}
 use Rattle.scan.specs.Scan.{orElse, when, first}
 use Rattle.scan.proofs.First.{when-hit, when-miss, first-none, first-more, orElse-next}
-use Rattle.net.specs.Check.{verdictOf}
-use Rattle.net.proofs.Answer.{answer-none, answer-left, answer-first}
+use Rattle.refusal.specs.Verdict.{verdictOf}
+use Rattle.refusal.proofs.Verdicts.{answer-none, answer-left, answer-first}
 use Rattle.sequential.specs.Petri.{petriNet}
 use Rattle.sequential.specs.Words.{nodeCount}
 use Rattle.sequential.specs.Check.{nodeFault, rootFault}
@@ -20,7 +21,7 @@ use Rattle.judge.proofs.node_check.nodes_fault.Reads as reads
 use Rattle.judge.proofs.node_check.nodes_fault.Lts as lts
 use Rattle.judge.proofs.node_check.is_await.Reads as is-await-reads
 use Rattle.judge.proofs.node_check.node_fault.Reads as node-fault-reads
-use Rattle.net.proofs.refuse.Reads as refuse-reads
+use Rattle.refusal.proofs.refuse.Reads as refuse-reads
 
 abbrev Inv-loop : tie.InvT-loop
 Inv-loop net sheet table source nodes n₀ n = (n ≤ nodes) × (first (nodeFault (petriNet net) sheet) n ≡ none)
@@ -62,14 +63,14 @@ unfolding nodeCount
 is-await-requires c κs = let k = known _ _ ((c .before .before .before .before .before .pre) .0) in (((c .before .before .before .before .before .pre) .0), (((c .before .before .before .before .before .pre) .1 .0), (((c .before .before .before .before .before .pre) .1 .1), k .some-node)))
 
 returns-2 : tie.Need-returns-2 Inv-loop μ-loop
-unfolding nodeCount rootFault
+unfolding nodeCount rootFault lineFinds foundAt
 returns-2 c = let e : ((c .before .before .before .loop) .n) ≡ getD ((c .before .before .before .before .before .before .before .args) .sheet .now) 0 0 = omega arith in ap verdictOf (sym (orElse-next _ _ (rw e at ((c .before .before .before .loop) .inv .1)) ∙ when-miss _ _ (ap not (sym ((c .before .is-await) .ensures) ∙ ((c .if1) .taken)))))
 
 refuse-requires : tie.Need-refuse-requires Inv-loop μ-loop
 refuse-requires c κs = search needs
 
 returns-3 : tie.Need-returns-3 Inv-loop μ-loop
-unfolding nodeCount rootFault
+unfolding nodeCount rootFault lineFinds foundAt
 returns-3 c = let e : ((c .before .before .before .before .loop) .n) ≡ getD ((c .before .before .before .before .before .before .before .before .args) .sheet .now) 0 0 = omega arith in ((c .refuse) .ensures) ∙ ap verdictOf (sym (orElse-next _ _ (rw e at ((c .before .before .before .before .loop) .inv .1)) ∙ when-hit _ _ (ap not (sym ((c .before .before .is-await) .ensures) ∙ ((c .before .if1) .left)))))
 
 pub nodes-fault-spec : {M : Type 1} → statement M

@@ -11,7 +11,7 @@ use Rattle.table.specs.Table.{valueAt, Rising}
 use Rattle.automaton.specs.Equivalence.{sameClass}
 use Rattle.sequential.specs.Petri.{petriNet}
 use Rattle.sequential.specs.Words.{nodeCount, entryCount, entryValue}
-use Rattle.sequential.specs.Clauses.{WordsPass}
+use Rattle.sequential.specs.Known.{WordsHold}
 use Rattle.sequential.proofs.Words.{words-rise}
 use Rattle.graph.proofs.Readable.{Sizes, known, words}
 use Rattle.minimize.specs.Tables.{classIn}
@@ -45,7 +45,7 @@ module _ (c : tie.Then2 Inv-loop μ-loop) where
   sizes : Sizes net sheet
   sizes = known net sheet (c .before .before .before .before .before .before .before .before .before .before .pre .0)
 
-  pass : WordsPass (petriNet net) sheet
+  pass : WordsHold (petriNet net) sheet
   pass = words net sheet (c .before .before .before .before .before .before .before .before .before .before .pre .0)
 
   up : Rising sheet 2 (entryCount sheet)

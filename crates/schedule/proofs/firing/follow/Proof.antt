@@ -4,10 +4,10 @@ use mathlib.Core.Option.{none}
 use lib.ListN.{length}
 use Rattle.scan.specs.Scan.{first}
 use Rattle.scan.proofs.First.{first-none, first-more, first-hit}
-use Rattle.net.specs.Check.{verdictOf}
+use Rattle.refusal.specs.Verdict.{verdictOf}
 use Rattle.sequential.specs.Petri.{petriNet}
 use Rattle.sequential.specs.Words.{nodeCount, entryCount}
-use Rattle.schedule.specs.Calls.{nodeAfter, firingFault, runFault}
+use Rattle.schedule.specs.Firing.{nodeAfter, firingFault, runFault}
 use Rattle.graph.proofs.Readable.{known, words}
 use Rattle.schedule.proofs.Walks.{refused-accepted, found-at, found-nothing, entry-low, target-node, after-none, after-more, firing-passes, firing-fails}
 use borrow.Author.Needs.{needs}
@@ -19,7 +19,7 @@ use Rattle.schedule.proofs.firing.follow.Reads as reads
 use Rattle.schedule.proofs.firing.follow.Lts as lts
 use Rattle.schedule.proofs.firing.arc_entry.Reads as arc-entry-reads
 use Rattle.schedule.proofs.firing.arc_target.Reads as arc-target-reads
-use Rattle.net.proofs.refuse.Reads as refuse-reads
+use Rattle.refusal.proofs.refuse.Reads as refuse-reads
 
 abbrev Inv-loop : tie.InvT-loop
 Inv-loop net sheet firings node₀ i₀ node i = (i ≤ length firings) × (node ≡ nodeAfter (petriNet net) sheet firings i) × (node < nodeCount sheet) × (first (firingFault (petriNet net) sheet firings) i ≡ none)

@@ -1,22 +1,20 @@
--- `schedule::firing::step` meets its contract: the counts of the arc's target are what firing gives.
-use Rattle.net.specs.Check.{verdictOf}
-use Rattle.net.proofs.Answer.{answer-none, answer-left}
+-- `schedule::firing::step` meets its contract.
+use mathlib.Core.Path.{_≡_, refl, sym, ap, _∙_}
+use Rattle.refusal.proofs.Verdicts.{answer-none}
 use Rattle.sequential.specs.Words.{entryCount}
-use Rattle.schedule.specs.Calls.{stepFault}
 use Rattle.graph.proofs.Readable.{known, words}
 use Rattle.judge.proofs.Judged.{accepted-readable}
-use Rattle.schedule.proofs.Walks.{found-at, found-nothing, entry-low, target-node, walker-node, next-refused, step-refused, step-passes, step-lands}
+use Rattle.schedule.proofs.Walks.{found-at, found-nothing, entry-low, target-node, walker-node, walker-refused, not-offered, follows-on}
 use borrow.Author.Needs.{needs}
-use mathlib.Core.Path.{sym, ap, _∙_}
 use Rattle.schedule.proofs.firing.step.Statement.{statement}
 use Rattle.schedule.proofs.firing.step.Tie as tie
 use Rattle.schedule.proofs.firing.step.Reads as reads
 use Rattle.schedule.proofs.firing.step.Lts as lts
+use Rattle.refusal.proofs.refuse.Reads as refuse-reads
 use Rattle.schedule.proofs.firing.arc_entry.Reads as arc-entry-reads
 use Rattle.schedule.proofs.firing.arc_target.Reads as arc-target-reads
 use Rattle.schedule.proofs.firing.walker_fault.Reads as walker-fault-reads
 use Rattle.schedule.proofs.node_rows.marking.Reads as marking-reads
-use Rattle.net.proofs.refuse.Reads as refuse-reads
 
 walker-fault-requires : tie.Need-walker-fault-requires
 walker-fault-requires c κs = accepted-readable _ _ (c .before .before .pre)
@@ -25,8 +23,7 @@ enum-told : tie.Need-enum-told
 enum-told c = search needs
 
 returns : tie.Need-returns
-unfolding stepFault
-returns c = (answer-left _ _ _ _ (c .before .before .walker-fault .ensures) (c .enum-told .given .1), next-refused _ _ _ _ _ _ (c .enum-told .given .1))
+returns c = walker-refused _ _ _ _ (c .before .before .before .before .before .pre) _ _ (c .before .before .walker-fault .ensures) (c .enum-told .given .1)
 
 enum-told-2 : tie.Need-enum-told-2
 enum-told-2 c = search needs
@@ -45,19 +42,23 @@ enum-known-i c = search needs
 
 arc-target-requires : tie.Need-arc-target-requires
 unfolding entryCount
-arc-target-requires c κs = (known _ _ (accepted-readable _ _ (c .before .before .before .before .before .before .before .before .before .pre)) .long, entry-low _ _ _ _ _ (found-at _ _ (sym (c .before .before .before .arc-entry .ensures) ∙ (c .before .i .given .1))))
+arc-target-requires c κs =
+    (known _ _ (accepted-readable _ _ (c .before .before .before .before .before .before .before .before .before .pre)) .long, entry-low _ _ _ _ _ (found-at _ _ (sym (c .before .before .before .arc-entry .ensures) ∙ (c .before .i .given .1))))
 
 marking-requires : tie.Need-marking-requires
-marking-requires c κs = let r = accepted-readable _ _ (c .before .before .before .before .before .before .before .before .before .before .pre) in let f = answer-none _ (sym (c .before .before .before .before .before .before .before .walker-fault .ensures) ∙ (c .before .before .before .before .before .enum-told2 .given .1)) in
-    (r, rw (c .arc-target .ensures) (target-node _ _ _ _ (known _ _ r .some-transition) (words _ _ r) (walker-node _ _ _ f) _ (found-at _ _ (sym (c .before .before .before .before .arc-entry .ensures) ∙ (c .before .before .i .given .1)))))
+marking-requires c κs =
+    let r = accepted-readable _ _ (c .before .before .before .before .before .before .before .before .before .before .pre) in
+    let f = answer-none _ (sym (c .before .before .before .before .before .before .before .walker-fault .ensures) ∙ (c .before .before .before .before .before .enum-told2 .given .1)) in
+    let e = found-at _ _ (sym (c .before .before .before .before .arc-entry .ensures) ∙ (c .before .before .i .given .1)) in
+    (r, rw (c .arc-target .ensures) (target-node _ _ _ _ (known _ _ r .some-transition) (words _ _ r) (walker-node _ _ _ f) _ e))
 
 returns-2 : tie.Need-returns-2
-returns-2 c = let f = answer-none _ (sym (c .before .before .before .before .before .before .walker-fault .ensures) ∙ (c .before .before .before .before .enum-told2 .given .1)) in
-    ((c .refuse .ensures) ∙ ap verdictOf (sym (step-refused _ _ _ _ f (found-nothing _ (sym (c .before .before .before .arc-entry .ensures) ∙ (c .before .enum-told3 .given .1))))), next-refused _ _ _ _ _ _ (c .refuse .ensures))
+returns-2 c =
+    not-offered _ _ _ _ (c .before .before .before .before .before .before .before .before .before .pre) (answer-none _ (sym (c .before .before .before .before .before .before .walker-fault .ensures) ∙ (c .before .before .before .before .enum-told2 .given .1))) _ (c .refuse .ensures) (found-nothing _ (sym (c .before .before .before .arc-entry .ensures) ∙ (c .before .enum-told3 .given .1)))
 
 returns-3 : tie.Need-returns-3
-returns-3 c = let f = answer-none _ (sym (c .before .before .before .before .before .before .before .before .walker-fault .ensures) ∙ (c .before .before .before .before .before .before .enum-told2 .given .1)) in let e = found-at _ _ (sym (c .before .before .before .before .before .arc-entry .ensures) ∙ (c .before .before .before .i .given .1)) in
-    (ap verdictOf (sym (step-passes _ _ _ _ f _ e)), rw ((c .marking .ensures), (c .before .arc-target .ensures)) (step-lands _ _ _ _ (c .before .before .before .before .before .before .before .before .before .before .before .pre) f _ e))
+returns-3 c =
+    follows-on _ _ _ _ (c .before .before .before .before .before .before .before .before .before .before .before .pre) (answer-none _ (sym (c .before .before .before .before .before .before .before .before .walker-fault .ensures) ∙ (c .before .before .before .before .before .before .enum-told2 .given .1))) _ _ _ (found-at _ _ (sym (c .before .before .before .before .before .arc-entry .ensures) ∙ (c .before .before .before .i .given .1))) (c .before .arc-target .ensures) (c .marking .ensures)
 
 pub step-spec : {M : Type 1} → statement M
 step-spec =

@@ -6,10 +6,11 @@ use lib.ListN.{getD}
 use Rattle.scan.specs.Scan.{first}
 use Rattle.scan.proofs.First.{first-none, first-more}
 use Rattle.scan.proofs.Tabulate.{tabulate-at}
-use Rattle.net.specs.Check.{verdictOf}
+use Rattle.refusal.specs.Verdict.{verdictOf}
 use Rattle.sequential.specs.Petri.{petriNet}
 use Rattle.sequential.specs.Words.{nodeCount}
-use Rattle.schedule.specs.Calls.{walker, countFault}
+use Rattle.schedule.specs.Walker.{walker}
+use Rattle.schedule.specs.Firing.{countFault}
 use Rattle.graph.proofs.Readable.{known}
 use Rattle.schedule.proofs.Walks.{no-such-node, count-right, astray-at, walker-right}
 use borrow.Author.Needs.{needs}
@@ -20,7 +21,7 @@ use Rattle.schedule.proofs.firing.walker_fault.Tie as tie
 use Rattle.schedule.proofs.firing.walker_fault.Reads as reads
 use Rattle.schedule.proofs.firing.walker_fault.Lts as lts
 use Rattle.schedule.proofs.node_rows.marking.Reads as marking-reads
-use Rattle.net.proofs.refuse.Reads as refuse-reads
+use Rattle.refusal.proofs.refuse.Reads as refuse-reads
 
 abbrev Inv-loop : tie.InvT-loop
 Inv-loop net sheet n counts held p₀ p = (p ≤ 32) × (first (countFault (petriNet net) sheet (walker n counts)) p ≡ none)

@@ -1,0 +1,72 @@
+-- What is promised of every call, as statements: what it answers, what it leaves, and what it does not depend on. proofs/Demands has the terms.
+use Prim.Native.Nat.{ℕ, _+_, _≤_, _<_}
+use mathlib.Core.Path.{_≡_}
+use mathlib.Core.Logic.{_↔_}
+use mathlib.Core.List.{List, _∷_, _++_}
+use lib.ListN.{length, getD, take, drop, replicate}
+use Rattle.refusal.specs.Refusal.{told}
+use Rattle.refusal.specs.Checks.{Check, once, AllPass, FirstFails}
+use Rattle.refusal.specs.declared.Refusal.{Refusal}
+use Rattle.call.specs.Call.{Core, CallDone, buffer}
+
+-- ---- an answer as plain numbers
+
+-- its number, and the i-th of the call's own, which stand behind number, kind and position
+abbrev pub number : List ℕ → ℕ
+number plain = getD plain 0 0
+
+abbrev pub own : List ℕ → ℕ → ℕ
+own plain i = getD plain (3 + i) 0
+
+-- all that a call checks: scratch before the rest, which are the checks of its words and, where it writes, at the end whether the result fits
+abbrev pub callChecks : ℕ → List ℕ → List Check → List Check
+callChecks limit scratch rest = once (limit ≤ length scratch) 21 ∷ rest
+
+-- an answer with k numbers of its own: 0 exactly where all checks pass, else the one that fails first, and nothing beside it
+pub record ByChecks (checks : List Check) (plain : List ℕ) (k : ℕ) : Type 0 where
+  pub zero : (number plain ≡ 0) ↔ AllPass checks
+  pub named : (number plain ≡ 0 → ⊥) → (r : Refusal) × FirstFails checks r × (plain ≡ told r k)
+  pub this : (r : Refusal) → FirstFails checks r → plain ≡ told r k
+
+-- ---- what a call leaves
+
+-- scratch that is too small is as it was; all other scratch is zero up to the limit, and as it was from there on
+pub record ScratchLeft (limit number : ℕ) (scratch scratch′ : List ℕ) : Type 0 where
+  pub small : (number ≡ 21) ↔ (length scratch < limit)
+  pub kept : number ≡ 21 → scratch′ ≡ scratch
+  pub cleared : (number ≡ 21 → ⊥) → scratch′ ≡ replicate limit 0 ++ drop limit scratch
+
+-- A call: its limit of scratch; its answer as plain numbers, k of them its own; what it checks for given scratch; what it may change, as it was
+-- before; and its postcondition, of scratch before, the answer, what it may change and scratch after.
+module _ {Answer Left : Type 0} (limit : ℕ) (plain : Answer → List ℕ) (k : ℕ) (checks : List ℕ → List Check) (before : Left) (Done : List ℕ → Answer → Left → List ℕ → Type 0) where
+  pub record EveryCall : Type 0 where
+    -- there is a reply to all that can be lent
+    pub replies : (s : List ℕ) → (a : Answer) × (left : Left) × (s′ : List ℕ) × Done s a left s′
+    -- and only one, whatever earlier calls left in scratch
+    pub one : (s t s′ t′ : List ℕ) (a b : Answer) (left right : Left) → length s ≡ length t → Done s a left s′ → Done t b right t′ → (a ≡ b) × (left ≡ right)
+    -- it answers by its checks
+    pub by-numbers : (s s′ : List ℕ) (a : Answer) (left : Left) → Done s a left s′ → ByChecks (checks s) (plain a) k
+    -- a refusal changes nothing
+    pub keeps : (s s′ : List ℕ) (a : Answer) (left : Left) → Done s a left s′ → (number (plain a) ≡ 0 → ⊥) → left ≡ before
+    -- but scratch
+    pub scratch : (s s′ : List ℕ) (a : Answer) (left : Left) → Done s a left s′ → ScratchLeft limit (number (plain a)) s s′
+
+-- ---- what a call does not depend on
+
+-- both hold so many words, or neither does, as where they are of the same length
+abbrev pub Alike : ℕ → List ℕ → List ℕ → Type 0
+Alike needed a b = (needed ≤ length a) ↔ (needed ≤ length b)
+
+module _ {Answer : Type 0} (core : Core Answer) where
+  -- what scratch and the output buffers held: neither the answer nor a written word tells
+  abbrev pub Independent : ℕ → (Answer → List ℕ) → Type 0
+  Independent limit plain = (outs₁ outs₂ outs₁′ outs₂′ : List (List ℕ)) (s₁ s₂ s₁′ s₂′ : List ℕ) (a₁ a₂ : Answer)
+      → Alike limit s₁ s₂ → ((i : ℕ) → Alike (length (buffer (core .results) i)) (buffer outs₁ i) (buffer outs₂ i))
+      → CallDone limit core outs₁ s₁ a₁ outs₁′ s₁′ → CallDone limit core outs₂ s₂ a₂ outs₂′ s₂′
+      → (a₁ ≡ a₂)
+      × (number (plain a₁) ≡ 0 → (i : ℕ) → take (length (buffer (core .results) i)) (buffer outs₁′ i) ≡ take (length (buffer (core .results) i)) (buffer outs₂′ i))
+
+  -- the limit: from scratch that suffices, a call with another limit gives the same answer and the same output
+  abbrev pub SameFromAnyLimit : ℕ → ℕ → Type 0
+  SameFromAnyLimit limit₁ limit₂ = (outs outs₁′ outs₂′ : List (List ℕ)) (s₁ s₂ s₁′ s₂′ : List ℕ) (a₁ a₂ : Answer) → limit₁ ≤ length s₁ → limit₂ ≤ length s₂
+      → CallDone limit₁ core outs s₁ a₁ outs₁′ s₁′ → CallDone limit₂ core outs s₂ a₂ outs₂′ s₂′ → (a₁ ≡ a₂) × (outs₁′ ≡ outs₂′)

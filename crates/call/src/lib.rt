@@ -1,0 +1,26 @@
+// What every call asks of what it is lent: enough scratch before all else, and room for its result after all else.
+ghost use mathlib.Core.Path.{_≡_};
+ghost use Rattle.call.specs.Call.{scratchFault, roomFault};
+use refusal::Position;
+use refusal::Refusal;
+use refusal::Verdict;
+
+// Refusal 21: fewer words of scratch than the call's limit.
+pub fn scratch_fault(limit: usize, lent: usize) -> Verdict
+    ensures { λ r. ⌜ r ≡ scratchFault limit lent ⌝ }
+{
+    if lent < limit {
+        return refusal::refuse(Refusal::SMALL_SCRATCH, Position::Nothing);
+    }
+    Verdict::Accepted
+}
+
+// Refusal 22: an output buffer of fewer words than are to be written to it.
+pub fn output_fault(lent: usize, needed: usize) -> Verdict
+    ensures { λ r. ⌜ r ≡ roomFault lent needed ⌝ }
+{
+    if lent < needed {
+        return refusal::refuse(Refusal::SMALL_OUTPUT, Position::Nothing);
+    }
+    Verdict::Accepted
+}

@@ -1,0 +1,62 @@
+-- A check that answered 0: what it says of the net and of the schedule, and that there is one.
+use Prim.Native.Nat.{ℕ, _≤_}
+use native.Mathlib.Omega.{arith}
+use mathlib.Core.Path.{_≡_, refl, sym, ap, _∙_}
+use mathlib.Core.Logic.{_↔_}
+use mathlib.Core.List.{List, [], _∷_}
+use lib.ListN.{length, replicate, length-replicate}
+use Rattle.refusal.specs.declared.Verdict.the-variants as verdict
+use Rattle.refusal.proofs.Judges.{pass-append}
+use Rattle.net.specs.Checks.{netChecks, IsNet}
+use Rattle.net.proofs.Checks.{net-judged}
+use Rattle.net.proofs.Laws.{sizes}
+use Rattle.sequential.specs.Petri.{petriNet}
+use Rattle.sequential.specs.Schedule.{IsSchedule}
+use Rattle.sequential.specs.Checks.{sheetChecks, WordsPass}
+use Rattle.sequential.specs.Check.{scheduleReply}
+use Rattle.sequential.proofs.Words.{words-hold, words-pass}
+use Rattle.sequential.proofs.Accepted.{schedule-judged, accepted-exactly}
+use Rattle.judge.specs.Answer.{plainCheck}
+use Rattle.judge.specs.declared.CheckAnswer.{CheckAnswer}
+use Rattle.call.specs.Demands.{number}
+use Rattle.call.proofs.Judged.{words-judged-none}
+use Rattle.call.proofs.Done.{by-checks, done-zero}
+use Rattle.call.proofs.Demands.{every-call-none}
+use Rattle.schedule.specs.Calls.{scratchLimit, checkCore, CheckDone}
+use Rattle.schedule.proofs.Done.{check-law}
+use Rattle.demands.specs.Terms.{said, Accepted}
+use Rattle.demands.specs.Demand3.{AlwaysAccepted}
+
+-- accepted exactly where the net is one, the words pass and the graph that they say is a schedule
+pub reply-passes : (net sheet : List ℕ) → (scheduleReply net sheet ≡ verdict.Accepted) ↔ (IsNet net × WordsPass (petriNet net) sheet × IsSchedule (petriNet net) (said net sheet))
+reply-passes net sheet = (
+  λ h. let a = accepted-exactly net sheet .0 h in (net-judged net .accepts .0 (a .net-accepted), words-pass (petriNet net) sheet (a .words), a .schedule),
+  λ (n, w, s). accepted-exactly net sheet .1 (record { net-accepted = net-judged net .accepts .1 n; words = words-hold (petriNet net) sheet w; schedule = s }),
+)
+
+pub check-zero : (net sheet s s′ : List ℕ) (a : CheckAnswer) → CheckDone net sheet s a s′
+    → (number (plainCheck a) ≡ 0) ↔ ((scratchLimit ≤ length s) × (scheduleReply net sheet ≡ verdict.Accepted))
+check-zero net sheet s s′ a d =
+    let j = schedule-judged net sheet in
+    let (f, g) = by-checks (check-law net sheet) d (words-judged-none (checkCore net sheet) [] j refl) .zero in
+    (λ z. let (l, p) = f z in (l, j .accepts .1 p), λ (l, h). g (l, j .accepts .0 h))
+
+pub accepted-reply : (net sheet : List ℕ) → Accepted net sheet → scheduleReply net sheet ≡ verdict.Accepted
+accepted-reply net sheet a = check-zero net sheet _ _ _ (a .done) .0 (a .zero) .1
+
+pub always-accepted : (net sheet : List ℕ) → scheduleReply net sheet ≡ verdict.Accepted → AlwaysAccepted net sheet
+always-accepted net sheet h s s′ a l d = check-zero net sheet s s′ a d .1 (l, h)
+
+-- scratch of no more words than are asked
+unfoldable pub some-scratch : List ℕ
+some-scratch = replicate scratchLimit 0
+
+pub enough-scratch : scratchLimit ≤ length some-scratch
+unfolding some-scratch
+enough-scratch = omega (arith, length-replicate {A = ℕ} scratchLimit 0)
+
+-- there is such a check
+pub reply-accepted : (net sheet : List ℕ) → scheduleReply net sheet ≡ verdict.Accepted → Accepted net sheet
+reply-accepted net sheet h =
+    let (a, u, s′, d) = every-call-none (check-law net sheet) {limit = scratchLimit} refl .replies some-scratch in
+    record { scratch = some-scratch; scratch′ = s′; answer = a; done = d; zero = check-zero net sheet some-scratch s′ a d .1 (enough-scratch, h) }

@@ -1,0 +1,106 @@
+-- The rows of worked examples hold: one computation of the definitions for a table, and one law that carries it to the calls.
+use Prim.Native.Nat.{ℕ, _≤_}
+use native.Mathlib.Omega.{arith}
+use mathlib.Core.Path.{_≡_, refl, sym, ap, _∙_}
+use mathlib.Core.List.{List, [], _∷_}
+use lib.ListN.{length, take}
+use Rattle.scan.specs.Scan.{orElse, when, found, first, all, any, bit, count, passing, least, tabulate}
+use Rattle.table.specs.Table.{keyAt, valueAt, entryWith, entryOf}
+use Rattle.table.specs.Keys.{keyFails}
+use Rattle.refusal.specs.Verdict.{andThen}
+use Rattle.refusal.specs.Finding.{foundAt, foundBy, finding}
+use Rattle.refusal.specs.declared.Verdict.{Verdict}
+use Rattle.refusal.specs.declared.Verdict.the-variants as verdict
+use Rattle.automaton.specs.Reach.{arcInto, arcFrom, reachedIn, leadsIn}
+use Rattle.automaton.specs.Equivalence.{equalLabels, agree, sameIn, same}
+use Rattle.automaton.specs.BreadthFirst.{classAt, indexOf, enter, expand, explored, order}
+use Rattle.automaton.specs.Quotient.{merged, minimalBy, minimal}
+use Rattle.net.specs.Net.{placeCount, transitionCount, keyLimit, entryWeight, takenKey, putKey, startKey, weightAt, isPlace, isTransition, taken, put, start, takesNothing, isSource, hasSource, entryCount}
+use Rattle.net.specs.Check.{sizesPass, weightFails, netReply}
+use Rattle.sequential.specs.Petri as petri
+use Rattle.sequential.specs.Words as words
+use Rattle.sequential.specs.Tests as tests
+use Rattle.sequential.specs.Check as check
+use Rattle.sequential.specs.Check.{scheduleReply}
+use Rattle.judge.specs.Answer.{countsOf, plainCheck}
+use Rattle.judge.specs.declared.CheckAnswer.{CheckAnswer}
+use Rattle.call.specs.Call.{outputFault, wordsVerdict, answerOf}
+use Rattle.call.specs.Demands.{own}
+use Rattle.call.proofs.Laws.{call-enough}
+use Rattle.call.proofs.Done.{own-refused}
+use Rattle.schedule.specs.Calls.{scratchLimit, checkCore, CheckDone}
+use Rattle.minimal.specs.Encoding as encoding
+use Rattle.minimal.specs.Minimal.{minimalForm}
+use Rattle.minimal.specs.Form.{plainForm, FormDone}
+use Rattle.minimal.specs.declared.FormAnswer.{FormAnswer}
+use Rattle.minimal.proofs.Minimal.{form-short}
+use Rattle.minimal.proofs.Done.{form-law}
+use Rattle.demands.specs.Examples.{Row, starred, further, Holds, AllHold, Starred, FurtherRows}
+use Rattle.demands.proofs.Demand3.{form-zero, made-form}
+
+-- ---- what a row computes
+
+abbrev pub answered : Row → List ℕ
+answered r = plainCheck (answerOf (checkCore (r .net) (r .sheet)) (scheduleReply (r .net) (r .sheet)))
+
+-- the minimal form of an accepted one
+abbrev pub formWhere : Verdict → List ℕ → List ℕ → List ℕ
+formWhere verdict.Accepted net sheet = minimalForm net sheet
+formWhere (verdict.Refused r) net sheet = []
+
+abbrev pub formed : Row → List ℕ
+formed r = formWhere (scheduleReply (r .net) (r .sheet)) (r .net) (r .sheet)
+
+-- ---- and what the calls answer
+
+nothing-more : (v : Verdict) → andThen v verdict.Accepted ≡ v
+nothing-more verdict.Accepted = refl
+nothing-more (verdict.Refused r) = refl
+
+check-answers : (net sheet s s′ : List ℕ) (a : CheckAnswer) → scratchLimit ≤ length s → CheckDone net sheet s a s′ → a ≡ answerOf (checkCore net sheet) (scheduleReply net sheet)
+unfolding wordsVerdict outputFault
+check-answers net sheet s s′ a l d = d .reply ∙ ap (answerOf (checkCore net sheet)) (call-enough (checkCore net sheet) [] scratchLimit (length s) l ∙ nothing-more (scheduleReply net sheet))
+
+form-answers : (net sheet out s out′ s′ : List ℕ) (a : FormAnswer) → scratchLimit ≤ length s → 8194 ≤ length out → FormDone net sheet out s a out′ s′
+    → take (own (plainForm a) 0) out′ ≡ formWhere (scheduleReply net sheet) net sheet
+form-answers net sheet out s out′ s′ a l m d = go (scheduleReply net sheet) refl
+  where
+    go : (v : Verdict) → scheduleReply net sheet ≡ v → take (own (plainForm a) 0) out′ ≡ formWhere v net sheet
+    go verdict.Accepted e =
+        let z = form-zero net sheet out s out′ s′ a d .1 (l, e, omega (arith, form-short net sheet e)) in
+        made-form net sheet (record { out = out; scratch = s; answer = a; out′ = out′; scratch′ = s′; done = d; zero = z })
+    go (verdict.Refused r) e =
+        let n = own-refused (form-law net sheet) d (λ z. let q = form-zero net sheet out s out′ s′ a d .0 z .1 in let x : _≡_ {A = ℕ} 0 1 = cc in omega arith) 0 in
+        ap (λ (k : ℕ). take k out′) n
+
+pub row-holds : (r : Row) → answered r ≡ r .answer → formed r ≡ r .form → Holds r
+row-holds r p q = record {
+  checked = λ s s′ a l d. ap plainCheck (check-answers (r .net) (r .sheet) s s′ a l d) ∙ p;
+  formed = λ out s out′ s′ a l m d. form-answers (r .net) (r .sheet) out s out′ s′ a l m d ∙ q;
+}
+
+-- ---- tables
+
+abbrev each : (Row → List ℕ) → List Row → List (List ℕ)
+each f [] = []
+each f (r ∷ rs) = f r ∷ each f rs
+
+abbrev headOf : List (List ℕ) → List ℕ
+headOf [] = []
+headOf (x ∷ xs) = x
+
+abbrev tailOf : List (List ℕ) → List (List ℕ)
+tailOf [] = []
+tailOf (x ∷ xs) = xs
+
+table-holds : (rs : List Row) → each answered rs ≡ each (λ r. r .answer) rs → each formed rs ≡ each (λ r. r .form) rs → AllHold rs
+table-holds [] p q = tt
+table-holds (r ∷ rs) p q = (row-holds r (ap headOf p) (ap headOf q), table-holds rs (ap tailOf p) (ap tailOf q))
+
+pub starred-holds : Starred
+unfolding orElse when found first all any bit count passing least tabulate keyAt valueAt entryWith entryOf arcInto arcFrom reachedIn leadsIn placeCount transitionCount keyLimit entryWeight takenKey putKey startKey weightAt isPlace isTransition taken put start takesNothing isSource hasSource entryCount keyFails foundAt foundBy finding sizesPass weightFails netReply tests.holdsEnough tests.enabled petri.firedCount tests.takesNothing tests.isSource tests.takesAlike tests.sameChoice words.nodeCount words.entryCount words.entryKey words.entryValue words.isNode words.entryWithKey words.arcKeys words.keyLimit words.arcKey words.countKey words.arcEntry words.arc words.count words.marking words.graph tests.offers tests.offersAsSource tests.isAwait tests.offersSome tests.firstOffered tests.offersAsChoice tests.offersOneChoiceSet check.sizesPass check.targetFails check.countFails words.isArc check.valueFails check.wordsFault words.arcNode words.arcTransition check.arcEnabled check.landsAt check.arcLands check.graphFault check.scheduleFault check.arcCount check.awaitCount equalLabels agree sameIn same classAt indexOf enter expand explored order merged minimalBy minimal encoding.gather encoding.gatherRows encoding.keyOfArc encoding.held encoding.keyOfCount encoding.valueOfCount encoding.keys encoding.values encoding.encode minimalForm scheduleReply countsOf
+starred-holds = table-holds starred refl refl
+
+pub further-holds : FurtherRows
+unfolding orElse when found first all any bit count passing least tabulate keyAt valueAt entryWith entryOf arcInto arcFrom reachedIn leadsIn placeCount transitionCount keyLimit entryWeight takenKey putKey startKey weightAt isPlace isTransition taken put start takesNothing isSource hasSource entryCount keyFails foundAt foundBy finding sizesPass weightFails netReply tests.holdsEnough tests.enabled petri.firedCount tests.takesNothing tests.isSource tests.takesAlike tests.sameChoice words.nodeCount words.entryCount words.entryKey words.entryValue words.isNode words.entryWithKey words.arcKeys words.keyLimit words.arcKey words.countKey words.arcEntry words.arc words.count words.marking words.graph tests.offers tests.offersAsSource tests.isAwait tests.offersSome tests.firstOffered tests.offersAsChoice tests.offersOneChoiceSet check.sizesPass check.targetFails check.countFails words.isArc check.valueFails check.wordsFault words.arcNode words.arcTransition check.arcEnabled check.landsAt check.arcLands check.graphFault check.scheduleFault check.arcCount check.awaitCount equalLabels agree sameIn same classAt indexOf enter expand explored order merged minimalBy minimal encoding.gather encoding.gatherRows encoding.keyOfArc encoding.held encoding.keyOfCount encoding.valueOfCount encoding.keys encoding.values encoding.encode minimalForm scheduleReply countsOf
+further-holds = table-holds further refl refl

@@ -1,0 +1,7 @@
+pub mod Checked
+pub mod Demand1
+pub mod Demand2
+pub mod Demand3
+pub mod Further
+pub mod Examples
+pub mod Nine

@@ -1,0 +1,47 @@
+-- Demand 1: every call replies, whatever it is handed and whatever was called before; it answers or refuses by the numbers, and a refusal changes
+-- nothing but scratch. That each call ends is part of its proof in the language, and none has a `requires`. proofs/Demand1 has a term for this record.
+use Prim.Native.Nat.{ℕ, _≤_}
+use mathlib.Core.Path.{_≡_}
+use mathlib.Core.Logic.{_⊎_}
+use mathlib.Core.List.{List, [], _∷_, _++_}
+use lib.ListN.{length, getD, replicate}
+use Rattle.refusal.specs.Refusal.{plainOf}
+use Rattle.refusal.specs.Checks.{once}
+use Rattle.refusal.specs.declared.Verdict.{Verdict}
+use Rattle.net.specs.Checks.{netChecks}
+use Rattle.net.specs.Check.{NetDone}
+use Rattle.sequential.specs.Petri.{petriNet}
+use Rattle.judge.specs.Answer.{plainCheck}
+use Rattle.call.specs.Demands.{number, ByChecks, EveryCall}
+use Rattle.schedule.specs.Walker.{walker, walkerChecks, runChecks}
+use Rattle.schedule.specs.Calls.{scratchLimit, CheckDone, BoundsDone, FreshDone, FireDone, RunDone}
+use Rattle.schedule.specs.Plain.{plainRun}
+use Rattle.schedule.specs.declared.Walker.{Walker}
+use Rattle.minimal.specs.Form.{plainForm, FormDone}
+use Rattle.demands.specs.Terms.{asked}
+
+-- what an output buffer and scratch held is read by nothing: the answers are one, and each word left is the same or is as it was in both
+abbrev pub Unread : {Answer : Type 0} → (List ℕ → List ℕ → Answer → List ℕ → List ℕ → Type 0) → Type 0
+Unread {Answer} Done = (o₁ o₂ s₁ s₂ o₁′ o₂′ s₁′ s₂′ : List ℕ) (a₁ a₂ : Answer) → length o₁ ≡ length o₂ → length s₁ ≡ length s₂
+    → Done o₁ s₁ a₁ o₁′ s₁′ → Done o₂ s₂ a₂ o₂′ s₂′
+    → (a₁ ≡ a₂) × ((i : ℕ) → (getD o₁′ i 0 ≡ getD o₂′ i 0) ⊎ ((getD o₁′ i 0 ≡ getD o₁ i 0) × (getD o₂′ i 0 ≡ getD o₂ i 0)))
+
+pub record Demand1 : Type 0 where
+  -- ---- each call on its own
+  pub net-check : (net : List ℕ) (v : Verdict) → NetDone net v → ByChecks (netChecks net) (plainOf v) 0
+  pub fresh-walker : (net : List ℕ) (v : Verdict) (w : Walker) → FreshDone net v w
+      → ByChecks (netChecks net) (plainOf v) 0 × ((number (plainOf v) ≡ 0 → ⊥) → w ≡ walker 0 (replicate 32 0))
+  pub check : (net sheet : List ℕ) → EveryCall {Left = Unit} scratchLimit plainCheck 3 (asked net sheet []) tt (λ s a left s′. CheckDone net sheet s a s′)
+  pub place-bounds : (net sheet out : List ℕ)
+      → EveryCall scratchLimit plainOf 0 (asked net sheet (once (petriNet net .places ≤ length out) 22 ∷ [])) out (BoundsDone net sheet out)
+  pub fire : (net sheet : List ℕ) (w : Walker) (t : ℕ)
+      → EveryCall scratchLimit plainOf 0 (asked net sheet (walkerChecks (petriNet net) sheet w t)) w (λ s v next s′. FireDone net sheet s w t v next s′)
+  pub run : (net sheet firings out : List ℕ)
+      → EveryCall scratchLimit plainRun 2 (asked net sheet (runChecks (petriNet net) sheet firings ++ (once (petriNet net .places ≤ length out) 22 ∷ []))) out (RunDone net sheet firings out)
+  -- how many words the minimal form needs is said by demand 3
+  pub minimal-form : (net sheet : List ℕ) → (needed : ℕ)
+      × ((out : List ℕ) → EveryCall scratchLimit plainForm 1 (asked net sheet (once (needed ≤ length out) 22 ∷ [])) out (FormDone net sheet out))
+  -- ---- and what none of them reads
+  pub bounds-unread : (net sheet : List ℕ) → Unread (BoundsDone net sheet)
+  pub run-unread : (net sheet firings : List ℕ) → Unread (RunDone net sheet firings)
+  pub form-unread : (net sheet : List ℕ) → Unread (FormDone net sheet)

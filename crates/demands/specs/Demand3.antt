@@ -1,0 +1,71 @@
+-- Demand 3, whole: two accepted schedules of a net, the minimal forms that two calls wrote for them, and all finite lists of firings.
+-- proofs/Demand3 has a term for this record.
+use Prim.Native.Nat.{ℕ, _≤_, _<_}
+use mathlib.Core.Path.{_≡_}
+use mathlib.Core.Logic.{_↔_}
+use mathlib.Core.List.{List, _++_}
+use lib.ListN.{length, getD, take, drop}
+use Rattle.automaton.specs.Automaton.{SameLists}
+use Rattle.automaton.specs.Quotient.{Quotient}
+use Rattle.automaton.specs.BreadthFirst.{BreadthFirst}
+use Rattle.judge.specs.Answer.{plainCheck}
+use Rattle.judge.specs.declared.CheckAnswer.{CheckAnswer}
+use Rattle.call.specs.Demands.{number, own}
+use Rattle.schedule.specs.Calls.{scratchLimit, CheckDone}
+use Rattle.minimal.specs.Form.{plainForm, FormDone}
+use Rattle.minimal.specs.declared.FormAnswer.{FormAnswer}
+use Rattle.demands.specs.Terms.{said, Accepted}
+
+-- `form` is an accepted schedule that says what merging and numbering give: two nodes of `sheet` have one new number exactly when they hold the
+-- same and allow the same lists, arcs and counts are carried over, and the new numbers run breadth first
+pub record Merges (net sheet form : List ℕ) : Type 0 where
+  pub accepted : Accepted net form
+  pub newNumber : ℕ → ℕ
+  pub merged : Quotient (said net sheet) (said net form) newNumber
+  pub numbered : BreadthFirst (said net form)
+
+-- every call of the check that is lent scratch enough answers 0
+abbrev pub AlwaysAccepted : List ℕ → List ℕ → Type 0
+AlwaysAccepted net sheet = (scratch scratch′ : List ℕ) (answer : CheckAnswer) → scratchLimit ≤ length scratch
+    → CheckDone net sheet scratch answer scratch′ → number (plainCheck answer) ≡ 0
+
+-- a call of the minimal form that answered 0; the buffers lent held anything
+pub record Form (net sheet : List ℕ) : Type 0 where
+  pub out : List ℕ
+  pub scratch : List ℕ
+  pub answer : FormAnswer
+  pub out′ : List ℕ
+  pub scratch′ : List ℕ
+  pub done : FormDone net sheet out scratch answer out′ scratch′
+  pub zero : number (plainForm answer) ≡ 0
+
+-- the length that it answered, and so many words of its buffer
+abbrev pub size : {net sheet : List ℕ} → Form net sheet → ℕ
+size c = own (plainForm (c .answer)) 0
+
+abbrev pub made : {net sheet : List ℕ} → Form net sheet → List ℕ
+made c = take (size c) (c .out′)
+
+-- equal in length and word for word
+pub record SameWords {net x y : List ℕ} (a : Form net x) (b : Form net y) : Type 0 where
+  pub lengths : size a ≡ size b
+  pub words : (i : ℕ) → i < size a → getD (a .out′) i 0 ≡ getD (b .out′) i 0
+
+pub record Demand3 : Type 0 where
+  -- two are equal exactly when every list is allowed from both roots or from neither
+  pub equal : (net x y : List ℕ) → Accepted net x → Accepted net y → (a : Form net x) (b : Form net y)
+      → SameWords a b ↔ SameLists (said net x) (said net y) 0 0
+  -- each is the one schedule that merging and numbering give
+  pub the-form : (net sheet : List ℕ) → Accepted net sheet → (c : Form net sheet) (form : List ℕ) → (form ≡ made c) ↔ Merges net sheet form
+  -- it is accepted, and allows the lists that its original allows
+  pub accepted : (net sheet : List ℕ) → Accepted net sheet → (c : Form net sheet) → AlwaysAccepted net (made c)
+  pub same-lists : (net sheet : List ℕ) → Accepted net sheet → (c : Form net sheet) → SameLists (said net (made c)) (said net sheet) 0 0
+  -- its words all lie in the buffer, and what follows them there is as it was
+  pub within : (net sheet : List ℕ) → Accepted net sheet → (c : Form net sheet) → (size c ≤ length (c .out)) × (c .out′ ≡ made c ++ drop (size c) (c .out))
+  -- with scratch enough the call answers 0 exactly when the buffer holds the form, as 8,194 words do: there is such a call
+  pub answers : (net sheet out scratch out′ scratch′ : List ℕ) (answer : FormAnswer) → Accepted net sheet → scratchLimit ≤ length scratch
+      → FormDone net sheet out scratch answer out′ scratch′
+      → (number (plainForm answer) ≡ 0) ↔ ((form : List ℕ) → Merges net sheet form → length form ≤ length out)
+  pub enough : (net sheet form : List ℕ) → Accepted net sheet → Merges net sheet form → length form ≤ 8194
+  pub there-is : (net sheet out scratch : List ℕ) → Accepted net sheet → scratchLimit ≤ length scratch → 8194 ≤ length out
+      → (c : Form net sheet) × (c .out ≡ out) × (c .scratch ≡ scratch)

@@ -1,0 +1,91 @@
+-- The proved table: nets and schedules, what every check of them answers, and what every call of the minimal form writes.
+use Prim.Native.Nat.{ℕ, _≤_}
+use mathlib.Core.Path.{_≡_}
+use mathlib.Core.List.{List, [], _∷_}
+use lib.ListN.{length, take}
+use Rattle.judge.specs.Answer.{plainCheck}
+use Rattle.judge.specs.declared.CheckAnswer.{CheckAnswer}
+use Rattle.schedule.specs.Calls.{scratchLimit, CheckDone}
+use Rattle.minimal.specs.Form.{plainForm, FormDone}
+use Rattle.minimal.specs.declared.FormAnswer.{FormAnswer}
+use Rattle.call.specs.Demands.{own}
+
+-- the check's answer as plain numbers, and the words of the minimal form, none where it is refused
+pub record Row : Type 0 where
+  pub net : List ℕ
+  pub sheet : List ℕ
+  pub answer : List ℕ
+  pub form : List ℕ
+
+abbrev pub row : List ℕ → List ℕ → List ℕ → List ℕ → Row
+row net sheet answer form = record { net = net; sheet = sheet; answer = answer; form = form }
+
+abbrev pub netA : List ℕ
+netA = 1 ∷ 2 ∷ 2 ∷ 1 ∷ 2 ∷ 1 ∷ 1 ∷ []
+
+abbrev pub two : List ℕ
+two = 2 ∷ 3 ∷ 0 ∷ 3 ∷ 5 ∷ 1 ∷ 0 ∷ 1 ∷ []
+
+abbrev pub starred : List Row
+starred =
+    row (1 ∷ 1 ∷ 0 ∷ []) (1 ∷ 1 ∷ 0 ∷ 0 ∷ []) (0 ∷ 0 ∷ 0 ∷ 1 ∷ 1 ∷ 1 ∷ []) (1 ∷ 1 ∷ 0 ∷ 0 ∷ [])
+    ∷ row netA two (0 ∷ 0 ∷ 0 ∷ 2 ∷ 2 ∷ 1 ∷ []) two
+    ∷ row netA (4 ∷ 6 ∷ 0 ∷ 3 ∷ 4 ∷ 7 ∷ 9 ∷ 11 ∷ 1 ∷ 2 ∷ 3 ∷ 0 ∷ 1 ∷ 1 ∷ []) (0 ∷ 0 ∷ 0 ∷ 4 ∷ 4 ∷ 2 ∷ []) two
+    ∷ row netA (1 ∷ 0 ∷ []) (11 ∷ 3 ∷ 0 ∷ 0 ∷ 0 ∷ 0 ∷ []) []
+    ∷ row netA (2 ∷ 2 ∷ 0 ∷ 3 ∷ 1 ∷ 0 ∷ []) (15 ∷ 1 ∷ 0 ∷ 0 ∷ 0 ∷ 0 ∷ []) []
+    ∷ row netA (3 ∷ 4 ∷ 0 ∷ 3 ∷ 4 ∷ 7 ∷ 1 ∷ 0 ∷ 1 ∷ 1 ∷ []) (16 ∷ 3 ∷ 2 ∷ 0 ∷ 0 ∷ 0 ∷ []) []
+    ∷ row (1 ∷ 3 ∷ 3 ∷ 1 ∷ 2 ∷ 3 ∷ 1 ∷ 1 ∷ 1 ∷ []) (2 ∷ 3 ∷ 0 ∷ 4 ∷ 7 ∷ 1 ∷ 0 ∷ 1 ∷ []) (12 ∷ 3 ∷ 1 ∷ 0 ∷ 0 ∷ 0 ∷ []) []
+    ∷ row (1 ∷ 3 ∷ 3 ∷ 1 ∷ 2 ∷ 3 ∷ 1 ∷ 1 ∷ 1 ∷ []) (2 ∷ 4 ∷ 0 ∷ 4 ∷ 5 ∷ 7 ∷ 1 ∷ 0 ∷ 0 ∷ 1 ∷ []) (0 ∷ 0 ∷ 0 ∷ 2 ∷ 3 ∷ 1 ∷ []) (2 ∷ 4 ∷ 0 ∷ 4 ∷ 5 ∷ 7 ∷ 1 ∷ 0 ∷ 0 ∷ 1 ∷ [])
+    ∷ row (1 ∷ 2 ∷ 3 ∷ 1 ∷ 2 ∷ 3 ∷ 1 ∷ 1 ∷ 1 ∷ []) (2 ∷ 3 ∷ 0 ∷ 3 ∷ 5 ∷ 1 ∷ 1 ∷ 1 ∷ []) (17 ∷ 3 ∷ 1 ∷ 0 ∷ 0 ∷ 0 ∷ []) []
+    ∷ row (1 ∷ 2 ∷ 2 ∷ 1 ∷ 2 ∷ 2 ∷ 1 ∷ []) two (14 ∷ 1 ∷ 1 ∷ 0 ∷ 0 ∷ 0 ∷ []) []
+    ∷ row (1 ∷ 2 ∷ 3 ∷ 1 ∷ 3 ∷ 4 ∷ 1 ∷ 1 ∷ 1 ∷ []) (1 ∷ 2 ∷ 1 ∷ 2 ∷ 0 ∷ 1 ∷ []) (13 ∷ 3 ∷ 0 ∷ 0 ∷ 0 ∷ 0 ∷ []) []
+    ∷ row (1 ∷ 2 ∷ 3 ∷ 1 ∷ 2 ∷ 4 ∷ 1 ∷ 1 ∷ 16777216 ∷ []) (2 ∷ 4 ∷ 0 ∷ 3 ∷ 4 ∷ 5 ∷ 1 ∷ 0 ∷ 16777216 ∷ 16777217 ∷ [])
+    (0 ∷ 0 ∷ 0 ∷ 2 ∷ 2 ∷ 1 ∷ []) (2 ∷ 4 ∷ 0 ∷ 3 ∷ 4 ∷ 5 ∷ 1 ∷ 0 ∷ 16777216 ∷ 16777217 ∷ [])
+    ∷ row (1 ∷ 2 ∷ 3 ∷ 1 ∷ 2 ∷ 4 ∷ 1 ∷ 1 ∷ 16777216 ∷ []) (2 ∷ 4 ∷ 0 ∷ 3 ∷ 4 ∷ 5 ∷ 1 ∷ 0 ∷ 16777216 ∷ 16777216 ∷ []) (15 ∷ 1 ∷ 0 ∷ 0 ∷ 0 ∷ 0 ∷ []) []
+    ∷ []
+
+-- ---- what a row says of the calls
+
+pub record Holds (r : Row) : Type 0 where
+  pub checked : (s s′ : List ℕ) (a : CheckAnswer) → scratchLimit ≤ length s → CheckDone (r .net) (r .sheet) s a s′ → plainCheck a ≡ r .answer
+  pub formed : (out s out′ s′ : List ℕ) (a : FormAnswer) → scratchLimit ≤ length s → 8194 ≤ length out → FormDone (r .net) (r .sheet) out s a out′ s′
+      → take (own (plainForm a) 0) out′ ≡ r .form
+
+abbrev pub AllHold : List Row → Type 0
+AllHold [] = Unit
+AllHold (r ∷ rs) = Holds r × AllHold rs
+
+-- every starred row holds
+abbrev pub Starred : Type 0
+Starred = AllHold starred
+
+-- ---- further rows
+
+-- two places and two nodes, so that a count key is told from its like by place; and a key at the limit V × (T + P)
+abbrev pub further : List Row
+further =
+    row (2 ∷ 2 ∷ 3 ∷ 2 ∷ 4 ∷ 9 ∷ 1 ∷ 1 ∷ 1 ∷ []) (2 ∷ 5 ∷ 0 ∷ 3 ∷ 5 ∷ 6 ∷ 7 ∷ 1 ∷ 0 ∷ 1 ∷ 1 ∷ 1 ∷ []) (0 ∷ 0 ∷ 0 ∷ 2 ∷ 2 ∷ 1 ∷ []) (2 ∷ 5 ∷ 0 ∷ 3 ∷ 5 ∷ 6 ∷ 7 ∷ 1 ∷ 0 ∷ 1 ∷ 1 ∷ 1 ∷ [])
+    ∷ row netA (2 ∷ 3 ∷ 0 ∷ 3 ∷ 6 ∷ 1 ∷ 0 ∷ 1 ∷ []) (8 ∷ 1 ∷ 2 ∷ 0 ∷ 0 ∷ 0 ∷ []) []
+    ∷ []
+
+abbrev pub FurtherRows : Type 0
+FurtherRows = AllHold further
+
+-- Places A, B, F, Q; transitions a, b, x, y, z, w: a and b fill A and B, F starts with one, x takes A and F and puts Q, y takes A, z takes B and F,
+-- w takes B. After x or z two await nodes have the same futures, one of them with one in Q: merging by futures alone would leave six nodes.
+abbrev pub netQ : List ℕ
+netQ = 4 ∷ 6 ∷ 10 ∷ 8 ∷ 10 ∷ 12 ∷ 17 ∷ 18 ∷ 21 ∷ 24 ∷ 29 ∷ 35 ∷ 50 ∷ 1 ∷ 1 ∷ 1 ∷ 1 ∷ 1 ∷ 1 ∷ 1 ∷ 1 ∷ 1 ∷ 1 ∷ []
+
+-- numbered depth first
+abbrev pub nine : List ℕ
+nine =
+    9 ∷ 24 ∷ 0 ∷ 1 ∷ 8 ∷ 16 ∷ 18 ∷ 19 ∷ 27 ∷ 35 ∷ 36 ∷ 37 ∷ 45 ∷ 53 ∷ 56 ∷ 58 ∷ 60 ∷ 63 ∷ 64 ∷ 69 ∷ 70 ∷ 73 ∷ 75 ∷ 77 ∷ 82 ∷ 87
+    ∷ 1 ∷ 2 ∷ 3 ∷ 6 ∷ 4 ∷ 5 ∷ 3 ∷ 3 ∷ 7 ∷ 8 ∷ 6 ∷ 6 ∷ 1 ∷ 1 ∷ 1 ∷ 1 ∷ 1 ∷ 1 ∷ 1 ∷ 1 ∷ 1 ∷ 1 ∷ 1 ∷ 1 ∷ []
+
+abbrev pub nineForm : List ℕ
+nineForm =
+    9 ∷ 24 ∷ 0 ∷ 1 ∷ 8 ∷ 16 ∷ 18 ∷ 19 ∷ 24 ∷ 25 ∷ 33 ∷ 41 ∷ 45 ∷ 53 ∷ 56 ∷ 58 ∷ 60 ∷ 63 ∷ 64 ∷ 69 ∷ 74 ∷ 77 ∷ 79 ∷ 81 ∷ 82 ∷ 87
+    ∷ 1 ∷ 2 ∷ 3 ∷ 4 ∷ 5 ∷ 6 ∷ 7 ∷ 8 ∷ 3 ∷ 3 ∷ 4 ∷ 4 ∷ 1 ∷ 1 ∷ 1 ∷ 1 ∷ 1 ∷ 1 ∷ 1 ∷ 1 ∷ 1 ∷ 1 ∷ 1 ∷ 1 ∷ []
+
+abbrev pub Nine : Type 0
+Nine = Holds (row netQ nine (0 ∷ 0 ∷ 0 ∷ 9 ∷ 12 ∷ 3 ∷ []) nineForm)

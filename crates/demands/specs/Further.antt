@@ -1,0 +1,89 @@
+-- What is promised beside the three demands: of paths, choice sets and runs, of the one encoding, and of minimal forms. proofs/Further has a term for each.
+use Prim.Native.Nat.{ℕ, _≤_, _<_}
+use mathlib.Core.Path.{_≡_}
+use mathlib.Core.Logic.{_↔_}
+use mathlib.Core.List.{List, [], _∷_}
+use mathlib.Core.Bool.{true}
+use lib.ListN.{length, getD}
+use Rattle.automaton.specs.Automaton.{Automaton, allows, SameLists}
+use Rattle.refusal.specs.declared.Verdict.{Verdict}
+use Rattle.refusal.specs.declared.Verdict.the-variants as verdict
+use Rattle.net.specs.Checks.{IsNet}
+use Rattle.sequential.specs.Petri.{PetriNet, petriNet, Source, SameChoice}
+use Rattle.sequential.specs.Words.{graph}
+use Rattle.sequential.specs.Runs.{GoesOn, ShortWhereAny}
+use Rattle.sequential.specs.Checks.{WordsPass}
+use Rattle.call.specs.Demands.{number, own}
+use Rattle.schedule.specs.Calls.{scratchLimit, FreshDone, FireDone, RunDone}
+use Rattle.schedule.specs.Plain.{plainRun}
+use Rattle.schedule.specs.declared.Walker.{Walker}
+use Rattle.schedule.specs.declared.RunAnswer.{RunAnswer}
+use Rattle.minimal.specs.Encoding.{encode, Encodable}
+use Rattle.minimal.specs.Minimal.{Fewest}
+use Rattle.demands.specs.Terms.{said, Accepted}
+use Rattle.demands.specs.Demand3.{Form, size, made}
+
+-- ---- schedules
+
+-- fewer firings than there are nodes suffice, wherever any do: of all words that pass, whether or not they say a schedule
+abbrev pub PathsShorten : Type 0
+PathsShorten = (net sheet : List ℕ) → IsNet net → WordsPass (petriNet net) sheet → (n : ℕ) → n < said net sheet .nodes → ShortWhereAny (petriNet net) (said net sheet) n
+
+-- the choice sets are a partition of the transitions; there is a source, and the sources are one of the sets
+pub record Partition (N : PetriNet) : Type 0 where
+  pub reflexive : (t : ℕ) → SameChoice N t t
+  pub symmetric : (t u : ℕ) → SameChoice N t u → SameChoice N u t
+  pub transitive : (t u v : ℕ) → SameChoice N t u → SameChoice N u v → SameChoice N t v
+  pub source : (t : ℕ) × (t < N .transitions) × Source N t
+  pub sources : (t u : ℕ) → Source N t → SameChoice N t u ↔ Source N u
+
+abbrev pub ChoicePartition : Type 0
+ChoicePartition = (net : List ℕ) → IsNet net → Partition (petriNet net)
+
+-- every run goes on by the members of one choice set, and by nothing else
+abbrev pub NeverStuck : Type 0
+NeverStuck = (net sheet σ : List ℕ) → Accepted net sheet → allows (said net sheet) 0 σ ≡ true → GoesOn (petriNet net) (said net sheet) σ
+
+-- ---- a run is one firing after the other
+
+-- calls of the single firing, each accepted, each with the walker that the one before handed back
+pub data Firings (net sheet : List ℕ) : Walker → List ℕ → Walker → Type 0 where
+  none-fired : (w : Walker) → Firings net sheet w [] w
+  one-fired : (w x y : Walker) (t : ℕ) (σ s s′ : List ℕ) → FireDone net sheet s w t verdict.Accepted x s′ → Firings net sheet x σ y → Firings net sheet w (t ∷ σ) y
+
+-- from a fresh walker: a run answers 0 exactly where they do, and ends where they end, with the counts that they hand back
+pub record Folds (net sheet firings out s : List ℕ) (a : RunAnswer) (out′ : List ℕ) (w : Walker) : Type 0 where
+  pub exactly : scratchLimit ≤ length s → petriNet net .places ≤ length out → (number (plainRun a) ≡ 0) ↔ ((y : Walker) × Firings net sheet w firings y)
+  pub node : (y : Walker) → number (plainRun a) ≡ 0 → Firings net sheet w firings y → y .node ≡ own (plainRun a) 1
+  pub counts : (y : Walker) → number (plainRun a) ≡ 0 → Firings net sheet w firings y → (p : ℕ) → p < petriNet net .places → getD (y .counts) p 0 ≡ getD out′ p 0
+
+abbrev pub RunFolds : Type 0
+RunFolds = (net sheet firings out s out′ s′ : List ℕ) (a : RunAnswer) (v : Verdict) (w : Walker) → Accepted net sheet
+    → RunDone net sheet firings out s a out′ s′ → FreshDone net v w → Folds net sheet firings out s a out′ w
+
+-- ---- words and graphs
+
+-- encoding and decoding are inverse, between the words that pass 6 to 9 and the graphs that words can say
+pub record Inverse (N : PetriNet) : Type 0 where
+  pub decodes : (sheet : List ℕ) → WordsPass N sheet → Encodable N (graph N sheet)
+  pub encodes : (A : Automaton) → Encodable N A → WordsPass N (encode N A)
+  pub encode-decode : (sheet : List ℕ) → WordsPass N sheet → encode N (graph N sheet) ≡ sheet
+  pub decode-encode : (A : Automaton) → Encodable N A → graph N (encode N A) ≡ A
+
+abbrev pub OneEncoding : Type 0
+OneEncoding = (net : List ℕ) → IsNet net → Inverse (petriNet net)
+
+-- ---- minimal forms
+
+-- it is no longer than what it was made from
+abbrev pub FormNoLonger : Type 0
+FormNoLonger = (net sheet : List ℕ) → Accepted net sheet → (c : Form net sheet) → size c ≤ length sheet
+
+-- the minimal form of a minimal form is itself
+abbrev pub FormTwice : Type 0
+FormTwice = (net sheet : List ℕ) → Accepted net sheet → (c : Form net sheet) (d : Form net (made c)) → made d ≡ made c
+
+-- no accepted schedule that allows the same lists has fewer nodes; one with as many differs in the numbers of its nodes alone
+abbrev pub FormFewest : Type 0
+FormFewest = (net sheet other : List ℕ) → Accepted net sheet → Accepted net other → SameLists (said net sheet) (said net other) 0 0
+    → (c : Form net sheet) → Fewest (petriNet net) (made c) other

@@ -1,0 +1,63 @@
+-- The net's tests decide its clauses; so it is accepted exactly where all pass, and refused exactly by the one that fails first.
+use Prim.Native.Nat.{ℕ}
+use mathlib.Core.Path.{_≡_, sym, ap, _∙_}
+use mathlib.Core.Logic.{_↔_}
+use mathlib.Core.List.{List}
+use mathlib.Core.Bool.{Bool, true, false, not}
+use borrow.Author.Tests.{ltb-false, le-ltb, eqb-true, eq-eqb, not-false}
+use Rattle.scan.specs.Scan.{orElse, when, first}
+use Rattle.scan.proofs.First.{orElse-assoc}
+use Rattle.scan.proofs.Tests.{decides-not}
+use Rattle.scan.proofs.Every.{all-in, all-out, any-in, any-out}
+use Rattle.table.proofs.Keys.{key-passes}
+use Rattle.refusal.specs.Refusal.{refusal}
+use Rattle.refusal.specs.Checks.{HoldAt, Passes, AllPass}
+use Rattle.refusal.specs.Finding.{foundAt, foundBy, lineFinds, finding}
+use Rattle.refusal.specs.declared.Position.the-variants.{Nothing}
+use Rattle.refusal.proofs.Checks.{Decides, Decided, Lawful, finding-tells}
+use Rattle.refusal.proofs.Judges.{Judges, judges-found}
+use Rattle.net.specs.Net.{placeCount, transitionCount, keyLimit, takesNothing, isSource, hasSource}
+use Rattle.net.specs.Checks.{HasSource, netChecks, IsNet}
+use Rattle.net.specs.Check.{shapeFault, entryFault, entriesFault, netTests, netReply}
+use Rattle.net.proofs.Shape.{sizes-out, sizes-in}
+use Rattle.net.proofs.Entries.{EntriesPass, weight-out, weight-in}
+
+module _ (net : List ℕ) where
+  source-decided : (not (hasSource net) ≡ false) ↔ HasSource net
+  unfolding hasSource isSource takesNothing
+  source-decided =
+      decides-not _ (λ h. let (t, l, e) = any-out (isSource net) (transitionCount net) h in
+      (t, l, λ p m. eqb-true _ _ (all-out (takesNothing net t) (placeCount net) e p m)))
+      (λ (t, l, e). any-in (isSource net) (transitionCount net) t l (all-in (takesNothing net t) (placeCount net) (λ p m. eq-eqb _ _ (e p m))))
+
+  lawful : Lawful Unit (netChecks net) (netTests net)
+  unfolding Lawful Decided Decides
+  lawful = (
+    λ h. (ltb-false _ _, le-ltb _ _),
+    (
+      λ h. decides-not _ (sizes-out net) (sizes-in net),
+      (
+        λ h. decides-not _ (eqb-true _ _) (eq-eqb _ _),
+        (
+          λ h i l. (key-passes net 3 (keyLimit net) i, λ k. ((weight-out net i, weight-in net i), λ p. tt)),
+          (λ h. source-decided, tt),
+        ),
+      ),
+    ),
+  )
+
+  pub net-judged : Judges (netReply net) (netChecks net)
+  unfolding netReply
+  net-judged = judges-found _ (netChecks net) (finding-tells Unit (netChecks net) (netTests net) lawful tt)
+
+  -- the functions' parts, one after the other
+  pub net-fault : finding (netChecks net) (netTests net) ≡ orElse (entriesFault net) (when (not (hasSource net)) (refusal 5 Nothing))
+  unfolding finding foundBy lineFinds foundAt entriesFault shapeFault entryFault
+  net-fault = sym (orElse-assoc _ _ _ ∙ orElse-assoc _ _ _ ∙ ap (orElse _) (orElse-assoc _ _ _))
+
+  -- a net is all that passes 1 to 4, with a source
+  pub net-entries : IsNet net → EntriesPass net
+  net-entries (a, (b, (c, (d, e)))) = record {
+    shape = record { sizes = b; whole = c };
+    each = λ i l. let (k, (w, u)) = d i l in record { key = k; weight = w };
+  }

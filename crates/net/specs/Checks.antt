@@ -1,0 +1,35 @@
+-- The checks of a net in their order, each with its clause and its number.
+use Prim.Native.Nat.{ℕ, _+_, _*_, _≤_, _<_}
+use mathlib.Core.Path.{_≡_}
+use mathlib.Core.List.{List, [], _∷_}
+use lib.ListN.{length}
+use Rattle.table.specs.Table.{KeyPasses}
+use Rattle.refusal.specs.Checks.{_else_, Check, each, once, AllPass}
+use Rattle.refusal.specs.declared.Position.the-variants.{Entry}
+use Rattle.net.specs.Net.{placeCount, transitionCount, entryCount, entryWeight, keyLimit, taken}
+
+pub record SizesPass (net : List ℕ) : Type 0 where
+  pub some-place : 1 ≤ placeCount net
+  pub few-places : placeCount net ≤ 32
+  pub some-transition : 1 ≤ transitionCount net
+  pub few-transitions : transitionCount net ≤ 32
+  pub few-entries : entryCount net ≤ keyLimit net
+
+pub record WeightPasses (net : List ℕ) (i : ℕ) : Type 0 where
+  pub some : 1 ≤ entryWeight net i
+  pub most : entryWeight net i ≤ 1000000000
+
+abbrev pub HasSource : List ℕ → Type 0
+HasSource net = (t : ℕ) × (t < transitionCount net) × ((p : ℕ) → p < placeCount net → taken net t p ≡ 0)
+
+abbrev pub netChecks : List ℕ → List Check
+netChecks net =
+    once (3 ≤ length net) 1
+    ∷ once (SizesPass net) 2
+    ∷ once (length net ≡ 3 + 2 * entryCount net) 1
+    ∷ each (entryCount net) Entry (KeyPasses net 3 (keyLimit net) else 3 ∷ WeightPasses net else 4 ∷ [])
+    ∷ once (HasSource net) 5
+    ∷ []
+
+abbrev pub IsNet : List ℕ → Type 0
+IsNet net = AllPass (netChecks net)

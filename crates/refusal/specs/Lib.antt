@@ -1,0 +1,4 @@
+pub mod Refusal
+pub mod Verdict
+pub mod Checks
+pub mod Finding

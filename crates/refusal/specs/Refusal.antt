@@ -1,0 +1,48 @@
+-- A refusal: its number, and what its position counts; what a check answers; and both as plain numbers.
+use Prim.Native.Nat.{ℕ}
+use mathlib.Core.List.{List, [], _∷_, _++_}
+use mathlib.Core.Option.{Option, none, some}
+use lib.ListN.{getD, replicate}
+use Rattle.refusal.specs.declared.Position.{Position}
+use Rattle.refusal.specs.declared.Position.the-variants.{Nothing, Entry, Place, Node, Record}
+use Rattle.refusal.specs.declared.Refusal.{Refusal}
+use Rattle.refusal.specs.declared.Verdict.{Verdict}
+use Rattle.refusal.specs.declared.Verdict.the-variants.{Accepted, Refused}
+
+abbrev pub refusal : ℕ → Position → Refusal
+refusal number position = record { number = number; at = position }
+
+-- ---- plain numbers
+
+-- the kind of a position, and its index
+abbrev pub positionTold : Position → List ℕ
+positionTold Nothing = 0 ∷ 0 ∷ []
+positionTold (Entry i) = 1 ∷ i ∷ []
+positionTold (Place i) = 2 ∷ i ∷ []
+positionTold (Node i) = 3 ∷ i ∷ []
+positionTold (Record i) = 4 ∷ i ∷ []
+
+-- a refusal, of a call that has so many numbers of its own
+abbrev pub told : Refusal → ℕ → List ℕ
+told r own = r .number ∷ (positionTold (r .at) ++ replicate own 0)
+
+-- a verdict, of a call that has no numbers of its own
+abbrev pub plainOf : Verdict → List ℕ
+plainOf Accepted = 0 ∷ 0 ∷ 0 ∷ []
+plainOf (Refused r) = told r 0
+
+-- ---- its parts
+
+abbrev pub numberOf : Verdict → ℕ
+numberOf Accepted = 0
+numberOf (Refused r) = r .number
+
+abbrev pub positionOf : Verdict → Position
+positionOf Accepted = Nothing
+positionOf (Refused r) = r .at
+
+abbrev pub kindOf : Position → ℕ
+kindOf position = getD (positionTold position) 0 0
+
+abbrev pub indexOf : Position → ℕ
+indexOf position = getD (positionTold position) 1 0

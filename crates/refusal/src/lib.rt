@@ -1,0 +1,127 @@
+// Refusals: by number, at a position; what a check answers; and both as plain numbers.
+ghost use mathlib.Core.Path.{_≡_};
+ghost use Rattle.refusal.specs.Refusal.{refusal, numberOf, positionOf, kindOf, indexOf, plainOf};
+
+// What a refusal's position counts, from 0.
+pub enum Position {
+    Nothing,
+    Entry(usize),
+    Place(usize),
+    Node(usize),
+    Record(usize),
+}
+
+impl Position {
+    // The kind as a plain number.
+    pub fn kind(self) -> u32
+        ensures { λ r. ⌜ r ≡ kindOf self ⌝ }
+    {
+        match self {
+            Position::Nothing => 0,
+            Position::Entry(_) => 1,
+            Position::Place(_) => 2,
+            Position::Node(_) => 3,
+            Position::Record(_) => 4,
+        }
+    }
+
+    // The index as a plain number, 0 where the position counts nothing.
+    pub fn index(self) -> usize
+        ensures { λ r. ⌜ r ≡ indexOf self ⌝ }
+    {
+        match self {
+            Position::Nothing => 0,
+            Position::Entry(i) => i,
+            Position::Place(i) => i,
+            Position::Node(i) => i,
+            Position::Record(i) => i,
+        }
+    }
+}
+
+pub struct Refusal {
+    pub number: u32,
+    pub at: Position,
+}
+
+// The refusals by number, each with document 01's word for it.
+impl Refusal {
+    pub const NET_LENGTH: u32 = 1; // ragged net
+
+    pub const NET_SIZE: u32 = 2; // net size
+
+    pub const NET_ORDER: u32 = 3; // net order
+
+    pub const NET_WEIGHT: u32 = 4; // net weight
+
+    pub const NO_SOURCE: u32 = 5; // no source
+
+    pub const SCHEDULE_LENGTH: u32 = 6; // ragged sheet
+
+    pub const SCHEDULE_SIZE: u32 = 7; // sheet size
+
+    pub const SCHEDULE_ORDER: u32 = 8; // sheet order
+
+    pub const SCHEDULE_VALUE: u32 = 9; // sheet value
+
+    pub const WRONG_START: u32 = 10; // wrong start
+
+    pub const NO_ARC: u32 = 11; // dead end
+
+    pub const NOT_ONE_CHOICE_SET: u32 = 12; // torn choice
+
+    pub const ROOT_NOT_AWAIT: u32 = 13; // busy root
+
+    pub const NOT_ENABLED: u32 = 14; // starved arc
+
+    pub const WRONG_TARGET: u32 = 15; // wrong landing
+
+    pub const NOT_REACHED: u32 = 16; // stray node
+
+    pub const NO_PATH_TO_AWAIT: u32 = 17; // no way home
+
+    pub const NO_SUCH_NODE: u32 = 18; // no such node
+
+    pub const WRONG_COUNTS: u32 = 19; // walker astray
+
+    pub const NOT_OFFERED: u32 = 20; // not offered
+
+    pub const SMALL_SCRATCH: u32 = 21; // small scratch
+
+    pub const SMALL_OUTPUT: u32 = 22; // small out
+}
+
+// What a check answers that has no numbers of its own.
+pub enum Verdict {
+    Accepted,
+    Refused(Refusal),
+}
+
+impl Verdict {
+    // The refusal's number, or 0.
+    pub fn number(self) -> u32
+        ensures { λ r. ⌜ r ≡ numberOf self ⌝ }
+    {
+        match self {
+            Verdict::Accepted => 0,
+            Verdict::Refused(r) => r.number,
+        }
+    }
+
+    // The refusal's position, or that of nothing.
+    pub fn at(self) -> Position
+        ensures { λ r. ⌜ r ≡ positionOf self ⌝ }
+    {
+        match self {
+            Verdict::Accepted => Position::Nothing,
+            Verdict::Refused(r) => r.at,
+        }
+    }
+}
+
+// Refused by a number at a position.
+pub fn refuse(number: u32, at: Position) -> Verdict
+    ensures { λ r. ⌜ r ≡ Verdict.Refused (refusal number at) ⌝ }
+{
+    Verdict::Refused(Refusal { number, at })
+}

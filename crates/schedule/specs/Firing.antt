@@ -1,0 +1,75 @@
+-- Firing, as a computation: what the checks of a walker and of a run find, the walker that follows, and where a run ends.
+use Prim.Native.Nat.{ℕ, zero, suc}
+use mathlib.Core.Path.{_≡_}
+use mathlib.Core.List.{List, [], _∷_, _++_}
+use mathlib.Core.Bool.{not}
+use mathlib.Core.Option.{Option}
+use lib.ListN.{length, getD, replicate}
+use lib.Dec.{leb, eqb}
+use Rattle.scan.specs.Scan.{when, found, first, tabulate}
+use Rattle.automaton.specs.Automaton.{byArc}
+use Rattle.refusal.specs.Refusal.{refusal}
+use Rattle.refusal.specs.Verdict.{verdictOf}
+use Rattle.refusal.specs.Finding.{Tests, asked, lineFinds, finding}
+use Rattle.refusal.specs.declared.Position.the-variants.{Record}
+use Rattle.refusal.specs.declared.Refusal.{Refusal}
+use Rattle.refusal.specs.declared.Verdict.{Verdict}
+use Rattle.refusal.specs.declared.Verdict.the-variants.{Accepted, Refused}
+use Rattle.sequential.specs.Petri.{PetriNet, petriNet, initial, firedCount, fireAll}
+use Rattle.sequential.specs.Words.{nodeCount, arc, count}
+use Rattle.schedule.specs.Walker.{walker, standChecks, walkerChecks}
+use Rattle.schedule.specs.declared.Walker.{Walker}
+
+-- ---- a fresh walker
+
+abbrev pub freshWalker : Verdict → List ℕ → Walker
+freshWalker Accepted net = walker 0 (tabulate (petriNet net .start) 32)
+freshWalker (Refused r) net = walker 0 (replicate 32 0)
+
+-- ---- a single firing
+
+module _ (N : PetriNet) (sheet : List ℕ) (w : Walker) where
+  abbrev pub standTests : List Tests
+  standTests = asked (leb (nodeCount sheet) (w .node)) ∷ ((λ p. not (eqb (getD (w .counts) p 0) (count N sheet (w .node) p))) ∷ []) ∷ []
+
+  -- 19 at one place
+  unfoldable pub countFault : ℕ → Option Refusal
+  countFault p = lineFinds (standChecks N sheet w) standTests 1 p
+
+  -- 18 and 19
+  unfoldable pub walkerFault : Option Refusal
+  walkerFault = finding (standChecks N sheet w) standTests
+
+  abbrev pub walkerTests : ℕ → List Tests
+  walkerTests t = standTests ++ (asked (not (found (arc N sheet (w .node) t))) ∷ [])
+
+  -- 18 to 20
+  unfoldable pub stepFault : ℕ → Option Refusal
+  stepFault t = finding (walkerChecks N sheet w t) (walkerTests t)
+
+  -- the arc's target, with the counts that firing gives
+  unfoldable pub follows : ℕ → Walker
+  follows t = walker (byArc (w .node) (λ m. m) (arc N sheet (w .node) t)) (tabulate (firedCount N (w .counts) t) 32)
+
+-- ---- a run
+
+module _ (N : PetriNet) (sheet firings : List ℕ) where
+  -- the node after so many firings; it stays where there is no arc
+  unfoldable pub nodeAfter : ℕ → ℕ
+  nodeAfter zero = 0
+  nodeAfter (suc i) = byArc (nodeAfter i) (λ m. m) (arc N sheet (nodeAfter i) (getD firings i 0))
+
+  -- 20 at one index: there is no arc at the node that the firings before it lead to
+  unfoldable pub firingFault : ℕ → Option Refusal
+  firingFault i = when (not (found (arc N sheet (nodeAfter i) (getD firings i 0)))) (refusal 20 (Record i))
+
+  unfoldable pub runFault : Option Refusal
+  runFault = first firingFault (length firings)
+
+unfoldable pub endCounts : List ℕ → List ℕ → List ℕ
+endCounts net firings = fireAll (petriNet net) (initial (petriNet net)) firings
+
+-- what following the firings finds: the first that is not offered, or the node at the end where all are
+pub record FollowedTo (N : PetriNet) (sheet firings : List ℕ) (r : Verdict) (n : ℕ) : Type 0 where
+  pub reply : r ≡ verdictOf (runFault N sheet firings)
+  pub node : r ≡ Accepted → n ≡ nodeAfter N sheet firings (length firings)

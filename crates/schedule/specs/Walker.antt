@@ -1,0 +1,40 @@
+-- Walkers: where one stands, and the checks of one that is to fire, each with its clause and its number.
+use Prim.Native.Nat.{ℕ, suc, _≤_, _<_}
+use mathlib.Core.Path.{_≡_}
+use mathlib.Core.List.{List, [], _∷_, _++_}
+use mathlib.Core.Bool.{true}
+use lib.ListN.{length, getD, take}
+use Rattle.automaton.specs.Automaton.{allows}
+use Rattle.refusal.specs.Checks.{_else_, Check, once, each}
+use Rattle.refusal.specs.declared.Position.the-variants.{Place, Record}
+use Rattle.sequential.specs.Petri.{PetriNet}
+use Rattle.sequential.specs.Words.{nodeCount, count, graph}
+use Rattle.sequential.specs.Schedule.{Offers}
+use Rattle.schedule.specs.declared.Walker.{Walker}
+
+abbrev pub walker : ℕ → List ℕ → Walker
+walker n counts = record { node = n; counts = counts }
+
+-- at a node, with 32 counts, those from P on being 0
+pub record Stands (N : PetriNet) (w : Walker) (n : ℕ) (held : ℕ → ℕ) : Type 0 where
+  pub node : w .node ≡ n
+  pub counts : length (w .counts) ≡ 32
+  pub holds : (p : ℕ) → p < N .places → getD (w .counts) p 0 ≡ held p
+  pub zeros : (p : ℕ) → N .places ≤ p → p < 32 → getD (w .counts) p 0 ≡ 0
+
+-- what a node holds is 0 at places from P on
+abbrev pub HoldsCount : PetriNet → List ℕ → Walker → ℕ → Type 0
+HoldsCount N sheet w p = getD (w .counts) p 0 ≡ count N sheet (w .node) p
+
+abbrev pub standChecks : PetriNet → List ℕ → Walker → List Check
+standChecks N sheet w =
+    once (w .node < nodeCount sheet) 18
+    ∷ each 32 Place (HoldsCount N sheet w else 19 ∷ [])
+    ∷ []
+
+abbrev pub walkerChecks : PetriNet → List ℕ → Walker → ℕ → List Check
+walkerChecks N sheet w t = standChecks N sheet w ++ (once (Offers N (graph N sheet) (w .node) t) 20 ∷ [])
+
+-- each firing of a record, after those before it
+abbrev pub runChecks : PetriNet → List ℕ → List ℕ → List Check
+runChecks N sheet firings = each (length firings) Record ((λ i. allows (graph N sheet) 0 (take (suc i) firings) ≡ true) else 20 ∷ []) ∷ []

@@ -1,0 +1,93 @@
+-- The published definition and the clauses: a schedule is one in the published sense, and one of those whose states are all reached is a schedule.
+use Prim.Native.Nat.{ℕ, _<_}
+use native.Mathlib.Omega.{arith}
+use mathlib.Core.Path.{_≡_, ap, _∙_}
+use mathlib.Core.Logic.{_↔_}
+use mathlib.Core.List.{List, [], _∷_}
+use mathlib.Core.Option.{some}
+use lib.ListN.{getD}
+use Rattle.scan.proofs.Tabulate.{tabulate-at}
+use Rattle.automaton.specs.Automaton.{Automaton, Closed, follow}
+use Rattle.automaton.specs.Reach.{Reachable}
+use Rattle.automaton.proofs.Automaton.{arc-transition, follow-first, follow-lands}
+use Rattle.sequential.specs.Petri.{PetriNet, firedCount, fire, Enabled, Source, SameChoice}
+use Rattle.sequential.specs.Schedule.{Offers, Await, OneChoiceSet, IsSchedule}
+use Rattle.sequential.specs.Published.{ReachableMarking, FiresTo, SequentialSchedule}
+use Rattle.sequential.proofs.Clauses.{choice-sym, choice-trans, choice-source}
+use Rattle.sequential.proofs.Runs.{arc-below, from-root}
+
+-- firing puts and takes, at each place
+pub fires-to : (N : PetriNet) (m : List ℕ) (t : ℕ) (m′ : List ℕ) → Enabled N m t → m′ ≡ fire N m t → FiresTo N m t m′
+unfolding fire firedCount
+fires-to N m t m′ e q = record {
+  enabled = e;
+  balance = λ p l. let x = ap (λ (y : List ℕ). getD y p 0) q ∙ tabulate-at (firedCount N m t) 0 (N .places) p l in omega (arith, e .holds p l);
+  result = q;
+}
+
+-- ---- a schedule in the published sense
+
+module _ (N : PetriNet) (A : Automaton) (c : Closed A) (same : A .transitions ≡ N .transitions) (s : IsSchedule N A) where
+  marking-reached : (n : ℕ) → n < A .nodes → ReachableMarking N (A .label n)
+  unfolding Reachable
+  marking-reached n l =
+      let (σ, e) = s .reached n l in
+      let (f, h) = from-root N A c same s σ n e in
+      (σ, f, h)
+
+  -- whichever member of the choice set is offered, the others are those that take as it does
+  one-choice : (n t u : ℕ) → n < A .nodes → u < N .transitions → Offers N A n t → Offers N A n u ↔ SameChoice N t u
+  one-choice n t u l k (m, e) =
+      let (v, j, h) = s .choices n l in
+      let q : SameChoice N v t = h t (arc-below N A c same s n t m e) .0 (m, e) in
+      (λ o. choice-trans N t v u (choice-sym N v t q) (h u k .0 o), λ x. h u k .1 (choice-trans N v t u q x))
+
+  pub sequential : SequentialSchedule N A
+  sequential = record {
+    maps = marking-reached;
+    maps-root = s .starts;
+    fires = λ n t m l e. fires-to N _ t _ (s .enables n t m l e) (s .lands n t m l e);
+    chooses = one-choice;
+    sources = s .root-awaits;
+    serves = λ n t l k h. let (σ, m, e, w) = s .returns n l in (σ, m, e, w t k .1 h);
+  }
+
+-- ---- and back
+
+module _ (N : PetriNet) (A : Automaton) (c : Closed A) (same : A .transitions ≡ N .transitions) (some-source : (t : ℕ) × (t < N .transitions) × Source N t)
+    (q : SequentialSchedule N A) (reached : (n : ℕ) → n < A .nodes → Reachable A n) where
+  -- where a path to an offered transition starts, something is offered
+  offers-first : (σ : List ℕ) (n m t : ℕ) → follow A n σ ≡ some m → Offers N A m t → (u : ℕ) × Offers N A n u
+  offers-first [] n m t e o = let z : n ≡ m = unfold follow in (cc) in (t, rw z o)
+  offers-first (u ∷ σ) n m t e o = let (x, a, f) = follow-first A n u m σ e in (u, (x, a))
+
+  below : (n t m : ℕ) → A .arc n t ≡ some m → t < N .transitions
+  below n t m e = rw same at (arc-transition A c n t m e)
+
+  choices : (n : ℕ) → n < A .nodes → OneChoiceSet N A n
+  choices n l =
+      let (t, k, s) = some-source in
+      let (σ, m, e, o) = q .serves n t l k s in
+      let (u, (x, a)) = offers-first σ n m t e o in
+      (u, below n u x a, λ v j. q .chooses n u v l j (x, a))
+
+  -- a node that offers a source offers exactly the sources
+  awaits : (n t : ℕ) → n < A .nodes → Source N t → Offers N A n t → Await N A n
+  awaits n t l s o u j =
+      let (f, g) = q .chooses n t u l j o in
+      let (h, k) = choice-source N t u s in
+      (λ x. h (f x), λ y. g (k y))
+
+  pub published-schedule : IsSchedule N A
+  published-schedule = record {
+    starts = q .maps-root;
+    choices = choices;
+    root-awaits = q .sources;
+    enables = λ n t m l e. q .fires n t m l e .enabled;
+    lands = λ n t m l e. q .fires n t m l e .result;
+    reached = reached;
+    returns = λ n l.
+        let (t, k, s) = some-source in
+        let (σ, m, e, o) = q .serves n t l k s in
+        (σ, m, e, awaits m t (follow-lands A c σ n m l e) s o);
+  }

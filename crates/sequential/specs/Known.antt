@@ -1,0 +1,31 @@
+-- What the checks leave, for the functions that come after them and for proofs. No promise cites it.
+use Prim.Native.Nat.{ℕ, _+_, _*_, _≤_, _<_}
+use mathlib.Core.Path.{_≡_}
+use mathlib.Core.List.{List}
+use lib.ListN.{length}
+use Rattle.table.specs.Table.{KeyPasses}
+use Rattle.refusal.specs.declared.Verdict.the-variants.{Accepted}
+use Rattle.net.specs.Check.{netReply}
+use Rattle.sequential.specs.Petri.{PetriNet, petriNet}
+use Rattle.sequential.specs.Words.{nodeCount, entryCount, arcKeys, keyLimit, graph}
+use Rattle.sequential.specs.Schedule.{IsSchedule}
+use Rattle.sequential.specs.Checks.{ValuePasses}
+
+-- 6 and 7 refuse nothing
+pub record ShapePasses (sheet : List ℕ) : Type 0 where
+  pub some-node : 1 ≤ nodeCount sheet
+  pub few-nodes : nodeCount sheet ≤ 128
+  pub few-entries : entryCount sheet ≤ 4096
+  pub whole : length sheet ≡ 2 + 2 * entryCount sheet
+
+-- 6 to 9 refuse nothing
+pub record WordsHold (N : PetriNet) (sheet : List ℕ) : Type 0 where
+  pub shape : ShapePasses sheet
+  pub keys : (i : ℕ) → i < entryCount sheet → KeyPasses sheet 2 (keyLimit N sheet) i
+  pub values : (i : ℕ) → i < entryCount sheet → ValuePasses sheet (arcKeys N sheet) i
+
+-- 1 to 17 refuse nothing
+pub record Accepts (net sheet : List ℕ) : Type 0 where
+  pub net-accepted : netReply net ≡ Accepted
+  pub words : WordsHold (petriNet net) sheet
+  pub schedule : IsSchedule (petriNet net) (graph (petriNet net) sheet)

@@ -1,0 +1,42 @@
+-- Runs of a schedule: lists of firings from the root, how they go on, and the least bound of a place.
+use Prim.Native.Nat.{ℕ, _-_, _≤_, _<_}
+use mathlib.Core.Path.{_≡_}
+use mathlib.Core.Logic.{_↔_}
+use mathlib.Core.List.{List, [], _∷_, _++_}
+use mathlib.Core.Bool.{true}
+use mathlib.Core.Option.{some}
+use lib.ListN.{length, getD}
+use Rattle.automaton.specs.Automaton.{Automaton, follow, allows}
+use Rattle.automaton.specs.Reach.{Reachable}
+use Rattle.sequential.specs.Petri.{PetriNet, initial, fireAll, FiresEnabled, SameChoice}
+use Rattle.sequential.specs.Schedule.{Offers, Await, ToAwait}
+
+-- what place p holds after a list is fired from the initial marking
+abbrev pub heldAfterAll : PetriNet → List ℕ → ℕ → ℕ
+heldAfterAll N σ p = getD (fireAll N (initial N) σ) p 0
+
+-- place p holds at most b after every allowed list, and b after some allowed list: no lower number would do
+pub record LeastBound (N : PetriNet) (A : Automaton) (p b : ℕ) : Type 0 where
+  pub kept : (σ : List ℕ) → allows A 0 σ ≡ true → heldAfterAll N σ p ≤ b
+  pub attained : (σ : List ℕ) × (allows A 0 σ ≡ true) × (heldAfterAll N σ p ≡ b)
+
+-- a list from the root fires from the initial marking, and gives the counts of the node where it ends
+pub record Runs (N : PetriNet) (A : Automaton) (σ : List ℕ) : Type 0 where
+  pub end : ℕ
+  pub leads : follow A 0 σ ≡ some end
+  pub enabled : FiresEnabled N (initial N) σ
+  pub holds : fireAll N (initial N) σ ≡ A .label end
+
+-- a list goes on by the members of the choice set that is offered where it ends, and by nothing else
+pub record GoesOn (N : PetriNet) (A : Automaton) (σ : List ℕ) : Type 0 where
+  pub end : ℕ
+  pub leads : follow A 0 σ ≡ some end
+  pub member : ℕ
+  pub offered : Offers N A end member
+  pub extended : (t : ℕ) → (allows A 0 (σ ++ (t ∷ [])) ≡ true) ↔ ((t < N .transitions) × SameChoice N member t)
+  pub goes : allows A 0 (σ ++ (member ∷ [])) ≡ true
+
+-- where any list leads to a node, or from it to an await node, one of fewer firings than there are nodes does
+pub record ShortWhereAny (N : PetriNet) (A : Automaton) (n : ℕ) : Type 0 where
+  pub reached : Reachable A n → (σ : List ℕ) × (length σ ≤ A .nodes - 1) × (follow A 0 σ ≡ some n)
+  pub returns : ToAwait N A n → (σ : List ℕ) × (m : ℕ) × (length σ ≤ A .nodes - 1) × (follow A n σ ≡ some m) × Await N A m

@@ -1,0 +1,53 @@
+-- What the clauses of a schedule say, as tests: enabling, sources and choice sets, and what a node offers.
+-- That each decides its clause is proved in proofs/Clauses.
+use Prim.Native.Nat.{ℕ}
+use mathlib.Core.List.{List}
+use mathlib.Core.Bool.{Bool, Bool·beq}
+use lib.ListN.{getD}
+use lib.Dec.{leb, eqb}
+use Rattle.scan.specs.Scan.{found, all, any, least}
+use Rattle.automaton.specs.Automaton.{Automaton}
+use Rattle.sequential.specs.Petri.{PetriNet}
+
+module _ (N : PetriNet) where
+  unfoldable pub holdsEnough : List ℕ → ℕ → ℕ → Bool
+  holdsEnough marking t p = leb (N .taken t p) (getD marking p 0)
+
+  unfoldable pub enabled : List ℕ → ℕ → Bool
+  enabled marking t = all (holdsEnough marking t) (N .places)
+
+  unfoldable pub takesNothing : ℕ → ℕ → Bool
+  takesNothing t p = eqb (N .taken t p) 0
+
+  unfoldable pub isSource : ℕ → Bool
+  isSource t = all (takesNothing t) (N .places)
+
+  unfoldable pub takesAlike : ℕ → ℕ → ℕ → Bool
+  takesAlike t u p = eqb (N .taken t p) (N .taken u p)
+
+  unfoldable pub sameChoice : ℕ → ℕ → Bool
+  sameChoice t u = all (takesAlike t u) (N .places)
+
+module _ (N : PetriNet) (A : Automaton) where
+  unfoldable pub offers : ℕ → ℕ → Bool
+  offers n t = found (A .arc n t)
+
+  unfoldable pub offersAsSource : ℕ → ℕ → Bool
+  offersAsSource n t = Bool·beq (offers n t) (isSource N t)
+
+  unfoldable pub isAwait : ℕ → Bool
+  isAwait n = all (offersAsSource n) (N .transitions)
+
+  unfoldable pub offersSome : ℕ → Bool
+  offersSome n = any (offers n) (N .transitions)
+
+  -- the choice set is that of the first transition offered
+  unfoldable pub firstOffered : ℕ → ℕ
+  firstOffered n = least (offers n) (N .transitions)
+
+  unfoldable pub offersAsChoice : ℕ → ℕ → Bool
+  offersAsChoice n t = Bool·beq (offers n t) (sameChoice N (firstOffered n) t)
+
+  -- of a node that offers some transition: it offers one whole choice set, and nothing else
+  unfoldable pub offersOneChoiceSet : ℕ → Bool
+  offersOneChoiceSet n = all (offersAsChoice n) (N .transitions)

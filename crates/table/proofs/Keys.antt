@@ -1,0 +1,29 @@
+-- Keys in order: what the test of a key says, and that keys which all pass it rise.
+use Prim.Native.Nat.{ℕ, _+_, _-_, _<_}
+use native.Mathlib.Omega.{arith}
+use mathlib.Core.Path.{_≡_}
+use mathlib.Core.Logic.{_↔_}
+use mathlib.Core.List.{List}
+use mathlib.Core.Bool.{false}
+use lib.Dec.{ltb, leb}
+use borrow.Author.Tests.{leb-false, ltb-true, lt-ltb, lt-leb}
+use Rattle.scan.proofs.Tests.{byTest, or-none-left, or-none-right}
+use Rattle.table.specs.Table.{keyAt, Rising, KeyPasses}
+use Rattle.table.specs.Keys.{keyFails}
+
+module _ (words : List ℕ) (offset limit : ℕ) where
+  abbrev key : ℕ → ℕ
+  key = keyAt words offset
+
+  pub key-passes : (i : ℕ) → (keyFails words offset limit i ≡ false) ↔ KeyPasses words offset limit i
+  unfolding keyFails
+  key-passes i = (
+    λ h. record {
+      low = leb-false _ _ (or-none-left (leb limit (key i)) _ h);
+      above = λ l. leb-false _ _ (rw (lt-ltb 0 i l) at (or-none-right (leb limit (key i)) _ h));
+    },
+    λ k. rw (lt-leb limit (key i) (k .low)) (byTest (ltb 0 i) (λ e. rw (e, lt-leb (key i) (key (i - 1)) (k .above (ltb-true 0 i e)))) (λ e. rw e)),
+  )
+
+  pub keys-rise : (entries : ℕ) → ((i : ℕ) → i < entries → KeyPasses words offset limit i) → Rising words offset entries
+  keys-rise entries h = record { above = λ i l. let z : i + 1 - 1 ≡ i = omega arith in rw z at (h (i + 1) l .above (omega arith)) }
