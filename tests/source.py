@@ -31,7 +31,9 @@ def last(path):
 
 
 def brought(use):
-    """What a `use` line brings in: of each item its own text, its name in the file and its path."""
+    """What a `use` line brings in: of each item its own text, its name in the file and its path. A glob names nothing."""
+    if use['path'].endswith('*'):
+        return []
     if use['items'] is None:
         return [(None, use['name'] or last(use['path']), use['path'])]
     items = [item.strip() for item in use['items'].split(',') if item.strip()]
