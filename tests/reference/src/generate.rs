@@ -88,14 +88,26 @@ pub fn case(rng: &mut Rng) -> Case {
         return Case::Call(call(rng));
     }
     let net = if rng.chance(50) { net(rng) } else { schedule(rng).net };
-    let (t, p) = (rng.below(net.transitions() + 2), rng.below(net.places() + 2));
     let mut words = net_words(&net);
-    match rng.below(8) {
+    let (t, p) = place_asked(rng, &net, &words);
+    match rng.below(15) {
         0 => words.truncate(rng.below(words.len())),
         1 => words[rng.below(2)] = rng.pick(&[0, 33, u32::MAX]),
+        2..=5 => (0..rng.between(1, 4)).for_each(|_| damage::break_words(rng, &mut words, 3)),
+        6..=8 => damage::mix_keys(rng, &mut words),
         _ => {}
     }
     Case::Weights { net: words, transition: t as u32, place: p as u32 }
+}
+
+/// A transition and a place: those of an entry, or any, or one that there is not.
+fn place_asked(rng: &mut Rng, net: &Net, words: &[u32]) -> (usize, usize) {
+    let entries = words[2] as usize;
+    if entries == 0 || rng.chance(40) {
+        return (rng.below(net.transitions() + 2), rng.below(net.places() + 2));
+    }
+    let key = words[3 + rng.below(entries)] as usize;
+    (key / net.places() % net.transitions(), key % net.places())
 }
 
 /// A call of any kind.

@@ -1,7 +1,7 @@
 //! The reference: document 01 in ordinary Rust, and comparisons with it.
 //!
-//! Every run but those of `play` and `cases` ends with the line `N passed, M failed`; the exit status
-//! is 0 only where M is 0.
+//! `selftest` and `program` end with the line `N passed, M failed`; the exit status is 0 only where M is
+//! 0, and elsewhere where nothing went wrong.
 
 mod call;
 mod generate;
@@ -22,6 +22,7 @@ use text::{Case, Numbers};
 
 const USAGE: &str = "usage: reference selftest
        reference program CHECKER SEED COUNT
+       reference lay SEED INDEX DIR
        reference file DIR
        reference cases SEED COUNT
        reference play < CASES";
@@ -32,9 +33,17 @@ fn main() -> ExitCode {
     let mut tally = Tally::default();
     match arguments.as_slice() {
         ["play"] => return written(play),
+        ["file", folder] => return written(|| Ok(program::printed_in(Path::new(folder)))),
         ["cases", seed, count] => {
             if let (Ok(seed), Ok(count)) = (seed.parse(), count.parse()) {
                 return written(|| Ok(cases(seed, count)));
+            }
+            tally.check(false, || USAGE.to_string());
+        }
+        ["lay", seed, index, folder] => {
+            if let (Ok(seed), Ok(index)) = (seed.parse(), index.parse()) {
+                let laid = program::lay(seed, index, Path::new(folder));
+                return written(|| laid.map(|()| String::new()));
             }
             tally.check(false, || USAGE.to_string());
         }
@@ -50,10 +59,6 @@ fn main() -> ExitCode {
             }
             _ => tally.check(false, || USAGE.to_string()),
         },
-        ["file", folder] => {
-            print!("{}", program::printed_in(Path::new(folder)));
-            tally.passed += 1;
-        }
         _ => tally.check(false, || USAGE.to_string()),
     }
     println!("{} passed, {} failed", tally.passed, tally.failed);

@@ -6,7 +6,7 @@ mod form;
 mod net;
 mod sheet;
 
-pub use net::Net;
+pub use net::{Net, Shape};
 pub use sheet::Sheet;
 
 /// P and T are at most 32; a walker has 32 counts whatever P is.
@@ -118,10 +118,14 @@ pub fn net_check(net: &[u32]) -> [u64; 3] {
 
 /// What a transition takes and puts at a place, and what the place starts with: "an absent key means
 /// 0", and so does a transition or a place that there is not. The document says nothing of a net that
-/// is refused; one without a source has its weights, any other has none here.
+/// is refused, and `docs/DECISIONS.md` decides: one that 1 or 2 refuses has none, one that 3 or 4
+/// refuses what is found by halving, one without a source its weights.
 pub fn weights(net: &[u32], transition: u32, place: u32) -> [u64; 3] {
-    let Some(net) = Net::spread_out(net) else {
+    let Ok(shape) = Shape::read(net) else {
         return [0; 3];
+    };
+    let Some(net) = Net::spread_out(net) else {
+        return shape.halved(u64::from(transition), u64::from(place));
     };
     let (t, p) = (transition as usize, place as usize);
     let at = |row: Option<&Vec<u64>>| row.and_then(|row| row.get(p)).copied().unwrap_or(0);

@@ -5,9 +5,9 @@ use crate::generate::schedules::Schedule;
 use crate::generate::{self, rng::Rng};
 use crate::model::{self, FORM, SCRATCH};
 use crate::tally::Tally;
-use crate::{second, selftest};
 use crate::text::{listed, position};
-use std::path::Path;
+use crate::{second, selftest};
+use std::path::{Path, PathBuf};
 use std::process::Command;
 
 /// Words handed on of a longer file, "one more than fits".
@@ -115,31 +115,46 @@ fn tell_numbers(times: &[u64; 18], tally: &mut Tally) {
     }
 }
 
-/// Runs the program on `count` pairs of files and compares all that it prints. The folder of the
-/// first difference is kept.
+/// A folder of its own for a run of the program, which goes when it is dropped, after a failure too.
+struct Folder(PathBuf);
+
+impl Folder {
+    fn new() -> std::io::Result<Folder> {
+        let path = std::env::temp_dir().join(format!("reference-{}", std::process::id()));
+        std::fs::create_dir(&path)?;
+        Ok(Folder(path))
+    }
+}
+
+impl Drop for Folder {
+    fn drop(&mut self) {
+        let _ = std::fs::remove_dir_all(&self.0);
+    }
+}
+
+/// All that the program prints in a folder; it ends well and says nothing on standard error, or that
+/// is told too.
+fn run(checker: &Path, folder: &Path) -> std::io::Result<String> {
+    let output = Command::new(checker).current_dir(folder).output()?;
+    let mut text = String::from_utf8_lossy(&output.stdout).into_owned();
+    if !output.status.success() || !output.stderr.is_empty() {
+        text += &format!("{}, {}", output.status, String::from_utf8_lossy(&output.stderr));
+    }
+    Ok(text)
+}
+
+/// Runs the program on `count` pairs of files and compares all that it prints.
 pub fn compare(checker: &Path, seed: u64, count: u64, tally: &mut Tally) -> std::io::Result<()> {
     let checker = checker.canonicalize()?;
-    let workplace = std::env::temp_dir().join(format!("reference-{}", std::process::id()));
-    std::fs::create_dir_all(&workplace)?;
     let mut times = [0; 18];
     for index in 0..count {
-        let folder = workplace.join(format!("seed-{seed}-case-{index}"));
-        std::fs::create_dir(&folder)?;
-        lay_files(&mut Rng::for_case(seed, index), &folder)?;
-        let output = Command::new(&checker).current_dir(&folder).output()?;
-        let is = String::from_utf8_lossy(&output.stdout).into_owned();
-        let should = printed_in(&folder);
+        let folder = Folder::new()?;
+        lay(seed, index, &folder.0)?;
+        let should = printed_in(&folder.0);
         if let Some(met) = times.get_mut(number(&should)) {
             *met += 1;
         }
-        let kept = is != should && tally.failed == 0;
-        tally.same(&format!("{}", folder.display()), is, should);
-        if !kept {
-            std::fs::remove_dir_all(&folder)?;
-        }
-    }
-    if tally.failed == 0 {
-        std::fs::remove_dir_all(&workplace)?;
+        tally.same(&format!("lay {seed} {index} DIR"), run(&checker, &folder.0)?, should);
     }
     tell_numbers(&times, tally);
     Ok(())
@@ -147,10 +162,14 @@ pub fn compare(checker: &Path, seed: u64, count: u64, tally: &mut Tally) -> std:
 
 /// Runs the program on pairs of accepted sheets of one net. What it prints as their short forms is
 /// equal exactly where both allow the same, found by exploring the two sheets together.
-pub fn compare_pairs(checker: &Path, seed: u64, count: u64, tally: &mut Tally) -> std::io::Result<()> {
+pub fn compare_pairs(
+    checker: &Path,
+    seed: u64,
+    count: u64,
+    tally: &mut Tally,
+) -> std::io::Result<()> {
     let checker = checker.canonicalize()?;
-    let folder = std::env::temp_dir().join(format!("reference-pairs-{}", std::process::id()));
-    std::fs::create_dir_all(&folder)?;
+    let Folder(folder) = &Folder::new()?;
     let mut pairs = [0, 0];
     for index in 0..count {
         let rng = &mut Rng::for_case(seed, index);
@@ -159,32 +178,32 @@ pub fn compare_pairs(checker: &Path, seed: u64, count: u64, tally: &mut Tally) -
             continue;
         };
         let same = second::paths::same_language(&schedule.sheet, 0, &other.sheet, 0);
-        let forms = [short(&checker, &folder, &schedule)?, short(&checker, &folder, &other)?];
+        let forms = [short(&checker, folder, &schedule)?, short(&checker, folder, &other)?];
+        let both = forms.iter().all(|form| form.starts_with("short "));
         pairs[usize::from(!same)] += 1;
-        tally.check((forms[0] == forms[1]) == same, || {
+        tally.check(both && (forms[0] == forms[1]) == same, || {
             format!("pair {index} of seed {seed}: same is {same}\n  {}\n  {}", forms[0], forms[1])
         });
     }
-    std::fs::remove_dir_all(&folder)?;
     println!("pairs of sheets that allow the same: {}, that do not: {}", pairs[0], pairs[1]);
     tally.check(pairs.iter().all(|&pairs| pairs > 50), || "too few pairs".to_string());
     Ok(())
 }
 
-/// The last line that the program prints for an accepted schedule.
+/// The last line that the program prints for an accepted schedule, or all that it prints.
 fn short(checker: &Path, folder: &Path, schedule: &Schedule) -> std::io::Result<String> {
     let (net, sheet) = schedule.words();
     for (name, words) in [("net.bin", net), ("sheet.bin", sheet)] {
         let bytes: Vec<u8> = words.iter().flat_map(|word| word.to_le_bytes()).collect();
         std::fs::write(folder.join(name), bytes)?;
     }
-    let output = Command::new(checker).current_dir(folder).output()?;
-    let text = String::from_utf8_lossy(&output.stdout).into_owned();
+    let text = run(checker, folder)?;
     Ok(text.lines().last().filter(|line| line.starts_with("short ")).unwrap_or(&text).to_string())
 }
 
 /// Lays the two files of a case.
-fn lay_files(rng: &mut Rng, folder: &Path) -> std::io::Result<()> {
+pub fn lay(seed: u64, index: u64, folder: &Path) -> std::io::Result<()> {
+    let rng = &mut Rng::for_case(seed, index);
     let schedule = generate::schedule(rng);
     let (net, sheet) = generate::words(rng, &schedule);
     file(rng, &net, NET_WORDS).lay(&folder.join("net.bin"))?;

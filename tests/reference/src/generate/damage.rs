@@ -273,6 +273,14 @@ fn break_key_and_value(rng: &mut Rng, words: &mut [u32], header: usize) {
     words[header + entries + other] = rng.pick(&[0, MAX_WEIGHT as u32 + 1, u32::MAX]);
 }
 
+/// Swaps keys of a net so that they do not rise; how many are out of order is found by chance.
+pub fn mix_keys(rng: &mut Rng, net: &mut [u32]) {
+    let entries = net[2] as usize;
+    for _ in 0..rng.below(2 * entries + 1) {
+        net.swap(3 + rng.below(entries), 3 + rng.below(entries));
+    }
+}
+
 /// Sets one of the weights or values to a limit or next to one.
 fn break_value(rng: &mut Rng, words: &mut [u32], header: usize) {
     let first = words.len() - words.len().saturating_sub(header) / 2;

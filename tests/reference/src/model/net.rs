@@ -31,6 +31,67 @@ pub(super) fn spread(keys: &[u32], values: &[u32], end: u64) -> Vec<Option<u64>>
     table
 }
 
+/// The sizes and entries of words that pass 1 and 2.
+pub struct Shape<'a> {
+    places: u64,
+    transitions: u64,
+    keys: &'a [u32],
+    weights: &'a [u32],
+}
+
+impl Shape<'_> {
+    /// The checks before the entries: "under 3 words, sizes, length".
+    pub fn read(words: &[u32]) -> Result<Shape<'_>, Refusal> {
+        if words.len() < 3 {
+            return refuse(1, Nothing);
+        }
+        let [places, transitions, k] = [words[0], words[1], words[2]].map(u64::from);
+        let fits = |lines: u64| (1..=LINES as u64).contains(&lines);
+        if !fits(places) || !fits(transitions) || k > (2 * transitions + 1) * places {
+            return refuse(2, Nothing);
+        }
+        if words.len() as u64 != 3 + 2 * k {
+            return refuse(1, Nothing);
+        }
+        let (keys, weights) = words[3..].split_at(k as usize);
+        Ok(Shape { places, transitions, keys, weights })
+    }
+
+    /// The keys lie below this.
+    fn end(&self) -> u64 {
+        (2 * self.transitions + 1) * self.places
+    }
+
+    /// What a transition takes and puts at a place, and what the place starts with, each found by
+    /// halving, whether the keys rise or not.
+    pub fn halved(&self, transition: u64, place: u64) -> [u64; 3] {
+        let (t, end) = (transition, self.transitions);
+        let at = |there_is: bool, row: u64| match there_is && place < self.places {
+            true => self.halved_at(row * self.places + place),
+            false => 0,
+        };
+        [at(t < end, t), at(t < end, end + t), at(true, 2 * end)]
+    }
+
+    /// Halves the entries, with the middle rounded down and upwards past a key below the one asked
+    /// for; 0 where the entry that is left does not have the key.
+    fn halved_at(&self, key: u64) -> u64 {
+        let (mut low, mut high) = (0, self.keys.len());
+        while low < high {
+            let middle = (low + high) / 2;
+            if u64::from(self.keys[middle]) < key {
+                low = middle + 1;
+            } else {
+                high = middle;
+            }
+        }
+        match self.keys.get(low) {
+            Some(&found) if u64::from(found) == key => u64::from(self.weights[low]),
+            _ => 0,
+        }
+    }
+}
+
 impl Net {
     /// The net's checks in their order: "under 3 words, sizes, length, entries, 5".
     pub fn read(words: &[u32]) -> Result<Net, Refusal> {
@@ -48,28 +109,18 @@ impl Net {
 
     /// The checks up to the entries.
     fn entries(words: &[u32]) -> Result<Net, Refusal> {
-        if words.len() < 3 {
-            return refuse(1, Nothing);
-        }
-        let [p, t, k] = [words[0], words[1], words[2]].map(u64::from);
-        let lines = 1..=LINES as u64;
-        if !lines.contains(&p) || !lines.contains(&t) || k > (2 * t + 1) * p {
-            return refuse(2, Nothing);
-        }
-        if words.len() as u64 != 3 + 2 * k {
-            return refuse(1, Nothing);
-        }
-        let (keys, weights) = words[3..].split_at(k as usize);
-        let end = (2 * t + 1) * p;
-        for (i, &weight) in weights.iter().enumerate() {
-            if !key_fits(keys, i, end) {
+        let shape = Shape::read(words)?;
+        let end = shape.end();
+        for (i, &weight) in shape.weights.iter().enumerate() {
+            if !key_fits(shape.keys, i, end) {
                 return refuse(3, Entry(i));
             }
             if !(1..=MAX_WEIGHT).contains(&u64::from(weight)) {
                 return refuse(4, Entry(i));
             }
         }
-        Ok(Net::from_table(&spread(keys, weights, end), p as usize, t as usize))
+        let table = spread(shape.keys, shape.weights, end);
+        Ok(Net::from_table(&table, shape.places as usize, shape.transitions as usize))
     }
 
     /// The keys are rows of P places: what each transition takes, what each puts, the start. "An
