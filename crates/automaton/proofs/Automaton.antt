@@ -6,10 +6,10 @@ use mathlib.Core.List.{List, [], _∷_, _++_}
 use mathlib.Core.Option.{Option, none, some}
 use lib.Dec.{ltb}
 use borrow.Author.Tests.{ltb-true, ltb-false}
-use Rattle.scan.specs.Scan.{found}
+use Rattle.scan.specs.Scan.{found, foundOr}
 use Rattle.scan.proofs.Tests.{byTest, true-false}
 use Rattle.scan.proofs.First.{none-some, found-some}
-use Rattle.automaton.specs.Automaton.{Automaton, Closed, byArc, follow, allows, SameLists}
+use Rattle.automaton.specs.Automaton.{Automaton, Closed, follow, allows, SameLists}
 
 -- both forms of an arc, each with its equation
 pub arc-cases {ℓ} : {C : Type ℓ} (o : Option ℕ) → (o ≡ none → C) → ((m : ℕ) → o ≡ some m → C) → C
@@ -44,14 +44,14 @@ module _ (A : Automaton) where
 
   -- ---- a list behind a list
 
-  pub follow-append : (σ τ : List ℕ) (n : ℕ) → follow A n (σ ++ τ) ≡ byArc none (λ m. follow A m τ) (follow A n σ)
+  pub follow-append : (σ τ : List ℕ) (n : ℕ) → follow A n (σ ++ τ) ≡ foundOr none (λ m. follow A m τ) (follow A n σ)
   unfolding follow
   follow-append [] τ n = refl
   follow-append (t ∷ σ) τ n =
       arc-cases (A .arc n t) (λ q. rw q) (λ m q. rw q (follow-append σ τ m))
 
   pub follow-on : (σ τ : List ℕ) (n m : ℕ) → follow A n σ ≡ some m → follow A n (σ ++ τ) ≡ follow A m τ
-  follow-on σ τ n m e = follow-append σ τ n ∙ ap (byArc none (λ m. follow A m τ)) e
+  follow-on σ τ n m e = follow-append σ τ n ∙ ap (foundOr none (λ m. follow A m τ)) e
 
   pub follow-snoc : (σ : List ℕ) (n m t : ℕ) → follow A n σ ≡ some m → follow A n (σ ++ (t ∷ [])) ≡ A .arc m t
   follow-snoc σ n m t e = follow-on σ (t ∷ []) n m e ∙ last
@@ -95,7 +95,7 @@ module _ (A : Automaton) where
   pub allows-prefix : (σ τ : List ℕ) (n : ℕ) → allows A n (σ ++ τ) ≡ true → allows A n σ ≡ true
   unfolding allows found
   allows-prefix σ τ n e =
-      arc-cases (follow A n σ) (λ q. true-false (allows A n (σ ++ τ)) e (ap found (follow-append σ τ n ∙ ap (byArc none (λ m. follow A m τ)) q)))
+      arc-cases (follow A n σ) (λ q. true-false (allows A n (σ ++ τ)) e (ap found (follow-append σ τ n ∙ ap (foundOr none (λ m. follow A m τ)) q)))
       (λ m q. follow-allows n m σ q)
 
 -- ---- the same lists

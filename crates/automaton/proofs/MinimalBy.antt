@@ -10,7 +10,8 @@ use lib.ListN.{length, getD}
 use borrow.Author.Tests.{ltb-true}
 use Rattle.scan.proofs.Tests.{byTest}
 use Rattle.scan.proofs.Least.{least-ext}
-use Rattle.automaton.specs.Automaton.{Automaton, Closed, byArc}
+use Rattle.automaton.specs.Automaton.{Automaton, Closed}
+use Rattle.scan.specs.Scan.{foundOr}
 use Rattle.automaton.specs.Equivalence.{sameIn, same, leaderBy, leader, sameClass, refined}
 use Rattle.automaton.specs.BreadthFirst.{classAt, indexOf, enter, expand, explored, order}
 use Rattle.automaton.specs.Quotient.{merged, minimalBy, minimal}
@@ -43,7 +44,7 @@ module _ (A : Automaton) (c : Closed A) (r s : ℕ → ℕ → Bool) (agree : (n
   expand-agrees n xs l h zero = record { equal = refl; nodes = h }
   expand-agrees n xs l h (suc t) = step (expand r A n xs t) (expand s A n xs t) (expand-agrees n xs l h t)
     where
-      step : (ys zs : List ℕ) → Step ys zs → Step (byArc ys (enter r ys) (A .arc n t)) (byArc zs (enter s zs) (A .arc n t))
+      step : (ys zs : List ℕ) → Step ys zs → Step (foundOr ys (enter r ys) (A .arc n t)) (foundOr zs (enter s zs) (A .arc n t))
       step ys zs S =
           arc-cases (A .arc n t) (λ a. rw a S)
           (λ m a.

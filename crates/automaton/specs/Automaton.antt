@@ -4,7 +4,7 @@ use mathlib.Core.Path.{_≡_}
 use mathlib.Core.Bool.{Bool}
 use mathlib.Core.List.{List, [], _∷_}
 use mathlib.Core.Option.{Option, none, some}
-use Rattle.scan.specs.Scan.{found}
+use Rattle.scan.specs.Scan.{found, foundOr}
 
 -- "Node 0 is the root. Key n × T + t: from node n, firing t leads to the node that the value names. An absent arc key is no arc."
 -- Nodes are 0 to nodes - 1, transitions 0 to transitions - 1; a node's label is what it holds, its counts.
@@ -20,15 +20,10 @@ pub record Closed (A : Automaton) : Type 0 where
   pub lands : (n t m : ℕ) → n < A .nodes → A .arc n t ≡ some m → m < A .nodes
   pub bounded : (n t : ℕ) → A .transitions ≤ t → A .arc n t ≡ none
 
--- by an arc: d where there is none, f m where it leads to m
-abbrev pub byArc {ℓ} : {X : Type ℓ} → X → (ℕ → X) → Option ℕ → X
-byArc d f none = d
-byArc d f (some m) = f m
-
 -- Where a list leads from node n: "one arc for each firing: the first from that node, each next from the node where the last one landed".
 unfoldable pub follow : Automaton → ℕ → List ℕ → Option ℕ
 follow A n [] = some n
-follow A n (t ∷ σ) = byArc none (λ m. follow A m σ) (A .arc n t)
+follow A n (t ∷ σ) = foundOr none (λ m. follow A m σ) (A .arc n t)
 
 -- "A node allows a sequence when the sheet's arcs can be followed through it from that node."
 unfoldable pub allows : Automaton → ℕ → List ℕ → Bool

@@ -1,7 +1,7 @@
 -- The rows of worked examples hold: one computation of the definitions for a table, and one law that carries it to the calls.
 use Prim.Native.Nat.{ℕ, _≤_}
 use native.Mathlib.Omega.{arith}
-use mathlib.Core.Path.{_≡_, refl, sym, ap, _∙_}
+use mathlib.Core.Path.{_≡_, refl, ap, _∙_}
 use mathlib.Core.List.{List, [], _∷_}
 use lib.ListN.{length, take}
 use Rattle.scan.specs.Scan.{orElse, when, found, first, all, any, bit, count, passing, least, tabulate}
@@ -15,7 +15,7 @@ use Rattle.automaton.specs.Reach.{arcInto, arcFrom, reachedIn, leadsIn}
 use Rattle.automaton.specs.Equivalence.{equalLabels, agree, sameIn, same}
 use Rattle.automaton.specs.BreadthFirst.{classAt, indexOf, enter, expand, explored, order}
 use Rattle.automaton.specs.Quotient.{merged, minimalBy, minimal}
-use Rattle.net.specs.Net.{placeCount, transitionCount, keyLimit, entryWeight, takenKey, putKey, startKey, weightAt, isPlace, isTransition, taken, put, start, takesNothing, isSource, hasSource, entryCount}
+use Rattle.net.specs.Net.{placeCount, transitionCount, keyLimit, entryWeight, weightAt, taken, put, start, takesNothing, isSource, hasSource, entryCount}
 use Rattle.net.specs.Check.{sizesPass, weightFails, netReply}
 use Rattle.sequential.specs.Petri as petri
 use Rattle.sequential.specs.Words as words
@@ -28,7 +28,8 @@ use Rattle.call.specs.Call.{outputFault, wordsVerdict, answerOf}
 use Rattle.call.specs.Demands.{own}
 use Rattle.call.proofs.Laws.{call-enough}
 use Rattle.call.proofs.Done.{own-refused}
-use Rattle.schedule.specs.Calls.{scratchLimit, checkCore, CheckDone}
+use Rattle.refusal.specs.Limits.{scratchLimit}
+use Rattle.schedule.specs.Calls.{checkCore, CheckDone}
 use Rattle.minimal.specs.Encoding as encoding
 use Rattle.minimal.specs.Minimal.{minimalForm}
 use Rattle.minimal.specs.Form.{plainForm, FormDone}
@@ -98,9 +99,9 @@ table-holds [] p q = tt
 table-holds (r ∷ rs) p q = (row-holds r (ap headOf p) (ap headOf q), table-holds rs (ap tailOf p) (ap tailOf q))
 
 pub starred-holds : Starred
-unfolding orElse when found first all any bit count passing least tabulate keyAt valueAt entryWith entryOf arcInto arcFrom reachedIn leadsIn placeCount transitionCount keyLimit entryWeight takenKey putKey startKey weightAt isPlace isTransition taken put start takesNothing isSource hasSource entryCount keyFails foundAt foundBy finding sizesPass weightFails netReply tests.holdsEnough tests.enabled petri.firedCount tests.takesNothing tests.isSource tests.takesAlike tests.sameChoice words.nodeCount words.entryCount words.entryKey words.entryValue words.isNode words.entryWithKey words.arcKeys words.keyLimit words.arcKey words.countKey words.arcEntry words.arc words.count words.marking words.graph tests.offers tests.offersAsSource tests.isAwait tests.offersSome tests.firstOffered tests.offersAsChoice tests.offersOneChoiceSet check.sizesPass check.targetFails check.countFails words.isArc check.valueFails check.wordsFault words.arcNode words.arcTransition check.arcEnabled check.landsAt check.arcLands check.graphFault check.scheduleFault check.arcCount check.awaitCount equalLabels agree sameIn same classAt indexOf enter expand explored order merged minimalBy minimal encoding.gather encoding.gatherRows encoding.keyOfArc encoding.held encoding.keyOfCount encoding.valueOfCount encoding.keys encoding.values encoding.encode minimalForm scheduleReply countsOf
+unfolding orElse when found first all any bit count passing least tabulate keyAt valueAt entryWith entryOf arcInto arcFrom reachedIn leadsIn placeCount transitionCount keyLimit entryWeight weightAt taken put start takesNothing isSource hasSource entryCount keyFails foundAt foundBy finding sizesPass weightFails netReply tests.holdsEnough tests.enabled petri.firedCount tests.takesNothing tests.isSource tests.takesAlike tests.sameChoice words.nodeCount words.entryCount words.entryKey words.entryValue words.entryWithKey words.arcKeys words.keyLimit words.arcEntry words.arc words.count words.marking words.graph tests.offers tests.offersAsSource tests.isAwait tests.offersSome tests.firstOffered tests.offersAsChoice tests.offersOneChoiceSet check.sizesPass check.targetFails check.countFails words.isArc check.valueFails check.wordsFault words.arcNode words.arcTransition check.arcEnabled check.landsAt check.arcLands check.graphFault check.scheduleFault check.arcCount check.awaitCount equalLabels agree sameIn same classAt indexOf enter expand explored order merged minimalBy minimal encoding.gather encoding.gatherRows encoding.keyOfArc encoding.held encoding.keyOfCount encoding.valueOfCount encoding.keys encoding.values encoding.encode minimalForm scheduleReply countsOf
 starred-holds = table-holds starred refl refl
 
 pub further-holds : FurtherRows
-unfolding orElse when found first all any bit count passing least tabulate keyAt valueAt entryWith entryOf arcInto arcFrom reachedIn leadsIn placeCount transitionCount keyLimit entryWeight takenKey putKey startKey weightAt isPlace isTransition taken put start takesNothing isSource hasSource entryCount keyFails foundAt foundBy finding sizesPass weightFails netReply tests.holdsEnough tests.enabled petri.firedCount tests.takesNothing tests.isSource tests.takesAlike tests.sameChoice words.nodeCount words.entryCount words.entryKey words.entryValue words.isNode words.entryWithKey words.arcKeys words.keyLimit words.arcKey words.countKey words.arcEntry words.arc words.count words.marking words.graph tests.offers tests.offersAsSource tests.isAwait tests.offersSome tests.firstOffered tests.offersAsChoice tests.offersOneChoiceSet check.sizesPass check.targetFails check.countFails words.isArc check.valueFails check.wordsFault words.arcNode words.arcTransition check.arcEnabled check.landsAt check.arcLands check.graphFault check.scheduleFault check.arcCount check.awaitCount equalLabels agree sameIn same classAt indexOf enter expand explored order merged minimalBy minimal encoding.gather encoding.gatherRows encoding.keyOfArc encoding.held encoding.keyOfCount encoding.valueOfCount encoding.keys encoding.values encoding.encode minimalForm scheduleReply countsOf
+unfolding orElse when found first all any bit count passing least tabulate keyAt valueAt entryWith entryOf arcInto arcFrom reachedIn leadsIn placeCount transitionCount keyLimit entryWeight weightAt taken put start takesNothing isSource hasSource entryCount keyFails foundAt foundBy finding sizesPass weightFails netReply tests.holdsEnough tests.enabled petri.firedCount tests.takesNothing tests.isSource tests.takesAlike tests.sameChoice words.nodeCount words.entryCount words.entryKey words.entryValue words.entryWithKey words.arcKeys words.keyLimit words.arcEntry words.arc words.count words.marking words.graph tests.offers tests.offersAsSource tests.isAwait tests.offersSome tests.firstOffered tests.offersAsChoice tests.offersOneChoiceSet check.sizesPass check.targetFails check.countFails words.isArc check.valueFails check.wordsFault words.arcNode words.arcTransition check.arcEnabled check.landsAt check.arcLands check.graphFault check.scheduleFault check.arcCount check.awaitCount equalLabels agree sameIn same classAt indexOf enter expand explored order merged minimalBy minimal encoding.gather encoding.gatherRows encoding.keyOfArc encoding.held encoding.keyOfCount encoding.valueOfCount encoding.keys encoding.values encoding.encode minimalForm scheduleReply countsOf
 further-holds = table-holds further refl refl

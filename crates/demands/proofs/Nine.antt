@@ -16,7 +16,7 @@ use Rattle.automaton.specs.BreadthFirst.{classAt, indexOf, enter, expand, explo
 use Rattle.automaton.specs.Quotient.{merged, minimalBy, minimal}
 use Rattle.automaton.proofs.Classes.{classes-at}
 use Rattle.automaton.proofs.MinimalBy.{minimalBy-stable}
-use Rattle.net.specs.Net.{placeCount, transitionCount, keyLimit, entryWeight, takenKey, putKey, startKey, weightAt, isPlace, isTransition, taken, put, start, takesNothing, isSource, hasSource, entryCount}
+use Rattle.net.specs.Net.{placeCount, transitionCount, keyLimit, entryWeight, weightAt, taken, put, start, takesNothing, isSource, hasSource, entryCount}
 use Rattle.sequential.specs.Petri.{PetriNet, petriNet}
 use Rattle.sequential.proofs.Words.{words-out}
 use Rattle.sequential.proofs.Entries.{graph-closed}
@@ -56,11 +56,11 @@ closed : Closed A
 closed = graph-closed N nine (unfold transitionCount in (omega arith)) (words-out N nine passes)
 
 by-labels : classes A 0 ≡ own
-unfolding orElse when first passing least tabulate keyAt valueAt entryWith entryOf equalLabels sameIn leaderBy inClass classes placeCount transitionCount words.nodeCount words.entryCount words.entryValue words.isNode words.entryWithKey words.arcKeys words.countKey words.count words.marking words.graph
+unfolding orElse when first passing least tabulate keyAt valueAt entryWith entryOf equalLabels sameIn leaderBy inClass classes placeCount transitionCount words.nodeCount words.entryCount words.entryValue words.entryWithKey words.arcKeys words.count words.marking words.graph
 by-labels = refl
 
 by-arcs : tabulate (leaderBy (refined A class)) (A .nodes) ≡ own
-unfolding orElse when found first all passing least tabulate keyAt valueAt entryWith entryOf agree leaderBy inClass sameClass refined placeCount transitionCount words.nodeCount words.entryCount words.entryValue words.isNode words.entryWithKey words.arcKey words.arcEntry words.arc words.graph
+unfolding orElse when found first all passing least tabulate keyAt valueAt entryWith entryOf agree leaderBy inClass sameClass refined placeCount transitionCount words.nodeCount words.entryCount words.entryValue words.entryWithKey words.arcEntry words.arc words.graph
 by-arcs = refl
 
 is-minimal : minimalBy (sameClass class) A ≡ minimal A
@@ -69,7 +69,7 @@ is-minimal =
     (λ n l. sym (tabulate-at (leaderBy (refined A class)) 0 (A .nodes) n l) ∙ ap (λ (x : List ℕ). getD x n 0) by-arcs)
 
 words-of-it : encoding.encode N (minimalBy (sameClass class) A) ≡ nineForm
-unfolding orElse when found first all passing least tabulate keyAt valueAt entryWith entryOf sameClass classAt indexOf enter expand explored order merged minimalBy placeCount transitionCount words.nodeCount words.entryCount words.entryKey words.entryValue words.isNode words.entryWithKey words.arcKeys words.arcKey words.countKey words.arcEntry words.arc words.count words.marking words.graph encoding.gather encoding.gatherRows encoding.keyOfArc encoding.held encoding.keyOfCount encoding.valueOfCount encoding.keys encoding.values encoding.encode
+unfolding orElse when found first all passing least tabulate keyAt valueAt entryWith entryOf sameClass classAt indexOf enter expand explored order merged minimalBy placeCount transitionCount words.nodeCount words.entryCount words.entryKey words.entryValue words.entryWithKey words.arcKeys words.arcEntry words.arc words.count words.marking words.graph encoding.gather encoding.gatherRows encoding.keyOfArc encoding.held encoding.keyOfCount encoding.valueOfCount encoding.keys encoding.values encoding.encode
 words-of-it = refl
 
 form : minimalForm netQ nine ≡ nineForm
@@ -80,11 +80,11 @@ abbrev answer : List ℕ
 answer = 0 ∷ 0 ∷ 0 ∷ 9 ∷ 12 ∷ 3 ∷ []
 
 reply : check.scheduleReply netQ nine ≡ verdict.Accepted
-unfolding orElse when found first all any bit count passing least tabulate keyAt valueAt entryWith entryOf arcInto arcFrom reachedIn leadsIn placeCount transitionCount keyLimit entryWeight takenKey putKey startKey weightAt isPlace isTransition taken put start takesNothing isSource hasSource entryCount keyFails foundAt foundBy finding sizesPass weightFails netReply tests.holdsEnough tests.enabled petri.firedCount tests.takesNothing tests.isSource tests.takesAlike tests.sameChoice words.nodeCount words.entryCount words.entryKey words.entryValue words.isNode words.entryWithKey words.arcKeys words.keyLimit words.arcKey words.countKey words.arcEntry words.arc words.count words.marking words.graph tests.offers tests.offersAsSource tests.isAwait tests.offersSome tests.firstOffered tests.offersAsChoice tests.offersOneChoiceSet check.sizesPass check.targetFails check.countFails words.isArc check.valueFails check.wordsFault words.arcNode words.arcTransition check.arcEnabled check.landsAt check.arcLands check.graphFault check.scheduleFault check.arcCount check.awaitCount scheduleReply
+unfolding orElse when found first all any bit count passing least tabulate keyAt valueAt entryWith entryOf arcInto arcFrom reachedIn leadsIn placeCount transitionCount keyLimit entryWeight weightAt taken put start takesNothing isSource hasSource entryCount keyFails foundAt foundBy finding sizesPass weightFails netReply tests.holdsEnough tests.enabled petri.firedCount tests.takesNothing tests.isSource tests.takesAlike tests.sameChoice words.nodeCount words.entryCount words.entryKey words.entryValue words.entryWithKey words.arcKeys words.keyLimit words.arcEntry words.arc words.count words.marking words.graph tests.offers tests.offersAsSource tests.isAwait tests.offersSome tests.firstOffered tests.offersAsChoice tests.offersOneChoiceSet check.sizesPass check.targetFails check.countFails words.isArc check.valueFails check.wordsFault words.arcNode words.arcTransition check.arcEnabled check.landsAt check.arcLands check.graphFault check.scheduleFault check.arcCount check.awaitCount scheduleReply
 reply = refl
 
 counts : answered (row netQ nine answer nineForm) ≡ answer
-unfolding orElse when found first all any bit count passing least tabulate keyAt valueAt entryWith entryOf arcInto arcFrom reachedIn leadsIn placeCount transitionCount keyLimit entryWeight takenKey putKey startKey weightAt isPlace isTransition taken put start takesNothing isSource hasSource entryCount keyFails foundAt foundBy finding sizesPass weightFails netReply tests.holdsEnough tests.enabled petri.firedCount tests.takesNothing tests.isSource tests.takesAlike tests.sameChoice words.nodeCount words.entryCount words.entryKey words.entryValue words.isNode words.entryWithKey words.arcKeys words.keyLimit words.arcKey words.countKey words.arcEntry words.arc words.count words.marking words.graph tests.offers tests.offersAsSource tests.isAwait tests.offersSome tests.firstOffered tests.offersAsChoice tests.offersOneChoiceSet check.sizesPass check.targetFails check.countFails words.isArc check.valueFails check.wordsFault words.arcNode words.arcTransition check.arcEnabled check.landsAt check.arcLands check.graphFault check.scheduleFault check.arcCount check.awaitCount scheduleReply countsOf
+unfolding orElse when found first all any bit count passing least tabulate keyAt valueAt entryWith entryOf arcInto arcFrom reachedIn leadsIn placeCount transitionCount keyLimit entryWeight weightAt taken put start takesNothing isSource hasSource entryCount keyFails foundAt foundBy finding sizesPass weightFails netReply tests.holdsEnough tests.enabled petri.firedCount tests.takesNothing tests.isSource tests.takesAlike tests.sameChoice words.nodeCount words.entryCount words.entryKey words.entryValue words.entryWithKey words.arcKeys words.keyLimit words.arcEntry words.arc words.count words.marking words.graph tests.offers tests.offersAsSource tests.isAwait tests.offersSome tests.firstOffered tests.offersAsChoice tests.offersOneChoiceSet check.sizesPass check.targetFails check.countFails words.isArc check.valueFails check.wordsFault words.arcNode words.arcTransition check.arcEnabled check.landsAt check.arcLands check.graphFault check.scheduleFault check.arcCount check.awaitCount scheduleReply countsOf
 counts = refl
 
 pub nine-holds : Nine

@@ -13,8 +13,9 @@ use Rattle.net.specs.Check.{NetDone}
 use Rattle.sequential.specs.Petri.{petriNet}
 use Rattle.judge.specs.Answer.{plainCheck}
 use Rattle.call.specs.Demands.{number, ByChecks, EveryCall}
-use Rattle.schedule.specs.Walker.{walker, walkerChecks, runChecks}
-use Rattle.schedule.specs.Calls.{scratchLimit, CheckDone, BoundsDone, FreshDone, FireDone, RunDone}
+use Rattle.schedule.specs.Walker.{walkerChecks, runChecks}
+use Rattle.refusal.specs.Limits.{scratchLimit, mostPlaces}
+use Rattle.schedule.specs.Calls.{CheckDone, BoundsDone, FreshDone, FireDone, RunDone}
 use Rattle.schedule.specs.Plain.{plainRun}
 use Rattle.schedule.specs.declared.Walker.{Walker}
 use Rattle.minimal.specs.Form.{plainForm, FormDone}
@@ -30,7 +31,7 @@ pub record Demand1 : Type 0 where
   -- ---- each call on its own
   pub net-check : (net : List ℕ) (v : Verdict) → NetDone net v → ByChecks (netChecks net) (plainOf v) 0
   pub fresh-walker : (net : List ℕ) (v : Verdict) (w : Walker) → FreshDone net v w
-      → ByChecks (netChecks net) (plainOf v) 0 × ((number (plainOf v) ≡ 0 → ⊥) → w ≡ walker 0 (replicate 32 0))
+      → ByChecks (netChecks net) (plainOf v) 0 × ((number (plainOf v) ≡ 0 → ⊥) → w ≡ record { node = 0; counts = replicate mostPlaces 0 })
   pub check : (net sheet : List ℕ) → EveryCall {Left = Unit} scratchLimit plainCheck 3 (asked net sheet []) tt (λ s a left s′. CheckDone net sheet s a s′)
   pub place-bounds : (net sheet out : List ℕ)
       → EveryCall scratchLimit plainOf 0 (asked net sheet (once (petriNet net .places ≤ length out) 22 ∷ [])) out (BoundsDone net sheet out)

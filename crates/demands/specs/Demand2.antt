@@ -22,7 +22,8 @@ use Rattle.judge.specs.Answer.{plainCheck}
 use Rattle.judge.specs.declared.CheckAnswer.{CheckAnswer}
 use Rattle.call.specs.Demands.{number, own, ByChecks}
 use Rattle.schedule.specs.Walker.{Stands, walkerChecks}
-use Rattle.schedule.specs.Calls.{scratchLimit, CheckDone, BoundsDone, FreshDone, FireDone, RunDone}
+use Rattle.refusal.specs.Limits.{scratchLimit}
+use Rattle.schedule.specs.Calls.{CheckDone, BoundsDone, FreshDone, FireDone, RunDone}
 use Rattle.schedule.specs.Plain.{plainRun}
 use Rattle.schedule.specs.declared.Walker.{Walker}
 use Rattle.schedule.specs.declared.RunAnswer.{RunAnswer}

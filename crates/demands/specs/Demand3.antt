@@ -1,6 +1,6 @@
 -- Demand 3, whole: two accepted schedules of a net, the minimal forms that two calls wrote for them, and all finite lists of firings.
 -- proofs/Demand3 has a term for this record.
-use Prim.Native.Nat.{ℕ, _≤_, _<_}
+use Prim.Native.Nat.{ℕ, _+_, _*_, _≤_, _<_}
 use mathlib.Core.Path.{_≡_}
 use mathlib.Core.Logic.{_↔_}
 use mathlib.Core.List.{List, _++_}
@@ -11,7 +11,8 @@ use Rattle.automaton.specs.BreadthFirst.{BreadthFirst}
 use Rattle.judge.specs.Answer.{plainCheck}
 use Rattle.judge.specs.declared.CheckAnswer.{CheckAnswer}
 use Rattle.call.specs.Demands.{number, own}
-use Rattle.schedule.specs.Calls.{scratchLimit, CheckDone}
+use Rattle.refusal.specs.Limits.{scratchLimit, mostEntries}
+use Rattle.schedule.specs.Calls.{CheckDone}
 use Rattle.minimal.specs.Form.{plainForm, FormDone}
 use Rattle.minimal.specs.declared.FormAnswer.{FormAnswer}
 use Rattle.demands.specs.Terms.{said, Accepted}
@@ -62,10 +63,10 @@ pub record Demand3 : Type 0 where
   pub same-lists : (net sheet : List ℕ) → Accepted net sheet → (c : Form net sheet) → SameLists (said net (made c)) (said net sheet) 0 0
   -- its words all lie in the buffer, and what follows them there is as it was
   pub within : (net sheet : List ℕ) → Accepted net sheet → (c : Form net sheet) → (size c ≤ length (c .out)) × (c .out′ ≡ made c ++ drop (size c) (c .out))
-  -- with scratch enough the call answers 0 exactly when the buffer holds the form, as 8,194 words do: there is such a call
+  -- with scratch enough the call answers 0 exactly when the buffer holds the form, as 2 + 2 × 4,096 words do: there is such a call
   pub answers : (net sheet out scratch out′ scratch′ : List ℕ) (answer : FormAnswer) → Accepted net sheet → scratchLimit ≤ length scratch
       → FormDone net sheet out scratch answer out′ scratch′
       → (number (plainForm answer) ≡ 0) ↔ ((form : List ℕ) → Merges net sheet form → length form ≤ length out)
-  pub enough : (net sheet form : List ℕ) → Accepted net sheet → Merges net sheet form → length form ≤ 8194
-  pub there-is : (net sheet out scratch : List ℕ) → Accepted net sheet → scratchLimit ≤ length scratch → 8194 ≤ length out
+  pub enough : (net sheet form : List ℕ) → Accepted net sheet → Merges net sheet form → length form ≤ 2 + 2 * mostEntries
+  pub there-is : (net sheet out scratch : List ℕ) → Accepted net sheet → scratchLimit ≤ length scratch → 2 + 2 * mostEntries ≤ length out
       → (c : Form net sheet) × (c .out ≡ out) × (c .scratch ≡ scratch)

@@ -1,11 +1,12 @@
 -- The proved table: nets and schedules, what every check of them answers, and what every call of the minimal form writes.
-use Prim.Native.Nat.{ℕ, _≤_}
+use Prim.Native.Nat.{ℕ, _+_, _*_, _≤_}
 use mathlib.Core.Path.{_≡_}
 use mathlib.Core.List.{List, [], _∷_}
 use lib.ListN.{length, take}
 use Rattle.judge.specs.Answer.{plainCheck}
 use Rattle.judge.specs.declared.CheckAnswer.{CheckAnswer}
-use Rattle.schedule.specs.Calls.{scratchLimit, CheckDone}
+use Rattle.refusal.specs.Limits.{scratchLimit, mostEntries}
+use Rattle.schedule.specs.Calls.{CheckDone}
 use Rattle.minimal.specs.Form.{plainForm, FormDone}
 use Rattle.minimal.specs.declared.FormAnswer.{FormAnswer}
 use Rattle.call.specs.Demands.{own}
@@ -48,7 +49,7 @@ starred =
 
 pub record Holds (r : Row) : Type 0 where
   pub checked : (s s′ : List ℕ) (a : CheckAnswer) → scratchLimit ≤ length s → CheckDone (r .net) (r .sheet) s a s′ → plainCheck a ≡ r .answer
-  pub formed : (out s out′ s′ : List ℕ) (a : FormAnswer) → scratchLimit ≤ length s → 8194 ≤ length out → FormDone (r .net) (r .sheet) out s a out′ s′
+  pub formed : (out s out′ s′ : List ℕ) (a : FormAnswer) → scratchLimit ≤ length s → 2 + 2 * mostEntries ≤ length out → FormDone (r .net) (r .sheet) out s a out′ s′
       → take (own (plainForm a) 0) out′ ≡ r .form
 
 abbrev pub AllHold : List Row → Type 0

@@ -14,7 +14,8 @@ use Rattle.sequential.specs.Words.{graph}
 use Rattle.sequential.specs.Runs.{GoesOn, ShortWhereAny}
 use Rattle.sequential.specs.Checks.{WordsPass}
 use Rattle.call.specs.Demands.{number, own}
-use Rattle.schedule.specs.Calls.{scratchLimit, FreshDone, FireDone, RunDone}
+use Rattle.refusal.specs.Limits.{scratchLimit}
+use Rattle.schedule.specs.Calls.{FreshDone, FireDone, RunDone}
 use Rattle.schedule.specs.Plain.{plainRun}
 use Rattle.schedule.specs.declared.Walker.{Walker}
 use Rattle.schedule.specs.declared.RunAnswer.{RunAnswer}

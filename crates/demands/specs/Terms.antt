@@ -1,18 +1,19 @@
 -- Words that the three demands share: the graph that a schedule says, when a schedule is accepted, and all that a call checks.
 use Prim.Native.Nat.{ℕ, _≤_}
 use mathlib.Core.Path.{_≡_}
-use mathlib.Core.List.{List, _++_}
+use mathlib.Core.List.{List, _∷_, _++_}
 use lib.ListN.{length}
 use Rattle.automaton.specs.Automaton.{Automaton}
-use Rattle.refusal.specs.Checks.{Check}
+use Rattle.refusal.specs.Checks.{Check, once}
 use Rattle.net.specs.Checks.{netChecks}
 use Rattle.sequential.specs.Petri.{petriNet}
 use Rattle.sequential.specs.Words.{graph}
 use Rattle.sequential.specs.Checks.{sheetChecks}
 use Rattle.judge.specs.Answer.{plainCheck}
 use Rattle.judge.specs.declared.CheckAnswer.{CheckAnswer}
-use Rattle.call.specs.Demands.{number, callChecks}
-use Rattle.schedule.specs.Calls.{scratchLimit, CheckDone}
+use Rattle.call.specs.Demands.{number}
+use Rattle.refusal.specs.Limits.{scratchLimit}
+use Rattle.schedule.specs.Calls.{CheckDone}
 
 -- the graph that a schedule's words say
 abbrev pub said : List ℕ → List ℕ → Automaton
@@ -20,7 +21,7 @@ said net sheet = graph (petriNet net) sheet
 
 -- all that a call checks: scratch, the net, the schedule, and what the call asks besides
 abbrev pub asked : List ℕ → List ℕ → List Check → List ℕ → List Check
-asked net sheet besides scratch = callChecks scratchLimit scratch ((netChecks net ++ sheetChecks (petriNet net) sheet) ++ besides)
+asked net sheet besides scratch = once (scratchLimit ≤ length scratch) 21 ∷ ((netChecks net ++ sheetChecks (petriNet net) sheet) ++ besides)
 
 -- some call of the schedule check answered 0
 pub record Accepted (net sheet : List ℕ) : Type 0 where

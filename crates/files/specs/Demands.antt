@@ -13,7 +13,7 @@ use Rattle.refusal.specs.declared.Verdict.the-variants.{Accepted, Refused}
 use Rattle.sequential.specs.Check.{scheduleReply}
 use Rattle.judge.specs.Answer.{countsOf, checkAnswer}
 use Rattle.judge.specs.declared.CheckAnswer.the-variants.{Failed}
-use Rattle.files.specs.Words.{wordAt, isRagged, wordsOf, cut}
+use Rattle.files.specs.Words.{netRead, sheetRead, wordAt, isRagged, wordsOf, cut}
 use Rattle.files.specs.Program.{programAnswer}
 
 -- every word of a file
@@ -31,20 +31,20 @@ CutReads = (most : ℕ) (bytes : List ℕ) → ReadAsCut most bytes
 
 -- a longer file is answered as its cut: 16,656 bytes of the net and 32,780 of the sheet are enough
 abbrev pub CutAnswers : Type 0
-CutAnswers = (net sheet : List ℕ) → programAnswer (cut 4164 net) (cut 8195 sheet) ≡ programAnswer net sheet
+CutAnswers = (net sheet : List ℕ) → programAnswer (cut netRead net) (cut sheetRead sheet) ≡ programAnswer net sheet
 
 -- "one more than fits": the words that are not handed on change no answer
 abbrev pub CutChecks : Type 0
-CutChecks = (net sheet : List ℕ) → scheduleReply (take 4164 net) (take 8195 sheet) ≡ scheduleReply net sheet
+CutChecks = (net sheet : List ℕ) → scheduleReply (take netRead net) (take sheetRead sheet) ≡ scheduleReply net sheet
 
 -- "a tail of one to three bytes is 1 or 6 before any other check of that file": the net's tail, the net, the sheet's tail, the sheet
 pub record AnswersFiles (net sheet : List ℕ) : Type 0 where
-  pub net-tail : isRagged 4164 net ≡ true → programAnswer net sheet ≡ Failed (refusal 1 Nothing)
-  pub net-refused : isRagged 4164 net ≡ false → (r : Refusal) → netReply (wordsOf 4164 net) ≡ Refused r → programAnswer net sheet ≡ Failed r
-  pub sheet-tail : isRagged 4164 net ≡ false → netReply (wordsOf 4164 net) ≡ Accepted → isRagged 8195 sheet ≡ true
+  pub net-tail : isRagged netRead net ≡ true → programAnswer net sheet ≡ Failed (refusal 1 Nothing)
+  pub net-refused : isRagged netRead net ≡ false → (r : Refusal) → netReply (wordsOf netRead net) ≡ Refused r → programAnswer net sheet ≡ Failed r
+  pub sheet-tail : isRagged netRead net ≡ false → netReply (wordsOf netRead net) ≡ Accepted → isRagged sheetRead sheet ≡ true
       → programAnswer net sheet ≡ Failed (refusal 6 Nothing)
-  pub no-tail : isRagged 4164 net ≡ false → isRagged 8195 sheet ≡ false → programAnswer net sheet
-      ≡ checkAnswer (scheduleReply (wordsOf 4164 net) (wordsOf 8195 sheet)) (countsOf (wordsOf 4164 net) (wordsOf 8195 sheet))
+  pub no-tail : isRagged netRead net ≡ false → isRagged sheetRead sheet ≡ false → programAnswer net sheet
+      ≡ checkAnswer (scheduleReply (wordsOf netRead net) (wordsOf sheetRead sheet)) (countsOf (wordsOf netRead net) (wordsOf sheetRead sheet))
 
 abbrev pub AnswersInOrder : Type 0
 AnswersInOrder = (net sheet : List ℕ) → AnswersFiles net sheet

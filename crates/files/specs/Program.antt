@@ -13,7 +13,7 @@ use Rattle.refusal.specs.Verdict.{andThen}
 use Rattle.sequential.specs.Check.{scheduleReply}
 use Rattle.judge.specs.Answer.{countsOf, checkAnswer}
 use Rattle.judge.specs.declared.CheckAnswer.{CheckAnswer}
-use Rattle.files.specs.Words.{isRagged, wordCount, wordsOf, decoded}
+use Rattle.files.specs.Words.{netRead, sheetRead, isRagged, wordCount, wordsOf, decoded}
 use Rattle.files.specs.declared.FilesAnswer.{FilesAnswer}
 
 -- "a tail of one to three bytes is 1 or 6"
@@ -34,9 +34,8 @@ unfoldable pub filesAnswer : ℕ → ℕ → List ℕ → List ℕ → CheckAnsw
 filesAnswer netMost sheetMost netBytes sheetBytes =
     readAnswer (isRagged netMost netBytes) (isRagged sheetMost sheetBytes) (wordsOf netMost netBytes) (wordsOf sheetMost sheetBytes)
 
--- "the first 4,164 or 8,195 words"
 unfoldable pub programAnswer : List ℕ → List ℕ → CheckAnswer
-programAnswer netBytes sheetBytes = filesAnswer 4164 8195 netBytes sheetBytes
+programAnswer netBytes sheetBytes = filesAnswer netRead sheetRead netBytes sheetBytes
 
 -- One call: what it is handed, what it answers, and what the two buffers hold afterwards.
 pub record FilesRead (netBytes sheetBytes net sheet : List ℕ) (r : FilesAnswer) (net′ sheet′ : List ℕ) : Type 0 where

@@ -6,7 +6,15 @@ use mathlib.Core.Bool.{Bool, cond, not, _&&_}
 use lib.ListN.{length, getD, take, drop}
 use lib.Dec.{leb, eqb}
 use Rattle.scan.specs.Scan.{tabulate}
+use Rattle.refusal.specs.Limits.{mostPlaces, mostTransitions, mostEntries}
 use Rattle.files.specs.declared.Reading.{Reading}
+
+-- one word more than the longest net has, and than the longest schedule has: §12.3
+abbrev pub netRead : ℕ
+netRead = 4 + 2 * ((2 * mostTransitions + 1) * mostPlaces)
+
+abbrev pub sheetRead : ℕ
+sheetRead = 3 + 2 * mostEntries
 
 -- "words of four bytes, least significant first": the word that starts at a byte, missing bytes being 0
 unfoldable pub wordFrom : List ℕ → ℕ → ℕ

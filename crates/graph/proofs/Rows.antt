@@ -5,18 +5,18 @@ use native.Mathlib.Decide.{decLt}
 use native.Mathlib.Numerals.{add-one}
 use mathlib.Core.Path.{_≡_, refl, sym, ap, _∙_}
 use mathlib.Core.List.{List}
-use mathlib.Core.Bool.{Bool, true, false, cond, not, _&&_}
+use mathlib.Core.Bool.{true, false, not}
 use mathlib.Core.Option.{Option, none, some, Option·map}
 use lib.ListN.{length, getD}
 use lib.Dec.{ltb, leb}
 use borrow.Author.Tests.{lt-ltb, le-ltb, ltb-true, leb-true, le-leb, lt-leb, not-true}
 use Rattle.table.specs.Table.{valueAt, entryOf}
-use Rattle.table.specs.Row.{rowEntry, entryRow, entryCode}
+use Rattle.table.specs.Row.{entryRow, entryCode}
 use Rattle.table.proofs.Table.{entry-some}
 use Rattle.table.proofs.Row.{row-at, row-entry, row-past, entry-right, entry-past}
-use Rattle.automaton.specs.Automaton.{byArc}
+use Rattle.scan.specs.Scan.{foundOr, found, when, tabulate}
 use Rattle.sequential.specs.Petri.{PetriNet, petriNet}
-use Rattle.sequential.specs.Words.{nodeCount, entryCount, entryKey, entryValue, isNode, entryWithKey, valueOf, arcKeys, arcKey, countKey, arcEntry, arc, count}
+use Rattle.sequential.specs.Words.{nodeCount, entryCount, entryKey, entryValue, entryWithKey, arcKeys, arcEntry, arc, count}
 use Rattle.graph.specs.Readable.{Readable}
 use Rattle.graph.specs.Rows.{arcCode, valueTold, arcTold, countInRow, arcInRow, hasRow, HasRow, markingRow, arcRow}
 use Rattle.sequential.specs.Known.{WordsHold}
@@ -28,7 +28,6 @@ use Rattle.refusal.specs.declared.Refusal.{Refusal}
 use Rattle.refusal.specs.declared.Verdict.the-variants.{Accepted, Refused}
 use Rattle.refusal.proofs.Verdicts.{answer-none, answer-some}
 use Rattle.net.proofs.Laws.{sizes}
-use Rattle.scan.specs.Scan.{found, when, tabulate}
 use Rattle.scan.proofs.Tabulate.{tabulate-ext}
 use Rattle.scan.proofs.First.{found-none}
 use Rattle.scan.proofs.Tests.{and-left, and-right}
@@ -136,13 +135,13 @@ row-sizes net sheet n r = record {
 
 -- ---- readable words
 
-value-code : (sheet : List ℕ) (o : Option ℕ) → valueTold sheet (entryCode o) ≡ valueOf sheet o
+value-code : (sheet : List ℕ) (o : Option ℕ) → valueTold sheet (entryCode o) ≡ foundOr 0 (entryValue sheet) o
 unfolding valueTold
 value-code sheet none = refl
 value-code sheet (some i) = rw add-one
 
 arc-code : (sheet : List ℕ) (o : Option ℕ) → ((i : ℕ) → o ≡ some i → entryValue sheet i < nodeCount sheet)
-    → arcTold sheet (entryCode o) ≡ byArc 0 (λ m. m + 1) (Option·map (entryValue sheet) o)
+    → arcTold sheet (entryCode o) ≡ foundOr 0 (λ m. m + 1) (Option·map (entryValue sheet) o)
 unfolding arcTold
 arc-code sheet none h = refl
 arc-code sheet (some i) h = rw (add-one, lt-ltb (entryValue sheet i) (nodeCount sheet) (h i refl))
@@ -161,7 +160,7 @@ module _ (N : PetriNet) (sheet : List ℕ) (w : WordsHold N sheet) (n : ℕ) (l 
   arcs = entryRow sheet 2 (entryCount sheet) (n * N .transitions) (N .transitions)
 
   pub count-told : (p : ℕ) → p < 32 → valueTold sheet (getD counts p 0) ≡ count N sheet n p
-  unfolding count isNode entryWithKey countKey
+  unfolding count entryWithKey
   count-told p h = elim (decLt p (N .places)) [
     | yes m ↦ rw (row-entry sheet 2 (entryCount sheet) (arcKeys N sheet + n * N .places) (N .places) (words-rise N sheet w) (words-fit N sheet w) p h m, lt-ltb _ _ l, lt-ltb _ _ m)
         (value-code sheet (entryOf sheet 2 (entryCount sheet) (arcKeys N sheet + n * N .places + p)))
@@ -169,7 +168,7 @@ module _ (N : PetriNet) (sheet : List ℕ) (w : WordsHold N sheet) (n : ℕ) (l 
   ]
 
   pub arc-of-told : (t : ℕ) → t < 32 → arc N sheet n t ≡ when (ltb 0 (getD arcs t 0)) (valueTold sheet (getD arcs t 0))
-  unfolding arc arcEntry isNode entryWithKey arcKey
+  unfolding arc arcEntry entryWithKey
   arc-of-told t h = elim (decLt t (N .transitions)) [
     | yes m ↦ rw (row-entry sheet 2 (entryCount sheet) (n * N .transitions) (N .transitions) (words-rise N sheet w) (words-fit N sheet w) t h m, lt-ltb _ _ l, lt-ltb _ _ m)
         (told-value sheet (entryOf sheet 2 (entryCount sheet) (n * N .transitions + t)))
@@ -189,7 +188,7 @@ module _ (net sheet : List ℕ) (r : Readable net sheet) (n : ℕ) (l : n < node
   count-right p h = sym (count-in-row net sheet n p h) ∙ unfold arcKeys in (count-told (petriNet net) sheet w n l p h)
 
   arc-right : (t : ℕ) → t < 32 → arcInRow net sheet n t ≡ arcCode (petriNet net) sheet n t
-  unfolding arcInRow arcCode arc arcEntry isNode entryWithKey arcKey
+  unfolding arcInRow arcCode arc arcEntry entryWithKey
   arc-right t h =
       let first = n * transitionCount net in
       elim (decLt t (transitionCount net)) [

@@ -5,9 +5,9 @@ use mathlib.Core.List.{List}
 use mathlib.Core.Bool.{Bool, cond, not, _&&_}
 use lib.ListN.{replicate}
 use lib.Dec.{ltb, leb}
-use Rattle.scan.specs.Scan.{found, tabulate}
+use Rattle.scan.specs.Scan.{found, tabulate, foundOr}
 use Rattle.table.specs.Row.{rowEntry}
-use Rattle.automaton.specs.Automaton.{byArc}
+use Rattle.refusal.specs.Limits.{mostPlaces, mostTransitions}
 use Rattle.net.specs.Net.{placeCount, transitionCount}
 use Rattle.sequential.specs.Petri.{PetriNet}
 use Rattle.sequential.specs.Words.{nodeCount, entryCount, entryValue, arc}
@@ -16,7 +16,7 @@ use Rattle.sequential.specs.Known.{ShapePasses}
 
 -- an arc as a number: 1 plus the target, or 0
 unfoldable pub arcCode : PetriNet → List ℕ → ℕ → ℕ → ℕ
-arcCode N sheet n t = byArc 0 (λ m. m + 1) (arc N sheet n t)
+arcCode N sheet n t = foundOr 0 (λ m. m + 1) (arc N sheet n t)
 
 -- the value of an entry that is told as 1 plus its index
 unfoldable pub valueTold : List ℕ → ℕ → ℕ
@@ -37,16 +37,16 @@ module _ (net sheet : List ℕ) (n : ℕ) where
 
   -- the sizes are in range and n is a node
   unfoldable pub hasRow : Bool
-  hasRow = leb (placeCount net) 32 && (leb (transitionCount net) 32 && (not (found (shapeFault sheet)) && ltb n (nodeCount sheet)))
+  hasRow = leb (placeCount net) mostPlaces && (leb (transitionCount net) mostTransitions && (not (found (shapeFault sheet)) && ltb n (nodeCount sheet)))
 
   pub record HasRow : Type 0 where
-    pub few-places : placeCount net ≤ 32
-    pub few-transitions : transitionCount net ≤ 32
+    pub few-places : placeCount net ≤ mostPlaces
+    pub few-transitions : transitionCount net ≤ mostTransitions
     pub shape : ShapePasses sheet
     pub node : n < nodeCount sheet
 
   unfoldable pub markingRow : List ℕ
-  markingRow = cond hasRow (tabulate countInRow 32) (replicate 32 0)
+  markingRow = cond hasRow (tabulate countInRow mostPlaces) (replicate mostPlaces 0)
 
   unfoldable pub arcRow : List ℕ
-  arcRow = cond hasRow (tabulate arcInRow 32) (replicate 32 0)
+  arcRow = cond hasRow (tabulate arcInRow mostTransitions) (replicate mostTransitions 0)

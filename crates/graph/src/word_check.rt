@@ -9,6 +9,7 @@ ghost use Rattle.sequential.specs.Petri.{petriNet};
 ghost use Rattle.sequential.specs.Words.{entryCount};
 ghost use Rattle.sequential.specs.Check.{sizesPass, shapeFault, valueFails, entryFault, wordsFault};
 ghost use Rattle.table.specs.Keys.{keyFails};
+use refusal::Limits;
 use refusal::Position;
 use refusal::Refusal;
 use refusal::Verdict;
@@ -19,10 +20,10 @@ fn sizes_pass(nodes: u32, entries: u32) -> bool
     if nodes < 1 {
         return false;
     }
-    if 128 < nodes {
+    if Limits::NODES < nodes {
         return false;
     }
-    entries <= 4096
+    entries <= Limits::ENTRIES
 }
 
 // Refusals 6 and 7.
@@ -72,7 +73,7 @@ fn value_fails(sheet: &[u32], arcs: u32, i: usize) -> bool
     if value == 0 {
         return true;
     }
-    1000000000 < value
+    Limits::COUNT < value
 }
 
 // Refusals 8 and 9 at entry i.

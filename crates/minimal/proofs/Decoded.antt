@@ -14,13 +14,14 @@ use Rattle.scan.proofs.First.{none-some}
 use Rattle.automaton.specs.Automaton.{Automaton}
 use Rattle.automaton.proofs.Automaton.{arc-cases}
 use Rattle.sequential.specs.Petri.{PetriNet}
-use Rattle.sequential.specs.Words.{valueOf, entryWithKey, graph}
+use Rattle.sequential.specs.Words.{entryWithKey, graph, entryValue}
 use Rattle.sequential.proofs.Entries.{row-lt, row-div, row-mod, graph-closed}
 use Rattle.minimal.specs.Encoding.{held, encode, Encodable}
 use Rattle.minimal.proofs.Encoding.{Says}
 use Rattle.minimal.proofs.Entries.{look-up-entered, look-up-absent}
 use Rattle.minimal.proofs.Encoded.{encoded-nodes, encoded-says, says-encoded, encoded-rising, encoded-passes}
 use Rattle.minimal.proofs.Reading.{arc-inside, held-inside, value-there, graph-confined, graph-places}
+use Rattle.scan.specs.Scan.{foundOr}
 
 row-one : (n m d x y : ℕ) → x < d → y < d → n * d + x ≡ m * d + y → (n ≡ m) × (x ≡ y)
 row-one n m d x y l h e = (
@@ -79,12 +80,12 @@ module _ (N : PetriNet) (A : Automaton) (T : 0 < N .transitions) (E : Encodable 
       held-inside N sheet n p (rw (encoded-nodes N A) l) m
       ∙ rw (encoded-nodes N A) (byTest (ltb 0 (held N A n p)) (λ e. there (ltb-true 0 (held N A n p) e)) (λ e. absent (ltb-false 0 (held N A n p) e)))
     where
-      there : 0 < held N A n p → valueOf sheet (entryWithKey sheet (key n p)) ≡ held N A n p
+      there : 0 < held N A n p → foundOr 0 (entryValue sheet) (entryWithKey sheet (key n p)) ≡ held N A n p
       there z =
           value-there N sheet (entryWithKey sheet (key n p)) (held N A n p) (look-up-entered sheet (encoded-rising N A) (key n p) (held N A n p)
           (says-encoded N A (key n p) (held N A n p) (inr (record { node = n; place = p; is-node = l; is-place = m; key = refl; value = refl; positive = z }))))
 
-      absent : held N A n p ≤ 0 → valueOf sheet (entryWithKey sheet (key n p)) ≡ held N A n p
+      absent : held N A n p ≤ 0 → foundOr 0 (entryValue sheet) (entryWithKey sheet (key n p)) ≡ held N A n p
       absent z =
           rw (look-up-absent sheet (encoded-rising N A) (key n p) (λ v h. let (e, f) = said-count n p v l m (encoded-says N A (key n p) v h) in omega arith)) (omega arith)
 

@@ -9,32 +9,33 @@ use Rattle.scan.proofs.First.{none-some}
 use Rattle.scan.proofs.Tabulate.{tabulate-length}
 use Rattle.automaton.specs.Quotient.{Confined}
 use Rattle.sequential.specs.Petri.{PetriNet}
-use Rattle.sequential.specs.Words.{nodeCount, entryValue, isNode, entryWithKey, valueOf, arcKeys, arcKey, countKey, arcEntry, arc, count, marking, graph}
+use Rattle.sequential.specs.Words.{nodeCount, entryValue, entryWithKey, arcKeys, arcEntry, arc, count, marking, graph}
 use Rattle.sequential.proofs.Entries.{marking-node, marking-at}
 use Rattle.minimal.specs.Encoding.{held}
+use Rattle.scan.specs.Scan.{foundOr}
 
 module _ (N : PetriNet) (sheet : List ℕ) where
   pub arc-inside : (n t : ℕ) → n < nodeCount sheet → t < N .transitions
       → arc N sheet n t ≡ Option·map (entryValue sheet) (entryWithKey sheet (n * N .transitions + t))
-  unfolding arc arcEntry isNode arcKey
+  unfolding arc arcEntry
   arc-inside n t l m = rw (lt-ltb n (nodeCount sheet) l, lt-ltb t (N .transitions) m)
 
   arc-no-node : (n t : ℕ) → nodeCount sheet ≤ n → arc N sheet n t ≡ none
-  unfolding arc arcEntry isNode
+  unfolding arc arcEntry
   arc-no-node n t l = rw (le-ltb n (nodeCount sheet) l)
 
   pub held-inside : (n p : ℕ) → n < nodeCount sheet → p < N .places
-      → held N (graph N sheet) n p ≡ valueOf sheet (entryWithKey sheet (nodeCount sheet * N .transitions + n * N .places + p))
-  unfolding held graph count isNode countKey arcKeys
+      → held N (graph N sheet) n p ≡ foundOr 0 (entryValue sheet) (entryWithKey sheet (nodeCount sheet * N .transitions + n * N .places + p))
+  unfolding held graph count arcKeys
   held-inside n p l m = marking-at N sheet n p l m ∙ rw (lt-ltb n (nodeCount sheet) l, lt-ltb p (N .places) m)
 
   -- the value at a key, where there is one
-  pub value-there : (o : Option ℕ) (v : ℕ) → Option·map (entryValue sheet) o ≡ some v → valueOf sheet o ≡ v
+  pub value-there : (o : Option ℕ) (v : ℕ) → Option·map (entryValue sheet) o ≡ some v → foundOr 0 (entryValue sheet) o ≡ v
   value-there none v e = none-some none v refl e
   value-there (some i) v e = cc
 
   marking-past : (n : ℕ) → nodeCount sheet ≤ n → marking N sheet n ≡ []
-  unfolding marking isNode
+  unfolding marking
   marking-past n l = rw (le-ltb n (nodeCount sheet) l)
 
   pub graph-confined : Confined (graph N sheet)

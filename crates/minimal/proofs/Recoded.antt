@@ -13,7 +13,7 @@ use borrow.Author.Tests.{ltb-false}
 use Rattle.scan.proofs.Tests.{byTest}
 use Rattle.table.proofs.Table.{entry-some}
 use Rattle.sequential.specs.Petri.{PetriNet}
-use Rattle.sequential.specs.Words.{nodeCount, entryCount, entryKey, entryValue, entryWithKey, valueOf, arcKeys, keyLimit, graph, isArc, arcNode, arcTransition}
+use Rattle.sequential.specs.Words.{nodeCount, entryCount, entryKey, entryValue, entryWithKey, arcKeys, keyLimit, graph, isArc, arcNode, arcTransition}
 use Rattle.sequential.specs.Known.{WordsHold}
 use Rattle.sequential.proofs.Words.{words-rise}
 use Rattle.sequential.proofs.Entries.{ArcEntry, arc-entry, entry-arc, entry-node, graph-closed, count-most, marking-at}
@@ -22,6 +22,7 @@ use Rattle.minimal.proofs.Encoding.{ArcAt, CountAt, Says}
 use Rattle.minimal.proofs.Entries.{Entered, look-up-entered, same-words}
 use Rattle.minimal.proofs.Encoded.{encoded-nodes, encoded-entries, encoded-length, encoded-says, says-encoded, encoded-rising}
 use Rattle.minimal.proofs.Reading.{held-inside, value-there, graph-confined, graph-places}
+use Rattle.scan.specs.Scan.{foundOr}
 
 module _ (N : PetriNet) (sheet : List ℕ) (T : 0 < N .transitions) (P : 0 < N .places) (w : WordsHold N sheet) where
   -- ---- an entry is said by the graph
@@ -80,7 +81,7 @@ module _ (N : PetriNet) (sheet : List ℕ) (T : 0 < N .transitions) (P : 0 < N .
   unfolding arcNode arcTransition
   key-of-entry i n t m e = sym (div-add-mod' (entryKey sheet i) (N .transitions)) ∙ rw (e .node, e .transition)
 
-  value-at-key : (k v : ℕ) → CountAt N (graph N sheet) k v → valueOf sheet (entryWithKey sheet k) ≡ v
+  value-at-key : (k v : ℕ) → CountAt N (graph N sheet) k v → foundOr 0 (entryValue sheet) (entryWithKey sheet k) ≡ v
   unfolding graph
   value-at-key k v c = rw (c .key) (sym (held-inside N sheet (c .node) (c .place) (c .is-node) (c .is-place)) ∙ c .value)
 
@@ -91,7 +92,7 @@ module _ (N : PetriNet) (sheet : List ℕ) (T : 0 < N .transitions) (P : 0 < N .
       record { index = i; entry = e .entry; key = key-of-entry i _ _ v e ∙ sym (a .key); value = e .target }
   said-entered k v (inr c) = go (entryWithKey sheet k) refl (value-at-key k v c)
     where
-      go : (o : Option ℕ) → entryWithKey sheet k ≡ o → valueOf sheet o ≡ v → Entered sheet k v
+      go : (o : Option ℕ) → entryWithKey sheet k ≡ o → foundOr 0 (entryValue sheet) o ≡ v → Entered sheet k v
       go none e q = absurd (omega (arith, c .positive))
       go (some i) e q =
           let (l, h) = entry-some sheet 2 (entryCount sheet) k i (unfold entryWithKey in e) in

@@ -8,6 +8,7 @@ use lib.Dec.{ltb}
 use Rattle.scan.specs.Scan.{when, found}
 use Rattle.automaton.specs.Automaton.{Automaton, Closed}
 use Rattle.automaton.specs.Quotient.{Confined}
+use Rattle.refusal.specs.Limits.{mostNodes, mostEntries, mostCount}
 use Rattle.sequential.specs.Petri.{PetriNet}
 
 -- ---- what is found, in order
@@ -58,9 +59,9 @@ module _ (N : PetriNet) (A : Automaton) where
 
 pub record Encodable (N : PetriNet) (A : Automaton) : Type 0 where
   pub transitions : A .transitions ≡ N .transitions
-  pub few-nodes : A .nodes ≤ 128
-  pub few-entries : length (keys N A) ≤ 4096
+  pub few-nodes : A .nodes ≤ mostNodes
+  pub few-entries : length (keys N A) ≤ mostEntries
   pub closed : Closed A
   pub confined : Confined A
   pub places : (n : ℕ) → n < A .nodes → length (A .label n) ≡ N .places
-  pub most : (n p : ℕ) → n < A .nodes → p < N .places → held N A n p ≤ 1000000000
+  pub most : (n p : ℕ) → n < A .nodes → p < N .places → held N A n p ≤ mostCount

@@ -5,7 +5,7 @@ use lib.ListN.{length}
 use Rattle.refusal.specs.Refusal.{told}
 use Rattle.sequential.specs.Check.{scheduleReply}
 use Rattle.call.specs.Call.{Core, WordsDone, CallDone}
-use Rattle.schedule.specs.Calls.{scratchLimit}
+use Rattle.refusal.specs.Limits.{scratchLimit}
 use Rattle.minimal.specs.Minimal.{minimalForm}
 use Rattle.minimal.specs.declared.FormAnswer.{FormAnswer}
 use Rattle.minimal.specs.declared.FormAnswer.the-variants.{Written, Refused}

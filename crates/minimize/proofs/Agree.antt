@@ -10,7 +10,7 @@ use mathlib.Core.Option.{Option, none, some, Option·map}
 use lib.Dec.{ltb, eqb}
 use lib.ListN.{length, getD}
 use borrow.Author.Tests.{ltb-true, lt-ltb, eqb-true, eq-eqb, ne-eqb}
-use Rattle.scan.specs.Scan.{all, tabulate}
+use Rattle.scan.specs.Scan.{all, tabulate, foundOr}
 use Rattle.scan.proofs.Tests.{true-false, iff→eq, and-left, and-right, and-both}
 use Rattle.scan.proofs.Every.{all-in, all-out, all-ext, all-more, all-fails}
 use Rattle.scan.proofs.Tabulate.{tabulate-at, tabulate-ext}
@@ -22,7 +22,7 @@ use Rattle.table.proofs.Next.{next-hit, next-miss}
 use Rattle.automaton.specs.Equivalence.{equalLabels, equalArcs, agree, sameIn}
 use Rattle.automaton.proofs.Same.{equalLabels-in, equalLabels-out}
 use Rattle.sequential.specs.Petri.{PetriNet}
-use Rattle.sequential.specs.Words.{nodeCount, entryCount, entryKey, entryValue, isNode, entryWithKey, valueOf, arcKeys, arcKey, countKey, arcEntry, arc, count, graph}
+use Rattle.sequential.specs.Words.{nodeCount, entryCount, entryKey, entryValue, entryWithKey, arcKeys, arcEntry, arc, count, graph}
 use Rattle.sequential.specs.Known.{WordsHold}
 use Rattle.sequential.proofs.Words.{words-rise, words-fit}
 use Rattle.sequential.proofs.Entries.{marking-node, row-lt}
@@ -143,12 +143,12 @@ labels-all f g k =
 
 module _ (N : PetriNet) (sheet : List ℕ) (w : WordsHold N sheet) where
   arc-value : (n : ℕ) → n < nodeCount sheet → (t : ℕ) → t < N .transitions → arc N sheet n t ≡ keyValue sheet (n * N .transitions + t)
-  unfolding arc arcEntry isNode arcKey keyValue
+  unfolding arc arcEntry keyValue
   arc-value n l t m = rw (lt-ltb n (nodeCount sheet) l, lt-ltb t (N .transitions) m)
 
   -- counts are above 0 where they are there
   value-test : (x y : Option ℕ) → ((i : ℕ) → x ≡ some i → 1 ≤ entryValue sheet i) → ((i : ℕ) → y ≡ some i → 1 ≤ entryValue sheet i)
-      → eqb (valueOf sheet x) (valueOf sheet y) ≡ equalArcs eqb (Option·map (entryValue sheet) x) (Option·map (entryValue sheet) y)
+      → eqb (foundOr 0 (entryValue sheet) x) (foundOr 0 (entryValue sheet) y) ≡ equalArcs eqb (Option·map (entryValue sheet) x) (Option·map (entryValue sheet) y)
   value-test none none p q = eq-eqb 0 0 refl
   value-test none (some j) p q = ne-eqb 0 (entryValue sheet j) (λ e. let z = q j refl in omega arith)
   value-test (some i) none p q = ne-eqb (entryValue sheet i) 0 (λ e. let z = p i refl in omega arith)
@@ -160,8 +160,8 @@ module _ (N : PetriNet) (sheet : List ℕ) (w : WordsHold N sheet) where
       let (h, k) = entry-some sheet 2 (entryCount sheet) key i e in
       w .values i h .some (unfold entryKey in (rw k l))
 
-  count-value : (n p : ℕ) → n < nodeCount sheet → p < N .places → count N sheet n p ≡ valueOf sheet (entryWithKey sheet (arcKeys N sheet + n * N .places + p))
-  unfolding count isNode countKey
+  count-value : (n p : ℕ) → n < nodeCount sheet → p < N .places → count N sheet n p ≡ foundOr 0 (entryValue sheet) (entryWithKey sheet (arcKeys N sheet + n * N .places + p))
+  unfolding count
   count-value n p l h = rw (lt-ltb n (nodeCount sheet) l, lt-ltb p (N .places) h)
 
   -- ---- arcs, with T as the code reads it

@@ -1,25 +1,25 @@
 -- 3 and 4: the keys and weights of a net. Its keys rise, so each weight is found at its key.
-use Prim.Native.Nat.{ℕ, _+_, _-_, _≤_, _<_}
+use Prim.Native.Nat.{ℕ, _+_, _≤_, _<_}
 use native.Mathlib.Omega.{arith}
 use mathlib.Core.Path.{_≡_, refl}
 use mathlib.Core.List.{List}
 use mathlib.Core.Bool.{false}
 use mathlib.Core.Option.{Option, none, some}
 use lib.ListN.{length}
-use lib.Dec.{ltb, leb, eqb}
-use borrow.Author.Tests.{leb-false, ltb-true, ltb-false, eqb-false, lt-ltb, le-ltb, lt-leb, ne-eqb}
-use Rattle.scan.specs.Scan.{orElse, when}
-use Rattle.scan.proofs.Tests.{byTest, or-none-left, or-none-right}
+use lib.Dec.{eqb}
+use borrow.Author.Tests.{ltb-false, eqb-false, le-ltb, ne-eqb}
+use Rattle.scan.proofs.Tests.{or-none-left, or-none-right}
 use Rattle.scan.proofs.First.{orElse-left, orElse-right, when-none, first-all}
 use Rattle.table.specs.Table.{Rising, entryOf}
 use Rattle.table.proofs.Table.{entry-some}
-use Rattle.net.specs.Net.{entryCount, entryKey, entryWeight, keyLimit, weightOf, weightAt}
+use Rattle.net.specs.Net.{entryCount, entryWeight, keyLimit, weightAt}
 use Rattle.table.specs.Table.{KeyPasses}
 use Rattle.table.proofs.Keys.{key-passes, keys-rise}
 use Rattle.refusal.specs.Finding.{foundAt, lineFinds}
 use Rattle.net.specs.Checks.{WeightPasses}
 use Rattle.net.specs.Check.{weightFails, entryFault, entriesFault}
 use Rattle.net.proofs.Shape.{ShapePasses, shape-out}
+use Rattle.scan.specs.Scan.{foundOr}
 
 pub weight-out : (net : List ℕ) (i : ℕ) → weightFails (entryWeight net i) ≡ false → WeightPasses net i
 unfolding weightFails
@@ -65,6 +65,6 @@ pub weight-small : (net : List ℕ) → EntriesPass net → (key : ℕ) → weig
 unfolding weightAt
 weight-small net e key = go (entryOf net 3 (entryCount net) key) refl
   where
-    go : (o : Option ℕ) → entryOf net 3 (entryCount net) key ≡ o → weightOf net o ≤ 1000000000
+    go : (o : Option ℕ) → entryOf net 3 (entryCount net) key ≡ o → foundOr 0 (entryWeight net) o ≤ 1000000000
     go none h = omega arith
     go (some i) h = e .each i (entry-some net 3 (entryCount net) key i h .0) .weight .most

@@ -1,43 +1,42 @@
 -- What the crates above use of a net: its sizes, the range of its weights, and that nothing else has a weight.
 -- They stand on these and on the accessors' contracts, and open no definition of the net.
-use Prim.Native.Nat.{ℕ, _≤_}
+use Prim.Native.Nat.{ℕ, _≤_, _+_, _*_}
 use native.Mathlib.Omega.{arith}
-use mathlib.Core.Path.{_≡_, refl}
+use mathlib.Core.Path.{_≡_}
 use mathlib.Core.List.{List}
 use mathlib.Core.Bool.{Bool, true, false, cond, _&&_, and-false}
-use lib.Dec.{ltb}
 use borrow.Author.Tests.{le-ltb}
-use Rattle.net.specs.Net.{placeCount, transitionCount, weightAt, takenKey, putKey, startKey, isPlace, isTransition, taken, put, start}
+use Rattle.net.specs.Net.{placeCount, transitionCount, taken, put, start}
 use Rattle.net.specs.Check.{netReply}
-use Rattle.refusal.specs.Checks.{Passes, AllPass}
 use Rattle.net.specs.Checks.{SizesPass, IsNet, HasSource}
 use Rattle.refusal.specs.declared.Verdict.the-variants.{Accepted}
 use Rattle.net.specs.Demands.{AccessorsRight}
 use Rattle.net.proofs.Accessors.{accessors-right}
 use Rattle.net.proofs.Entries.{EntriesPass, weight-small}
 use Rattle.net.proofs.Checks.{net-judged, net-entries}
+use lib.Dec.{ltb}
 
 -- ---- outside the net
 
 module _ (net : List ℕ) where
   pub taken-no-transition : (t p : ℕ) → transitionCount net ≤ t → taken net t p ≡ 0
-  unfolding taken isTransition
+  unfolding taken
   taken-no-transition t p l = rw (le-ltb t (transitionCount net) l)
 
   pub taken-no-place : (t p : ℕ) → placeCount net ≤ p → taken net t p ≡ 0
-  unfolding taken isPlace
-  taken-no-place t p l = rw (le-ltb p (placeCount net) l, and-false (isTransition net t))
+  unfolding taken
+  taken-no-place t p l = rw (le-ltb p (placeCount net) l, and-false (ltb t (transitionCount net)))
 
   pub put-no-transition : (t p : ℕ) → transitionCount net ≤ t → put net t p ≡ 0
-  unfolding put isTransition
+  unfolding put
   put-no-transition t p l = rw (le-ltb t (transitionCount net) l)
 
   pub put-no-place : (t p : ℕ) → placeCount net ≤ p → put net t p ≡ 0
-  unfolding put isPlace
-  put-no-place t p l = rw (le-ltb p (placeCount net) l, and-false (isTransition net t))
+  unfolding put
+  put-no-place t p l = rw (le-ltb p (placeCount net) l, and-false (ltb t (transitionCount net)))
 
   pub start-no-place : (p : ℕ) → placeCount net ≤ p → start net p ≡ 0
-  unfolding start isPlace
+  unfolding start
   start-no-place p l = rw (le-ltb p (placeCount net) l)
 
 -- ---- an accepted net
@@ -64,12 +63,12 @@ module _ (net : List ℕ) (accepted : netReply net ≡ Accepted) where
 
   pub taken-most : (t p : ℕ) → taken net t p ≤ 1000000000
   unfolding taken
-  taken-most t p = guarded (isTransition net t && isPlace net p) _ (weight-small net passes (takenKey net t p))
+  taken-most t p = guarded (ltb t (transitionCount net) && ltb p (placeCount net)) _ (weight-small net passes (t * placeCount net + p))
 
   pub put-most : (t p : ℕ) → put net t p ≤ 1000000000
   unfolding put
-  put-most t p = guarded (isTransition net t && isPlace net p) _ (weight-small net passes (putKey net t p))
+  put-most t p = guarded (ltb t (transitionCount net) && ltb p (placeCount net)) _ (weight-small net passes ((transitionCount net + t) * placeCount net + p))
 
   pub start-most : (p : ℕ) → start net p ≤ 1000000000
   unfolding start
-  start-most p = guarded (isPlace net p) _ (weight-small net passes (startKey net p))
+  start-most p = guarded (ltb p (placeCount net)) _ (weight-small net passes (2 * transitionCount net * placeCount net + p))

@@ -5,7 +5,6 @@ use native.Mathlib.Decide.{decLt}
 use mathlib.Core.Path.{_≡_, sym, ap, _∙_}
 use mathlib.Core.List.{List}
 use mathlib.Core.Bool.{true, false}
-use mathlib.Core.Option.{some}
 use lib.Dec.{leb}
 use borrow.Author.Tests.{lt-ltb, le-leb, lt-leb, eq-eqb, ne-eqb}
 use Rattle.scan.proofs.Every.{all-in, all-fails}
@@ -13,11 +12,12 @@ use Rattle.table.specs.Table.{keyAt}
 use Rattle.table.specs.Bisection.{lowerBound}
 use Rattle.table.proofs.Table.{rising, entry-at, entry-absent}
 use Rattle.table.proofs.Bisection.{LowerBound, lower-bound}
-use Rattle.net.specs.Net.{placeCount, transitionCount, entryCount, entryWeight, takenKey, weightOf, weightAt, isPlace, isTransition, taken, takesNothing, isSource}
+use Rattle.net.specs.Net.{placeCount, transitionCount, entryCount, entryWeight, weightAt, taken, takesNothing, isSource}
 use Rattle.net.proofs.Entries.{EntriesPass, entries-rise, entries-fit}
+use Rattle.scan.specs.Scan.{foundOr}
 
 pub taken-within : (net : List ℕ) (t p : ℕ) → t < transitionCount net → p < placeCount net → taken net t p ≡ weightAt net (t * placeCount net + p)
-unfolding taken isTransition isPlace takenKey
+unfolding taken
 taken-within net t p l m = rw (lt-ltb t (transitionCount net) l, lt-ltb p (placeCount net) m)
 
 module _ (net : List ℕ) (e : EntriesPass net) (t : ℕ) (l : t < transitionCount net) where
@@ -29,7 +29,7 @@ module _ (net : List ℕ) (e : EntriesPass net) (t : ℕ) (l : t < transitionCou
   unfolding isSource takesNothing weightAt
   empty-row h =
       all-in (takesNothing net t) (placeCount net) (λ p m. eq-eqb _ _ (taken-within net t p l m
-      ∙ ap (weightOf net) (entry-absent net 3 (entryCount net) (t * placeCount net + p) (λ i k q. h i k (omega arith) (omega arith)))))
+      ∙ ap (foundOr 0 (entryWeight net)) (entry-absent net 3 (entryCount net) (t * placeCount net + p) (λ i k q. h i k (omega arith) (omega arith)))))
 
   -- a key in the row
   full-row : (i : ℕ) → i < entryCount net → t * placeCount net ≤ key i → key i < t * placeCount net + placeCount net → isSource net t ≡ false
@@ -39,7 +39,7 @@ module _ (net : List ℕ) (e : EntriesPass net) (t : ℕ) (l : t < transitionCou
       let m : p < placeCount net = omega arith in
       let w = e .each i k .weight .some in
       let q : taken net t p ≡ entryWeight net i = taken-within net t p l m
-      ∙ ap (weightOf net) (entry-at net 3 (entryCount net) (entries-rise net e) i (t * placeCount net + p) k (omega arith)) in
+      ∙ ap (foundOr 0 (entryWeight net)) (entry-at net 3 (entryCount net) (entries-rise net e) i (t * placeCount net + p) k (omega arith)) in
       all-fails (takesNothing net t) (placeCount net) p m (ne-eqb (taken net t p) 0 (λ z. omega arith))
 
   bound : LowerBound net 3 (entryCount net) (t * placeCount net) (lowerBound net 3 (entryCount net) (t * placeCount net))

@@ -10,8 +10,10 @@ use Rattle.table.specs.Bisection.{lookUp}
 use Rattle.table.specs.Row.{rowEntry}
 use Rattle.table.specs.declared.Found.{Found}
 use Rattle.table.specs.declared.Found.the-variants.{At, Nothing}
-use Rattle.net.specs.Net.{placeCount, transitionCount, entryCount, entryWeight, isPlace, isTransition}
+use Rattle.refusal.specs.Limits.{mostPlaces}
+use Rattle.net.specs.Net.{placeCount, transitionCount, entryCount, entryWeight}
 use Rattle.net.specs.Check.{shapeFault}
+use lib.Dec.{ltb}
 
 module _ (net : List ℕ) where
   abbrev pub weightFound : Found → ℕ
@@ -23,16 +25,16 @@ module _ (net : List ℕ) where
 
   -- row t of the keys is what t takes, row T + t what t puts, row 2 × T what the places start with
   unfoldable pub rowReply : ℕ → ℕ → ℕ
-  rowReply row p = cond (isPlace net p) (weightReply (row * placeCount net + p)) 0
+  rowReply row p = cond (ltb p (placeCount net)) (weightReply (row * placeCount net + p)) 0
 
   unfoldable pub shaped : Bool
   shaped = not (found (shapeFault net))
 
   unfoldable pub takenReply : ℕ → ℕ → ℕ
-  takenReply t p = cond (shaped && isTransition net t) (rowReply t p) 0
+  takenReply t p = cond (shaped && ltb t (transitionCount net)) (rowReply t p) 0
 
   unfoldable pub putReply : ℕ → ℕ → ℕ
-  putReply t p = cond (shaped && isTransition net t) (rowReply (transitionCount net + t) p) 0
+  putReply t p = cond (shaped && ltb t (transitionCount net)) (rowReply (transitionCount net + t) p) 0
 
   unfoldable pub startReply : ℕ → ℕ
   startReply p = cond shaped (rowReply (2 * transitionCount net) p) 0
@@ -48,13 +50,13 @@ module _ (net : List ℕ) where
   rowWeight row p = weightTold (rowEntry net 3 (entryCount net) (row * placeCount net) (placeCount net) p)
 
   unfoldable pub rowWeights : ℕ → List ℕ
-  rowWeights row = tabulate (rowWeight row) 32
+  rowWeights row = tabulate (rowWeight row) mostPlaces
 
   unfoldable pub takenRowReply : ℕ → List ℕ
-  takenRowReply t = cond (shaped && isTransition net t) (rowWeights t) (replicate 32 0)
+  takenRowReply t = cond (shaped && ltb t (transitionCount net)) (rowWeights t) (replicate mostPlaces 0)
 
   unfoldable pub putRowReply : ℕ → List ℕ
-  putRowReply t = cond (shaped && isTransition net t) (rowWeights (transitionCount net + t)) (replicate 32 0)
+  putRowReply t = cond (shaped && ltb t (transitionCount net)) (rowWeights (transitionCount net + t)) (replicate mostPlaces 0)
 
   unfoldable pub startRowReply : List ℕ
-  startRowReply = cond shaped (rowWeights (2 * transitionCount net)) (replicate 32 0)
+  startRowReply = cond shaped (rowWeights (2 * transitionCount net)) (replicate mostPlaces 0)

@@ -8,6 +8,7 @@ use lib.ListN.{length, take}
 use lib.Dec.{ltb, leb, eqb}
 use Rattle.scan.specs.Scan.{orElse, first}
 use Rattle.table.specs.Keys.{keyFails}
+use Rattle.refusal.specs.Limits.{mostPlaces, mostTransitions, mostCount}
 use Rattle.refusal.specs.Verdict.{verdictOf}
 use Rattle.refusal.specs.Finding.{Tests, asked, lineFinds, finding}
 use Rattle.refusal.specs.declared.Refusal.{Refusal}
@@ -16,10 +17,10 @@ use Rattle.net.specs.Net.{placeCount, transitionCount, entryCount, entry
 use Rattle.net.specs.Checks.{netChecks}
 
 unfoldable pub sizesPass : ℕ → ℕ → ℕ → Bool
-sizesPass p t k = leb 1 p && (leb p 32 && (leb 1 t && (leb t 32 && leb k ((2 * t + 1) * p))))
+sizesPass p t k = leb 1 p && (leb p mostPlaces && (leb 1 t && (leb t mostTransitions && leb k ((2 * t + 1) * p))))
 
 unfoldable pub weightFails : ℕ → Bool
-weightFails w = eqb w 0 || ltb 1000000000 w
+weightFails w = eqb w 0 || ltb mostCount w
 
 module _ (net : List ℕ) where
   abbrev pub entryTests : Tests

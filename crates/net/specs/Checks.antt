@@ -4,20 +4,21 @@ use mathlib.Core.Path.{_≡_}
 use mathlib.Core.List.{List, [], _∷_}
 use lib.ListN.{length}
 use Rattle.table.specs.Table.{KeyPasses}
+use Rattle.refusal.specs.Limits.{mostPlaces, mostTransitions, mostCount}
 use Rattle.refusal.specs.Checks.{_else_, Check, each, once, AllPass}
 use Rattle.refusal.specs.declared.Position.the-variants.{Entry}
 use Rattle.net.specs.Net.{placeCount, transitionCount, entryCount, entryWeight, keyLimit, taken}
 
 pub record SizesPass (net : List ℕ) : Type 0 where
   pub some-place : 1 ≤ placeCount net
-  pub few-places : placeCount net ≤ 32
+  pub few-places : placeCount net ≤ mostPlaces
   pub some-transition : 1 ≤ transitionCount net
-  pub few-transitions : transitionCount net ≤ 32
+  pub few-transitions : transitionCount net ≤ mostTransitions
   pub few-entries : entryCount net ≤ keyLimit net
 
 pub record WeightPasses (net : List ℕ) (i : ℕ) : Type 0 where
   pub some : 1 ≤ entryWeight net i
-  pub most : entryWeight net i ≤ 1000000000
+  pub most : entryWeight net i ≤ mostCount
 
 abbrev pub HasSource : List ℕ → Type 0
 HasSource net = (t : ℕ) × (t < transitionCount net) × ((p : ℕ) → p < placeCount net → taken net t p ≡ 0)

@@ -1,3 +1,4 @@
+pub mod Limits
 pub mod Refusal
 pub mod Verdict
 pub mod Checks

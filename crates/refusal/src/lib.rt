@@ -1,6 +1,6 @@
 // Refusals: by number, at a position; what a check answers; and both as plain numbers.
 ghost use mathlib.Core.Path.{_≡_};
-ghost use Rattle.refusal.specs.Refusal.{refusal, numberOf, positionOf, kindOf, indexOf, plainOf};
+ghost use Rattle.refusal.specs.Refusal.{refusal, numberOf, positionOf, kindOf, indexOf};
 
 // What a refusal's position counts, from 0.
 pub enum Position {
@@ -37,6 +37,23 @@ impl Position {
             Position::Record(i) => i,
         }
     }
+}
+
+// The limits: of P, T, V and K of a schedule, of weights and counts, and the words of scratch that a call asks for.
+pub struct Limits {}
+
+impl Limits {
+    pub const PLACES: u32 = 32;
+
+    pub const TRANSITIONS: u32 = 32;
+
+    pub const NODES: u32 = 128;
+
+    pub const ENTRIES: u32 = 4096;
+
+    pub const COUNT: u32 = 1000000000;
+
+    pub const SCRATCH: usize = 8192;
 }
 
 pub struct Refusal {

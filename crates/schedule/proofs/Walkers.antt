@@ -21,12 +21,12 @@ use Rattle.refusal.proofs.Checks.{Decides, Decided, Lawful, Tells, finding-tell
 use Rattle.net.specs.Check.{netReply}
 use Rattle.net.proofs.Laws.{sizes, put-no-place, start-no-place}
 use Rattle.sequential.specs.Petri.{PetriNet, petriNet, initial, firedCount, fire, Enabled}
-use Rattle.sequential.specs.Words.{nodeCount, isNode, arc, count, marking, graph}
+use Rattle.sequential.specs.Words.{nodeCount, arc, count, marking, graph}
 use Rattle.sequential.specs.Schedule.{Offers}
 use Rattle.sequential.specs.Check.{scheduleReply}
 use Rattle.sequential.proofs.Entries.{marking-at}
 use Rattle.sequential.proofs.Accepted.{accepts, closed}
-use Rattle.schedule.specs.Walker.{HoldsCount, standChecks, walkerChecks}
+use Rattle.schedule.specs.Walker.{standChecks, walkerChecks}
 use Rattle.schedule.specs.Firing.{freshWalker, standTests, walkerFault, walkerTests, stepFault, follows}
 use Rattle.schedule.specs.Walks.{HandedBack}
 use Rattle.schedule.specs.declared.Walker.{Walker}
@@ -38,7 +38,7 @@ below-or-not a b = byTest (ltb a b) (λ e. inl (ltb-true a b e)) (λ e. inr (ltb
 
 pub count-past : (N : PetriNet) (sheet : List ℕ) (n p : ℕ) → N .places ≤ p → count N sheet n p ≡ 0
 unfolding count
-count-past N sheet n p l = rw (le-ltb p (N .places) l, and-false (isNode sheet n))
+count-past N sheet n p l = rw (le-ltb p (N .places) l, and-false (ltb n (nodeCount sheet)))
 
 -- an arc that is found is offered
 pub offered↔ : (N : PetriNet) (sheet : List ℕ) (n t : ℕ) → (found (arc N sheet n t) ≡ true) ↔ Offers N (graph N sheet) n t
@@ -76,7 +76,7 @@ module _ (N : PetriNet) (sheet : List ℕ) (w : Walker) where
   -- a walker that passes 18 and 19
   pub record WalkerPasses : Type 0 where
     pub node : w .node < nodeCount sheet
-    pub holds : (p : ℕ) → p < 32 → HoldsCount N sheet w p
+    pub holds : (p : ℕ) → p < 32 → getD (w .counts) p 0 ≡ count N sheet (w .node) p
 
   pub walker-out : walkerFault N sheet w ≡ none → WalkerPasses
   walker-out h = let (a, (b, u)) = stand-tells .passes .0 h in record { node = a; holds = λ p l. b p l .0 }

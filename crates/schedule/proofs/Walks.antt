@@ -5,7 +5,7 @@ use native.Mathlib.Numerals.{add-one}
 use native.Mathlib.Decide.{decLt}
 use mathlib.Core.Path.{_≡_, refl, sym, ap, _∙_}
 use mathlib.Core.List.{List, []}
-use mathlib.Core.Bool.{Bool, true, false, cond, not, _&&_, and-false}
+use mathlib.Core.Bool.{Bool, true, false, cond, not, _&&_}
 use mathlib.Core.Option.{Option, none, some}
 use lib.ListN.{getD}
 use lib.Dec.{ltb}
@@ -26,10 +26,9 @@ use Rattle.refusal.specs.declared.Verdict.{Verdict}
 use Rattle.refusal.specs.declared.Verdict.the-variants.{Accepted, Refused}
 use Rattle.net.proofs.Laws.{put-no-place, sizes}
 use Rattle.sequential.specs.Petri.{PetriNet, petriNet, fire, firedCount}
-use Rattle.sequential.specs.Words.{nodeCount, entryCount, entryValue, isNode, entryWithKey, arcKey, arcEntry, arc, count, graph}
+use Rattle.sequential.specs.Words.{nodeCount, entryCount, entryValue, entryWithKey, arcEntry, arc, count, graph}
 use Rattle.sequential.specs.Check.{scheduleReply}
 use Rattle.sequential.specs.Known.{WordsHold}
-use Rattle.graph.specs.Readable.{Readable}
 use Rattle.refusal.specs.Verdict.{verdictOf}
 use Rattle.refusal.proofs.Verdicts.{answer-some, then-next}
 use Rattle.call.specs.Call.{WordsDone}
@@ -38,7 +37,7 @@ use Rattle.schedule.specs.Calls.{fireCore}
 use Rattle.schedule.specs.Walker.{walker}
 use Rattle.schedule.specs.Firing.{countFault, walkerFault, stepFault, follows, nodeAfter, firingFault}
 use Rattle.schedule.specs.declared.Walker.{Walker}
-use Rattle.sequential.proofs.Words.{words-in, words-rise, words-fit}
+use Rattle.sequential.proofs.Words.{words-rise, words-fit}
 use Rattle.sequential.proofs.Entries.{graph-closed, marking-at}
 use Rattle.sequential.proofs.Accepted.{accepts}
 use Rattle.schedule.proofs.Walkers.{count-past, step-fault}
@@ -60,21 +59,21 @@ found-nothing (some j) h = cc
 module _ (N : PetriNet) (sheet : List ℕ) (n t : ℕ) where
   pub entry-outside : N .transitions ≤ t → NotFound ≡ foundOf (arcEntry N sheet n t)
   unfolding arcEntry
-  entry-outside l = byTest (isNode sheet n) (λ e. rw (e, le-ltb t (N .transitions) l)) (λ e. rw e)
+  entry-outside l = byTest (ltb n (nodeCount sheet)) (λ e. rw (e, le-ltb t (N .transitions) l)) (λ e. rw e)
 
   pub entry-looked-up : WordsHold N sheet → n < nodeCount sheet → t < N .transitions
       → lookUp sheet 2 (entryCount sheet) (n * N .transitions + t) ≡ foundOf (arcEntry N sheet n t)
-  unfolding arcEntry isNode entryWithKey arcKey
+  unfolding arcEntry entryWithKey
   entry-looked-up w l m =
       rw (lt-ltb n (nodeCount sheet) l, lt-ltb t (N .transitions) m)
       (look-up sheet 2 (entryCount sheet) (n * N .transitions + t) (words-rise N sheet w) (words-fit N sheet w))
 
   pub entry-low : (i : ℕ) → arcEntry N sheet n t ≡ some i → i < entryCount sheet
   unfolding arcEntry
-  entry-low i e = go (isNode sheet n && ltb t (N .transitions)) e
+  entry-low i e = go (ltb n (nodeCount sheet) && ltb t (N .transitions)) e
     where
-      go : (a : Bool) → cond a (entryWithKey sheet (arcKey N sheet n t)) none ≡ some i → i < entryCount sheet
-      go true h = entry-some sheet 2 (entryCount sheet) (arcKey N sheet n t) i (unfold entryWithKey in h) .0
+      go : (a : Bool) → cond a (entryWithKey sheet (n * N .transitions + t)) none ≡ some i → i < entryCount sheet
+      go true h = entry-some sheet 2 (entryCount sheet) (n * N .transitions + t) i (unfold entryWithKey in h) .0
       go false h = none-some none i refl h
 
   pub entry-leads : (i : ℕ) → arcEntry N sheet n t ≡ some i → arc N sheet n t ≡ some (entryValue sheet i)

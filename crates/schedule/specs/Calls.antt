@@ -3,6 +3,7 @@ use Prim.Native.Nat.{ℕ}
 use mathlib.Core.Path.{_≡_}
 use mathlib.Core.List.{List, [], _∷_}
 use lib.ListN.{length}
+use Rattle.refusal.specs.Limits.{scratchLimit}
 use Rattle.refusal.specs.Verdict.{verdictOf, andThen}
 use Rattle.refusal.specs.declared.Verdict.{Verdict}
 use Rattle.refusal.specs.declared.Verdict.the-variants.{Accepted, Refused}
@@ -18,10 +19,6 @@ use Rattle.schedule.specs.Firing.{freshWalker, stepFault, follows, nodeA
 use Rattle.schedule.specs.declared.Walker.{Walker}
 use Rattle.schedule.specs.declared.RunAnswer.{RunAnswer}
 use Rattle.schedule.specs.declared.RunAnswer.the-variants.{Done, Stopped}
-
--- the words of scratch that a call needs
-abbrev pub scratchLimit : ℕ
-scratchLimit = 8192
 
 -- ---- the schedule check
 

@@ -6,8 +6,8 @@ use mathlib.Core.Bool.{not}
 use mathlib.Core.Option.{Option}
 use lib.ListN.{length, getD, replicate}
 use lib.Dec.{leb, eqb}
-use Rattle.scan.specs.Scan.{when, found, first, tabulate}
-use Rattle.automaton.specs.Automaton.{byArc}
+use Rattle.scan.specs.Scan.{when, found, first, tabulate, foundOr}
+use Rattle.refusal.specs.Limits.{mostPlaces}
 use Rattle.refusal.specs.Refusal.{refusal}
 use Rattle.refusal.specs.Verdict.{verdictOf}
 use Rattle.refusal.specs.Finding.{Tests, asked, lineFinds, finding}
@@ -23,8 +23,8 @@ use Rattle.schedule.specs.declared.Walker.{Walker}
 -- ---- a fresh walker
 
 abbrev pub freshWalker : Verdict → List ℕ → Walker
-freshWalker Accepted net = walker 0 (tabulate (petriNet net .start) 32)
-freshWalker (Refused r) net = walker 0 (replicate 32 0)
+freshWalker Accepted net = walker 0 (tabulate (petriNet net .start) mostPlaces)
+freshWalker (Refused r) net = walker 0 (replicate mostPlaces 0)
 
 -- ---- a single firing
 
@@ -49,7 +49,7 @@ module _ (N : PetriNet) (sheet : List ℕ) (w : Walker) where
 
   -- the arc's target, with the counts that firing gives
   unfoldable pub follows : ℕ → Walker
-  follows t = walker (byArc (w .node) (λ m. m) (arc N sheet (w .node) t)) (tabulate (firedCount N (w .counts) t) 32)
+  follows t = walker (foundOr (w .node) (λ m. m) (arc N sheet (w .node) t)) (tabulate (firedCount N (w .counts) t) mostPlaces)
 
 -- ---- a run
 
@@ -57,7 +57,7 @@ module _ (N : PetriNet) (sheet firings : List ℕ) where
   -- the node after so many firings; it stays where there is no arc
   unfoldable pub nodeAfter : ℕ → ℕ
   nodeAfter zero = 0
-  nodeAfter (suc i) = byArc (nodeAfter i) (λ m. m) (arc N sheet (nodeAfter i) (getD firings i 0))
+  nodeAfter (suc i) = foundOr (nodeAfter i) (λ m. m) (arc N sheet (nodeAfter i) (getD firings i 0))
 
   -- 20 at one index: there is no arc at the node that the firings before it lead to
   unfoldable pub firingFault : ℕ → Option Refusal

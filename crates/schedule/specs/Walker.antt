@@ -5,6 +5,7 @@ use mathlib.Core.List.{List, [], _∷_, _++_}
 use mathlib.Core.Bool.{true}
 use lib.ListN.{length, getD, take}
 use Rattle.automaton.specs.Automaton.{allows}
+use Rattle.refusal.specs.Limits.{mostPlaces}
 use Rattle.refusal.specs.Checks.{_else_, Check, once, each}
 use Rattle.refusal.specs.declared.Position.the-variants.{Place, Record}
 use Rattle.sequential.specs.Petri.{PetriNet}
@@ -15,21 +16,18 @@ use Rattle.schedule.specs.declared.Walker.{Walker}
 abbrev pub walker : ℕ → List ℕ → Walker
 walker n counts = record { node = n; counts = counts }
 
--- at a node, with 32 counts, those from P on being 0
+-- at a node, with as many counts as there can be places, those from P on being 0
 pub record Stands (N : PetriNet) (w : Walker) (n : ℕ) (held : ℕ → ℕ) : Type 0 where
   pub node : w .node ≡ n
-  pub counts : length (w .counts) ≡ 32
+  pub counts : length (w .counts) ≡ mostPlaces
   pub holds : (p : ℕ) → p < N .places → getD (w .counts) p 0 ≡ held p
-  pub zeros : (p : ℕ) → N .places ≤ p → p < 32 → getD (w .counts) p 0 ≡ 0
+  pub zeros : (p : ℕ) → N .places ≤ p → p < mostPlaces → getD (w .counts) p 0 ≡ 0
 
 -- what a node holds is 0 at places from P on
-abbrev pub HoldsCount : PetriNet → List ℕ → Walker → ℕ → Type 0
-HoldsCount N sheet w p = getD (w .counts) p 0 ≡ count N sheet (w .node) p
-
 abbrev pub standChecks : PetriNet → List ℕ → Walker → List Check
 standChecks N sheet w =
     once (w .node < nodeCount sheet) 18
-    ∷ each 32 Place (HoldsCount N sheet w else 19 ∷ [])
+    ∷ each mostPlaces Place ((λ p. getD (w .counts) p 0 ≡ count N sheet (w .node) p) else 19 ∷ [])
     ∷ []
 
 abbrev pub walkerChecks : PetriNet → List ℕ → Walker → ℕ → List Check

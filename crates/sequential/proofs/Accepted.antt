@@ -1,7 +1,7 @@
 -- Accepted exactly where all checks pass, and so exactly where the net is one, the words pass, and the graph that they say is a schedule.
 use Prim.Native.Nat.{ℕ, _<_}
 use native.Mathlib.Omega.{arith}
-use mathlib.Core.Path.{_≡_, _∙_}
+use mathlib.Core.Path.{_≡_}
 use mathlib.Core.Logic.{_↔_}
 use mathlib.Core.List.{List, _++_}
 use mathlib.Core.Option.{some}
@@ -14,10 +14,10 @@ use Rattle.net.specs.Checks.{netChecks}
 use Rattle.net.specs.Check.{netReply}
 use Rattle.net.proofs.Checks.{net-judged}
 use Rattle.net.proofs.Laws.{sizes}
-use Rattle.sequential.specs.Petri.{PetriNet, petriNet, Enabled, fire}
-use Rattle.sequential.specs.Words.{nodeCount, entryCount, entryValue, arcNode, arcTransition, arc, marking, graph}
+use Rattle.sequential.specs.Petri.{PetriNet, petriNet}
+use Rattle.sequential.specs.Words.{nodeCount, entryCount, entryValue, arcNode, arcTransition, arc, graph, entryKey, arcKeys}
 use Rattle.sequential.specs.Schedule.{IsSchedule}
-use Rattle.sequential.specs.Checks.{IsArc, wordChecks, graphChecks, sheetChecks}
+use Rattle.sequential.specs.Checks.{wordChecks, graphChecks, sheetChecks}
 use Rattle.sequential.specs.Check.{scheduleFault, scheduleReply}
 use Rattle.sequential.specs.Known.{WordsHold, Accepts}
 use Rattle.sequential.proofs.Words.{words-tell, words-hold, words-pass}
@@ -63,10 +63,10 @@ module _ (N : PetriNet) (sheet : List ℕ) (T : 0 < N .transitions) (w : WordsHo
     ),
   )
     where
-      node : (i : ℕ) → i < entryCount sheet → IsArc N sheet i → arcNode N sheet i < nodeCount sheet
+      node : (i : ℕ) → i < entryCount sheet → entryKey sheet i < arcKeys N sheet → arcNode N sheet i < nodeCount sheet
       node i l a = entry-node N sheet T w i l (isArc↔ N sheet i .1 a)
 
-      at : (i : ℕ) → i < entryCount sheet → IsArc N sheet i → arc N sheet (arcNode N sheet i) (arcTransition N sheet i) ≡ some (entryValue sheet i)
+      at : (i : ℕ) → i < entryCount sheet → entryKey sheet i < arcKeys N sheet → arc N sheet (arcNode N sheet i) (arcTransition N sheet i) ≡ some (entryValue sheet i)
       at i l a = entry-arc N sheet T w i l (isArc↔ N sheet i .1 a)
 
 -- ---- the verdict

@@ -3,21 +3,21 @@ use Prim.Native.Nat.{ℕ, _+_, _*_, _/_, _%_, _≤_, _<_}
 use native.Mathlib.Omega.{arith}
 use native.Mathlib.Nat.{div-lt-iff-lt-mul, mul-add-div-right, mul-add-mod-self-right, div-eq-of-lt, mod-eq-of-lt, mod-lt, add-zero, mul-le-mul-right, div-add-mod'}
 use mathlib.Core.Path.{_≡_, refl, sym, ap, _∙_}
-use mathlib.Core.List.{List, []}
+use mathlib.Core.List.{List}
 use mathlib.Core.Bool.{Bool, true, false, cond, _&&_}
 use mathlib.Core.Option.{Option, none, some, Option·map}
-use lib.ListN.{length, getD}
+use lib.ListN.{getD}
 use lib.Dec.{ltb}
-use borrow.Author.Tests.{lt-ltb, le-ltb, ltb-true, ltb-false}
-use Rattle.scan.specs.Scan.{tabulate}
-use Rattle.scan.proofs.Tests.{byTest, and-left, and-right}
+use borrow.Author.Tests.{lt-ltb, le-ltb, ltb-true}
+use Rattle.scan.specs.Scan.{tabulate, foundOr}
+use Rattle.scan.proofs.Tests.{byTest}
 use Rattle.scan.proofs.First.{none-some}
-use Rattle.scan.proofs.Tabulate.{tabulate-at, tabulate-length}
-use Rattle.table.specs.Table.{keyAt, entryOf}
+use Rattle.scan.proofs.Tabulate.{tabulate-at}
+use Rattle.table.specs.Table.{keyAt}
 use Rattle.table.proofs.Table.{entry-at, entry-some}
-use Rattle.automaton.specs.Automaton.{Automaton, Closed}
+use Rattle.automaton.specs.Automaton.{Closed}
 use Rattle.sequential.specs.Petri.{PetriNet}
-use Rattle.sequential.specs.Words.{nodeCount, entryCount, entryKey, entryValue, isNode, entryWithKey, valueOf, arcKeys, arcKey, countKey, arcEntry, arc, count, marking, graph, isArc, arcNode, arcTransition}
+use Rattle.sequential.specs.Words.{nodeCount, entryCount, entryKey, entryValue, entryWithKey, arcKeys, arcEntry, arc, count, marking, graph, isArc, arcNode, arcTransition}
 use Rattle.sequential.specs.Known.{WordsHold}
 use Rattle.sequential.proofs.Words.{words-rise}
 
@@ -43,14 +43,14 @@ pub record ArcEntry (N : PetriNet) (sheet : List ℕ) (i n t m : ℕ) : Type 0 w
 module _ (N : PetriNet) (sheet : List ℕ) (T : 0 < N .transitions) (w : WordsHold N sheet) where
   -- an arc of the graph stands at an entry
   pub arc-entry : (n t m : ℕ) → arc N sheet n t ≡ some m → (i : ℕ) × ArcEntry N sheet i n t m
-  unfolding arc arcEntry isNode
-  arc-entry n t m e = go (ltb n (nodeCount sheet)) refl (ltb t (N .transitions)) refl (entryWithKey sheet (arcKey N sheet n t)) refl e
+  unfolding arc arcEntry
+  arc-entry n t m e = go (ltb n (nodeCount sheet)) refl (ltb t (N .transitions)) refl (entryWithKey sheet (n * N .transitions + t)) refl e
     where
-      go : (a : Bool) → ltb n (nodeCount sheet) ≡ a → (b : Bool) → ltb t (N .transitions) ≡ b → (o : Option ℕ) → entryWithKey sheet (arcKey N sheet n t) ≡ o
+      go : (a : Bool) → ltb n (nodeCount sheet) ≡ a → (b : Bool) → ltb t (N .transitions) ≡ b → (o : Option ℕ) → entryWithKey sheet (n * N .transitions + t) ≡ o
           → Option·map (entryValue sheet) (cond (a && b) o none) ≡ some m → (i : ℕ) × ArcEntry N sheet i n t m
       go true p true q none h e = none-some none m refl e
       go true p true q (some i) h e =
-          let (l, k) = entry-some sheet 2 (entryCount sheet) (n * N .transitions + t) i (unfold entryWithKey arcKey in h) in
+          let (l, k) = entry-some sheet 2 (entryCount sheet) (n * N .transitions + t) i (unfold entryWithKey in h) in
           let lt : t < N .transitions = ltb-true t (N .transitions) q in
           let ln : n < nodeCount sheet = ltb-true n (nodeCount sheet) p in (
             i,
@@ -67,7 +67,7 @@ module _ (N : PetriNet) (sheet : List ℕ) (T : 0 < N .transitions) (w : WordsHo
 
   -- an entry of an arc is an arc of the graph
   pub entry-arc : (i : ℕ) → i < entryCount sheet → isArc N sheet i ≡ true → arc N sheet (arcNode N sheet i) (arcTransition N sheet i) ≡ some (entryValue sheet i)
-  unfolding arc arcEntry isNode isArc arcNode arcTransition entryWithKey arcKey arcKeys entryKey
+  unfolding arc arcEntry isArc arcNode arcTransition entryWithKey arcKeys entryKey
   entry-arc i l h =
       let k : keyAt sheet 2 i < nodeCount sheet * N .transitions = ltb-true _ _ h in
       let ln : keyAt sheet 2 i / N .transitions < nodeCount sheet = div-lt-iff-lt-mul T .1 k in
@@ -87,7 +87,7 @@ module _ (N : PetriNet) (sheet : List ℕ) (T : 0 < N .transitions) (w : WordsHo
 
   arc-outside : (n t : ℕ) → N .transitions ≤ t → arc N sheet n t ≡ none
   unfolding arc arcEntry
-  arc-outside n t l = byTest (isNode sheet n) (λ e. rw (e, le-ltb t (N .transitions) l)) (λ e. rw e)
+  arc-outside n t l = byTest (ltb n (nodeCount sheet)) (λ e. rw (e, le-ltb t (N .transitions) l)) (λ e. rw e)
 
   pub graph-closed : Closed (graph N sheet)
   unfolding graph
@@ -100,21 +100,21 @@ module _ (N : PetriNet) (sheet : List ℕ) (T : 0 < N .transitions) (w : WordsHo
   -- ---- counts
 
   pub count-most : (n p : ℕ) → count N sheet n p ≤ 1000000000
-  unfolding count isNode
-  count-most n p = go (ltb n (nodeCount sheet)) (ltb p (N .places)) (entryWithKey sheet (countKey N sheet n p)) refl
+  unfolding count
+  count-most n p = go (ltb n (nodeCount sheet)) (ltb p (N .places)) (entryWithKey sheet (arcKeys N sheet + n * N .places + p)) refl
     where
-      go : (a b : Bool) (o : Option ℕ) → entryWithKey sheet (countKey N sheet n p) ≡ o → cond (a && b) (valueOf sheet o) 0 ≤ 1000000000
+      go : (a b : Bool) (o : Option ℕ) → entryWithKey sheet (arcKeys N sheet + n * N .places + p) ≡ o → cond (a && b) (foundOr 0 (entryValue sheet) o) 0 ≤ 1000000000
       go true true none h = omega arith
       go true true (some i) h =
-          let (l, k) = entry-some sheet 2 (entryCount sheet) (countKey N sheet n p) i (unfold entryWithKey in h) in
-          w .values i l .most (unfold entryKey in (rw k (unfold countKey in (omega arith))))
+          let (l, k) = entry-some sheet 2 (entryCount sheet) (arcKeys N sheet + n * N .places + p) i (unfold entryWithKey in h) in
+          w .values i l .most (unfold entryKey in (rw k (omega arith)))
       go true false o h = omega arith
       go false b o h = omega arith
 
 -- ---- markings
 
 pub marking-node : (N : PetriNet) (sheet : List ℕ) (n : ℕ) → n < nodeCount sheet → marking N sheet n ≡ tabulate (count N sheet n) (N .places)
-unfolding marking isNode
+unfolding marking
 marking-node N sheet n l = rw (lt-ltb n (nodeCount sheet) l)
 
 pub marking-at : (N : PetriNet) (sheet : List ℕ) (n p : ℕ) → n < nodeCount sheet → p < N .places → getD (marking N sheet n) p 0 ≡ count N sheet n p

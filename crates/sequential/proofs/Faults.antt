@@ -1,10 +1,10 @@
 -- 10 to 17: the tests decide the clauses.
 use Prim.Native.Nat.{ℕ, _-_, _<_}
-use mathlib.Core.Path.{_≡_, refl, sym, ap, _∙_}
+use mathlib.Core.Path.{_≡_, sym, ap, _∙_}
 use mathlib.Core.Logic.{_↔_}
 use mathlib.Core.List.{List}
-use mathlib.Core.Bool.{Bool, true, false, not}
-use mathlib.Core.Option.{none, some}
+use mathlib.Core.Bool.{true, false, not}
+use mathlib.Core.Option.{none}
 use lib.ListN.{getD}
 use borrow.Author.Tests.{ltb-true, lt-ltb, eqb-true, eq-eqb}
 use Rattle.scan.specs.Scan.{orElse, when, first}
@@ -22,10 +22,10 @@ use Rattle.refusal.specs.Finding.{foundAt, foundBy, lineFinds, finding}
 use Rattle.refusal.specs.declared.Position.the-variants.{Entry}
 use Rattle.refusal.proofs.Checks.{Decides, Decided, Lawful, Tells, finding-tells}
 use Rattle.sequential.specs.Petri.{PetriNet, initial, fire, firedCount, Enabled}
-use Rattle.sequential.specs.Words.{nodeCount, entryCount, entryValue, count, marking, graph, isArc, arcNode, arcTransition}
+use Rattle.sequential.specs.Words.{nodeCount, entryCount, entryValue, count, marking, graph, isArc, arcNode, arcTransition, entryKey, arcKeys}
 use Rattle.sequential.specs.Schedule.{Offers, ToAwait}
 use Rattle.sequential.specs.Tests.{isAwait, offersSome}
-use Rattle.sequential.specs.Checks.{IsArc, ArcEnabled, ArcLands, graphChecks}
+use Rattle.sequential.specs.Checks.{graphChecks}
 use Rattle.sequential.specs.Check.{startFault, nodeFault, rootFault, arcEnabled, landsAt, arcLands, arcFault, reachFault, returnFault, graphTests, graphFault}
 use Rattle.sequential.specs.Known.{WordsHold}
 use Rattle.sequential.proofs.Entries.{graph-closed, entry-target, marking-node, marking-at}
@@ -56,7 +56,7 @@ module _ (N : PetriNet) (sheet : List ℕ) where
 
   -- ---- an entry that is an arc
 
-  pub isArc↔ : (i : ℕ) → (isArc N sheet i ≡ true) ↔ IsArc N sheet i
+  pub isArc↔ : (i : ℕ) → (isArc N sheet i ≡ true) ↔ entryKey sheet i < arcKeys N sheet
   unfolding isArc
   isArc↔ i = (ltb-true _ _, lt-ltb _ _)
 
@@ -82,7 +82,7 @@ module _ (N : PetriNet) (sheet : List ℕ) where
   graph-fault = rw (first-one)
 
   module _ (T : 0 < N .transitions) (w : WordsHold N sheet) where
-    arcLands↔ : (i : ℕ) → i < entryCount sheet → IsArc N sheet i
+    arcLands↔ : (i : ℕ) → i < entryCount sheet → entryKey sheet i < arcKeys N sheet
         → (arcLands N sheet i ≡ true) ↔ (marking N sheet (entryValue sheet i) ≡ fire N (marking N sheet (arcNode N sheet i)) (arcTransition N sheet i))
     unfolding arcLands landsAt
     arcLands↔ i l a =

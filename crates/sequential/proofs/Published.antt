@@ -1,34 +1,22 @@
 -- The published definition and the clauses: a schedule is one in the published sense, and one of those whose states are all reached is a schedule.
 use Prim.Native.Nat.{ℕ, _<_}
-use native.Mathlib.Omega.{arith}
-use mathlib.Core.Path.{_≡_, ap, _∙_}
+use mathlib.Core.Path.{_≡_}
 use mathlib.Core.Logic.{_↔_}
 use mathlib.Core.List.{List, [], _∷_}
 use mathlib.Core.Option.{some}
-use lib.ListN.{getD}
-use Rattle.scan.proofs.Tabulate.{tabulate-at}
 use Rattle.automaton.specs.Automaton.{Automaton, Closed, follow}
 use Rattle.automaton.specs.Reach.{Reachable}
 use Rattle.automaton.proofs.Automaton.{arc-transition, follow-first, follow-lands}
-use Rattle.sequential.specs.Petri.{PetriNet, firedCount, fire, Enabled, Source, SameChoice}
+use Rattle.sequential.specs.Petri.{PetriNet, initial, fireAll, FiresEnabled, Source, SameChoice}
 use Rattle.sequential.specs.Schedule.{Offers, Await, OneChoiceSet, IsSchedule}
-use Rattle.sequential.specs.Published.{ReachableMarking, FiresTo, SequentialSchedule}
+use Rattle.sequential.specs.Published.{SequentialSchedule}
 use Rattle.sequential.proofs.Clauses.{choice-sym, choice-trans, choice-source}
 use Rattle.sequential.proofs.Runs.{arc-below, from-root}
-
--- firing puts and takes, at each place
-pub fires-to : (N : PetriNet) (m : List ℕ) (t : ℕ) (m′ : List ℕ) → Enabled N m t → m′ ≡ fire N m t → FiresTo N m t m′
-unfolding fire firedCount
-fires-to N m t m′ e q = record {
-  enabled = e;
-  balance = λ p l. let x = ap (λ (y : List ℕ). getD y p 0) q ∙ tabulate-at (firedCount N m t) 0 (N .places) p l in omega (arith, e .holds p l);
-  result = q;
-}
 
 -- ---- a schedule in the published sense
 
 module _ (N : PetriNet) (A : Automaton) (c : Closed A) (same : A .transitions ≡ N .transitions) (s : IsSchedule N A) where
-  marking-reached : (n : ℕ) → n < A .nodes → ReachableMarking N (A .label n)
+  marking-reached : (n : ℕ) → n < A .nodes → (σ : List ℕ) × FiresEnabled N (initial N) σ × (fireAll N (initial N) σ ≡ A .label n)
   unfolding Reachable
   marking-reached n l =
       let (σ, e) = s .reached n l in
@@ -46,7 +34,7 @@ module _ (N : PetriNet) (A : Automaton) (c : Closed A) (same : A .transitions �
   sequential = record {
     maps = marking-reached;
     maps-root = s .starts;
-    fires = λ n t m l e. fires-to N _ t _ (s .enables n t m l e) (s .lands n t m l e);
+    fires = λ n t m l e. (s .enables n t m l e, s .lands n t m l e);
     chooses = one-choice;
     sources = s .root-awaits;
     serves = λ n t l k h. let (σ, m, e, w) = s .returns n l in (σ, m, e, w t k .1 h);
@@ -83,8 +71,8 @@ module _ (N : PetriNet) (A : Automaton) (c : Closed A) (same : A .transitions �
     starts = q .maps-root;
     choices = choices;
     root-awaits = q .sources;
-    enables = λ n t m l e. q .fires n t m l e .enabled;
-    lands = λ n t m l e. q .fires n t m l e .result;
+    enables = λ n t m l e. q .fires n t m l e .0;
+    lands = λ n t m l e. q .fires n t m l e .1;
     reached = reached;
     returns = λ n l.
         let (t, k, s) = some-source in

@@ -5,10 +5,13 @@ use mathlib.Core.Bool.{Bool, cond, not, _&&_, _||_}
 use mathlib.Core.Option.{Option}
 use lib.ListN.{length}
 use lib.Dec.{ltb, leb, eqb}
-use Rattle.scan.specs.Scan.{orElse, first, all, count}
+use Rattle.scan.specs.Scan.{orElse, all, count}
+use Rattle.table.specs.Table.{KeyPasses}
 use Rattle.table.specs.Keys.{keyFails}
 use Rattle.automaton.specs.Reach.{reachedIn, leadsIn}
+use Rattle.refusal.specs.Limits.{mostNodes, mostEntries, mostCount}
 use Rattle.refusal.specs.Verdict.{verdictOf, andThen}
+use Rattle.refusal.specs.Checks.{_else_}
 use Rattle.refusal.specs.Finding.{Tests, asked, foundAt, lineFinds, finding}
 use Rattle.refusal.specs.declared.Position.the-variants.{Entry}
 use Rattle.refusal.specs.declared.Refusal.{Refusal}
@@ -17,12 +20,12 @@ use Rattle.net.specs.Check.{netReply}
 use Rattle.sequential.specs.Petri.{PetriNet, petriNet, firedCount}
 use Rattle.sequential.specs.Words.{nodeCount, entryCount, entryKey, entryValue, arcKeys, keyLimit, marking, graph, isArc, arcNode, arcTransition, count as countAt}
 use Rattle.sequential.specs.Tests.{enabled, isAwait, offersSome, offersOneChoiceSet}
-use Rattle.sequential.specs.Checks.{shapeChecks, entryClauses, wordChecks, graphChecks}
+use Rattle.sequential.specs.Checks.{ValuePasses, shapeChecks, wordChecks, graphChecks}
 
 -- ---- the words
 
 unfoldable pub sizesPass : ℕ → ℕ → Bool
-sizesPass v k = leb 1 v && (leb v 128 && leb k 4096)
+sizesPass v k = leb 1 v && (leb v mostNodes && leb k mostEntries)
 
 abbrev pub shapeTests : List ℕ → List Tests
 shapeTests sheet =
@@ -35,7 +38,7 @@ unfoldable pub targetFails : ℕ → ℕ → Bool
 targetFails nodes value = leb nodes value
 
 unfoldable pub countFails : ℕ → Bool
-countFails value = eqb value 0 || ltb 1000000000 value
+countFails value = eqb value 0 || ltb mostCount value
 
 unfoldable pub valueFails : List ℕ → ℕ → ℕ → Bool
 valueFails sheet arcs i = cond (ltb (entryKey sheet i) arcs) (targetFails (nodeCount sheet) (entryValue sheet i)) (countFails (entryValue sheet i))
@@ -49,7 +52,7 @@ shapeFault sheet = finding (shapeChecks sheet) (shapeTests sheet)
 
 -- 8 and 9 at one entry
 unfoldable pub entryFault : List ℕ → ℕ → ℕ → ℕ → Option Refusal
-entryFault sheet arcs limit i = foundAt Entry (entryClauses sheet arcs limit) (entryTests sheet arcs limit) i
+entryFault sheet arcs limit i = foundAt Entry (KeyPasses sheet 2 limit else 8 ∷ ValuePasses sheet arcs else 9 ∷ []) (entryTests sheet arcs limit) i
 
 module _ (N : PetriNet) (sheet : List ℕ) where
   abbrev pub wordTests : List Tests

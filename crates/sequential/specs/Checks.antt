@@ -5,7 +5,8 @@ use mathlib.Core.List.{List, [], _∷_, _++_}
 use lib.ListN.{length}
 use Rattle.table.specs.Table.{KeyPasses}
 use Rattle.automaton.specs.Reach.{Reachable}
-use Rattle.refusal.specs.Checks.{Clause, _else_, Check, once, each, AllPass}
+use Rattle.refusal.specs.Limits.{mostNodes, mostEntries, mostCount}
+use Rattle.refusal.specs.Checks.{_else_, Check, once, each, AllPass}
 use Rattle.refusal.specs.declared.Position.the-variants.{Entry, Place, Node}
 use Rattle.sequential.specs.Petri.{PetriNet, Enabled, fire}
 use Rattle.sequential.specs.Words.{nodeCount, entryCount, entryKey, entryValue, arcKeys, keyLimit, count, marking, graph, arcNode, arcTransition}
@@ -14,13 +15,13 @@ use Rattle.sequential.specs.Schedule.{Offers, Await, OneChoiceSet, ToAwa
 -- ---- the words
 
 abbrev pub SizesPass : List ℕ → Type 0
-SizesPass sheet = (1 ≤ nodeCount sheet) × (nodeCount sheet ≤ 128) × (entryCount sheet ≤ 4096)
+SizesPass sheet = (1 ≤ nodeCount sheet) × (nodeCount sheet ≤ mostNodes) × (entryCount sheet ≤ mostEntries)
 
 -- an arc's value is a node, a count's 1 to 1,000,000,000; keys below `arcs` are those of arcs
 pub record ValuePasses (sheet : List ℕ) (arcs i : ℕ) : Type 0 where
   pub target : entryKey sheet i < arcs → entryValue sheet i < nodeCount sheet
   pub some : arcs ≤ entryKey sheet i → 1 ≤ entryValue sheet i
-  pub most : arcs ≤ entryKey sheet i → entryValue sheet i ≤ 1000000000
+  pub most : arcs ≤ entryKey sheet i → entryValue sheet i ≤ mostCount
 
 abbrev pub shapeChecks : List ℕ → List Check
 shapeChecks sheet =
@@ -29,34 +30,25 @@ shapeChecks sheet =
     ∷ once (length sheet ≡ 2 + 2 * entryCount sheet) 6
     ∷ []
 
-abbrev pub entryClauses : List ℕ → ℕ → ℕ → List Clause
-entryClauses sheet arcs limit = KeyPasses sheet 2 limit else 8 ∷ ValuePasses sheet arcs else 9 ∷ []
-
 module _ (N : PetriNet) (sheet : List ℕ) where
   abbrev pub wordChecks : List Check
-  wordChecks = shapeChecks sheet ++ (each (entryCount sheet) Entry (entryClauses sheet (arcKeys N sheet) (keyLimit N sheet)) ∷ [])
+  wordChecks = shapeChecks sheet ++ (each (entryCount sheet) Entry (KeyPasses sheet 2 (keyLimit N sheet) else 8 ∷ ValuePasses sheet (arcKeys N sheet) else 9 ∷ []) ∷ [])
 
   abbrev pub WordsPass : Type 0
   WordsPass = AllPass wordChecks
 
   -- ---- the graph
 
-  abbrev pub HoldsStart : ℕ → Type 0
-  HoldsStart p = count N sheet 0 p ≡ N .start p
-
-  abbrev pub IsArc : ℕ → Type 0
-  IsArc i = entryKey sheet i < arcKeys N sheet
-
   -- the arc of an entry is enabled at its node, and lands on a node with the resulting counts
   abbrev pub ArcEnabled : ℕ → Type 0
-  ArcEnabled i = IsArc i → Enabled N (marking N sheet (arcNode N sheet i)) (arcTransition N sheet i)
+  ArcEnabled i = entryKey sheet i < arcKeys N sheet → Enabled N (marking N sheet (arcNode N sheet i)) (arcTransition N sheet i)
 
   abbrev pub ArcLands : ℕ → Type 0
-  ArcLands i = IsArc i → marking N sheet (entryValue sheet i) ≡ fire N (marking N sheet (arcNode N sheet i)) (arcTransition N sheet i)
+  ArcLands i = entryKey sheet i < arcKeys N sheet → marking N sheet (entryValue sheet i) ≡ fire N (marking N sheet (arcNode N sheet i)) (arcTransition N sheet i)
 
   abbrev pub graphChecks : List Check
   graphChecks =
-      each (N .places) Place (HoldsStart else 10 ∷ [])
+      each (N .places) Place ((λ p. count N sheet 0 p ≡ N .start p) else 10 ∷ [])
       ∷ each (nodeCount sheet) Node ((λ n. (t : ℕ) × Offers N (graph N sheet) n t) else 11 ∷ OneChoiceSet N (graph N sheet) else 12 ∷ [])
       ∷ each 1 Node (Await N (graph N sheet) else 13 ∷ [])
       ∷ each (entryCount sheet) Entry (ArcEnabled else 14 ∷ ArcLands else 15 ∷ [])

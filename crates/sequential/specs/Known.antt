@@ -4,6 +4,7 @@ use mathlib.Core.Path.{_≡_}
 use mathlib.Core.List.{List}
 use lib.ListN.{length}
 use Rattle.table.specs.Table.{KeyPasses}
+use Rattle.refusal.specs.Limits.{mostNodes, mostEntries}
 use Rattle.refusal.specs.declared.Verdict.the-variants.{Accepted}
 use Rattle.net.specs.Check.{netReply}
 use Rattle.sequential.specs.Petri.{PetriNet, petriNet}
@@ -14,8 +15,8 @@ use Rattle.sequential.specs.Checks.{ValuePasses}
 -- 6 and 7 refuse nothing
 pub record ShapePasses (sheet : List ℕ) : Type 0 where
   pub some-node : 1 ≤ nodeCount sheet
-  pub few-nodes : nodeCount sheet ≤ 128
-  pub few-entries : entryCount sheet ≤ 4096
+  pub few-nodes : nodeCount sheet ≤ mostNodes
+  pub few-entries : entryCount sheet ≤ mostEntries
   pub whole : length sheet ≡ 2 + 2 * entryCount sheet
 
 -- 6 to 9 refuse nothing

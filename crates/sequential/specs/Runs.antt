@@ -11,14 +11,10 @@ use Rattle.automaton.specs.Reach.{Reachable}
 use Rattle.sequential.specs.Petri.{PetriNet, initial, fireAll, FiresEnabled, SameChoice}
 use Rattle.sequential.specs.Schedule.{Offers, Await, ToAwait}
 
--- what place p holds after a list is fired from the initial marking
-abbrev pub heldAfterAll : PetriNet → List ℕ → ℕ → ℕ
-heldAfterAll N σ p = getD (fireAll N (initial N) σ) p 0
-
 -- place p holds at most b after every allowed list, and b after some allowed list: no lower number would do
 pub record LeastBound (N : PetriNet) (A : Automaton) (p b : ℕ) : Type 0 where
-  pub kept : (σ : List ℕ) → allows A 0 σ ≡ true → heldAfterAll N σ p ≤ b
-  pub attained : (σ : List ℕ) × (allows A 0 σ ≡ true) × (heldAfterAll N σ p ≡ b)
+  pub kept : (σ : List ℕ) → allows A 0 σ ≡ true → getD (fireAll N (initial N) σ) p 0 ≤ b
+  pub attained : (σ : List ℕ) × (allows A 0 σ ≡ true) × (getD (fireAll N (initial N) σ) p 0 ≡ b)
 
 -- a list from the root fires from the initial marking, and gives the counts of the node where it ends
 pub record Runs (N : PetriNet) (A : Automaton) (σ : List ℕ) : Type 0 where

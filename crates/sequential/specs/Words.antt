@@ -2,10 +2,10 @@
 use Prim.Native.Nat.{ℕ, _+_, _*_, _/_, _%_}
 use mathlib.Core.List.{List, []}
 use mathlib.Core.Bool.{Bool, cond, _&&_}
-use mathlib.Core.Option.{Option, none, some, Option·map}
+use mathlib.Core.Option.{Option, none, Option·map}
 use lib.ListN.{getD}
 use lib.Dec.{ltb}
-use Rattle.scan.specs.Scan.{tabulate}
+use Rattle.scan.specs.Scan.{foundOr, tabulate}
 use Rattle.table.specs.Table.{keyAt, valueAt, entryOf}
 use Rattle.automaton.specs.Automaton.{Automaton}
 use Rattle.sequential.specs.Petri.{PetriNet}
@@ -23,16 +23,8 @@ module _ (sheet : List ℕ) where
   unfoldable pub entryValue : ℕ → ℕ
   entryValue i = valueAt sheet 2 entryCount i
 
-  unfoldable pub isNode : ℕ → Bool
-  isNode n = ltb n nodeCount
-
   unfoldable pub entryWithKey : ℕ → Option ℕ
   entryWithKey key = entryOf sheet 2 entryCount key
-
-  -- "an absent count is 0"
-  abbrev pub valueOf : Option ℕ → ℕ
-  valueOf none = 0
-  valueOf (some i) = entryValue i
 
 module _ (N : PetriNet) (sheet : List ℕ) where
   -- the keys of arcs lie below this, those of counts from here on
@@ -43,26 +35,18 @@ module _ (N : PetriNet) (sheet : List ℕ) where
   unfoldable pub keyLimit : ℕ
   keyLimit = nodeCount sheet * (N .transitions + N .places)
 
-  -- "Key n × T + t: from node n, firing t leads to the node that the value names"
-  unfoldable pub arcKey : ℕ → ℕ → ℕ
-  arcKey n t = n * N .transitions + t
-
-  -- "Key V × T + n × P + p: at node n, place p holds the value"
-  unfoldable pub countKey : ℕ → ℕ → ℕ
-  countKey n p = arcKeys + n * N .places + p
-
-  -- "An absent arc key is no arc"; "a number from T on never has one"
+  -- V rows of T keys for the arcs of nodes, then V rows of P keys for what their places hold
   unfoldable pub arcEntry : ℕ → ℕ → Option ℕ
-  arcEntry n t = cond (isNode sheet n && ltb t (N .transitions)) (entryWithKey sheet (arcKey n t)) none
+  arcEntry n t = cond (ltb n (nodeCount sheet) && ltb t (N .transitions)) (entryWithKey sheet (n * N .transitions + t)) none
 
   unfoldable pub arc : ℕ → ℕ → Option ℕ
   arc n t = Option·map (entryValue sheet) (arcEntry n t)
 
   unfoldable pub count : ℕ → ℕ → ℕ
-  count n p = cond (isNode sheet n && ltb p (N .places)) (valueOf sheet (entryWithKey sheet (countKey n p))) 0
+  count n p = cond (ltb n (nodeCount sheet) && ltb p (N .places)) (foundOr 0 (entryValue sheet) (entryWithKey sheet (arcKeys + n * N .places + p))) 0
 
   unfoldable pub marking : ℕ → List ℕ
-  marking n = cond (isNode sheet n) (tabulate (count n) (N .places)) []
+  marking n = cond (ltb n (nodeCount sheet)) (tabulate (count n) (N .places)) []
 
   -- the graph that the words say, each node with its marking
   unfoldable pub graph : Automaton

@@ -3,3 +3,4 @@ pub mod Keys
 pub mod Bisection
 pub mod Next
 pub mod Row
+pub mod Demands

@@ -2,3 +2,4 @@ pub mod Table
 pub mod Keys
 pub mod Bisection
 pub mod Row
+pub mod Demands

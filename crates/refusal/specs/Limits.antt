@@ -1,0 +1,20 @@
+-- The limits, each named once: how many places, transitions, nodes and entries there may be, how large a weight or a count, and the scratch that a call asks for.
+use Prim.Native.Nat.{ℕ}
+
+abbrev pub mostPlaces : ℕ
+mostPlaces = 32
+
+abbrev pub mostTransitions : ℕ
+mostTransitions = 32
+
+abbrev pub mostNodes : ℕ
+mostNodes = 128
+
+abbrev pub mostEntries : ℕ
+mostEntries = 4096
+
+abbrev pub mostCount : ℕ
+mostCount = 1000000000
+
+abbrev pub scratchLimit : ℕ
+scratchLimit = 8192
