@@ -1,7 +1,5 @@
 // Output gathered in a buffer, which is written out when it is full. Each function is told how much of the buffer is filled and answers
 // how much of it is then.
-ghost use Prim.Native.Nat.{_≤_};
-ghost use lib.ListN.{length};
 use libc::STDOUT_FILENO;
 
 // Where the next byte goes: a full buffer is written out first.

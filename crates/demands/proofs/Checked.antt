@@ -1,18 +1,16 @@
 -- A check that answered 0: what it says of the net and of the schedule, and that there is one.
 use Prim.Native.Nat.{ℕ, _≤_}
 use native.Mathlib.Omega.{arith}
-use mathlib.Core.Path.{_≡_, refl, sym, ap, _∙_}
+use mathlib.Core.Path.{_≡_, refl}
 use mathlib.Core.Logic.{_↔_}
-use mathlib.Core.List.{List, [], _∷_}
+use mathlib.Core.List.{List, []}
 use lib.ListN.{length, replicate, length-replicate}
 use Rattle.refusal.specs.declared.Verdict.the-variants as verdict
-use Rattle.refusal.proofs.Judges.{pass-append}
-use Rattle.net.specs.Checks.{netChecks, IsNet}
+use Rattle.net.specs.Checks.{IsNet}
 use Rattle.net.proofs.Checks.{net-judged}
-use Rattle.net.proofs.Laws.{sizes}
 use Rattle.sequential.specs.Petri.{petriNet}
 use Rattle.sequential.specs.Schedule.{IsSchedule}
-use Rattle.sequential.specs.Checks.{sheetChecks, WordsPass}
+use Rattle.sequential.specs.Checks.{WordsPass}
 use Rattle.sequential.specs.Check.{scheduleReply}
 use Rattle.sequential.proofs.Words.{words-hold, words-pass}
 use Rattle.sequential.proofs.Accepted.{schedule-judged, accepted-exactly}
@@ -20,7 +18,7 @@ use Rattle.judge.specs.Answer.{plainCheck}
 use Rattle.judge.specs.declared.CheckAnswer.{CheckAnswer}
 use Rattle.call.specs.Demands.{number}
 use Rattle.call.proofs.Judged.{words-judged-none}
-use Rattle.call.proofs.Done.{by-checks, done-zero}
+use Rattle.call.proofs.Done.{by-checks}
 use Rattle.call.proofs.Demands.{every-call-none}
 use Rattle.schedule.specs.Calls.{scratchLimit, checkCore, CheckDone}
 use Rattle.schedule.proofs.Done.{check-law}

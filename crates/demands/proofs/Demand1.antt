@@ -1,9 +1,8 @@
 -- Demand 1, proved: each call is an instance of what is true of every call.
-use Prim.Native.Nat.{ℕ, _≤_, _<_}
-use native.Mathlib.Omega.{arith}
+use Prim.Native.Nat.{ℕ}
 use mathlib.Core.Path.{_≡_, refl, sym, ap, _∙_}
-use mathlib.Core.Logic.{_↔_, _⊎_, inl, inr, Iff·rfl}
-use mathlib.Core.List.{List, [], _∷_, _++_}
+use mathlib.Core.Logic.{_⊎_, inl, inr, Iff·rfl}
+use mathlib.Core.List.{List, [], _∷_}
 use lib.ListN.{length, getD, replicate, List·getD-append}
 use lib.Dec.{ltb, eqb}
 use borrow.Author.Tests.{ltb-true, ltb-false, eqb-true, eqb-false}
@@ -12,7 +11,6 @@ use Rattle.refusal.specs.Refusal.{plainOf}
 use Rattle.refusal.specs.Checks.{Check}
 use Rattle.refusal.specs.declared.Verdict.{Verdict}
 use Rattle.refusal.specs.declared.Verdict.the-variants.{Accepted, Refused}
-use Rattle.refusal.proofs.Judges.{Judges}
 use Rattle.net.specs.Checks.{netChecks}
 use Rattle.net.specs.Check.{NetDone}
 use Rattle.net.proofs.Checks.{net-judged}
@@ -26,7 +24,7 @@ use Rattle.call.proofs.Done.{verdict-by-checks, done-zero, done-refused, writte
 use Rattle.call.proofs.Demands.{every-call-none, every-call-one, every-call-value, independent}
 use Rattle.schedule.specs.Walker.{walker}
 use Rattle.schedule.specs.Firing.{freshWalker}
-use Rattle.schedule.specs.Calls.{scratchLimit, FreshDone}
+use Rattle.schedule.specs.Calls.{scratchLimit}
 use Rattle.schedule.specs.declared.Walker.{Walker}
 use Rattle.schedule.proofs.Following.{end-length}
 use Rattle.schedule.proofs.Done.{check-law, bounds-law, fire-law, run-law}

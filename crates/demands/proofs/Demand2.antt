@@ -4,22 +4,20 @@ use native.Mathlib.Omega.{arith}
 use native.Mathlib.Numerals.{add-one}
 use mathlib.Core.Path.{_≡_, refl, sym, ap, _∙_, subst}
 use mathlib.Core.Logic.{_↔_}
-use mathlib.Core.List.{List, [], _∷_, _++_}
+use mathlib.Core.List.{List, [], _++_}
 use mathlib.Core.Bool.{Bool, true}
-use mathlib.Core.Option.{some}
 use lib.ListN.{length, getD, drop, List·getD-append}
 use Rattle.scan.specs.Scan.{bit, count}
 use Rattle.scan.proofs.Tests.{byTest}
 use Rattle.scan.proofs.Tabulate.{tabulate-length, tabulate-at}
 use Rattle.automaton.specs.Reach.{Reachable}
 use Rattle.refusal.specs.Refusal.{plainOf}
-use Rattle.refusal.specs.Checks.{AllPass}
 use Rattle.refusal.specs.declared.Verdict.{Verdict}
 use Rattle.refusal.specs.declared.Verdict.the-variants as verdict
 use Rattle.net.specs.Checks.{IsNet}
 use Rattle.net.proofs.Checks.{net-judged}
 use Rattle.net.proofs.Laws.{sizes, some-source, start-no-place}
-use Rattle.sequential.specs.Petri.{petriNet, initial, firedCount}
+use Rattle.sequential.specs.Petri.{petriNet, firedCount}
 use Rattle.sequential.specs.Words.{nodeCount, graph}
 use Rattle.sequential.specs.Published.{SequentialSchedule}
 use Rattle.sequential.specs.Checks.{WordsPass}
@@ -36,20 +34,20 @@ use Rattle.sequential.proofs.Bounds.{bounds-length, bounds-at, least-bound}
 use Rattle.judge.specs.Answer.{countsOf, plainCheck}
 use Rattle.judge.specs.declared.CheckAnswer.{CheckAnswer}
 use Rattle.call.specs.Call.{writtenOver}
-use Rattle.call.specs.Demands.{number, own, ByChecks}
+use Rattle.call.specs.Demands.{number, own}
 use Rattle.call.proofs.Judged.{words-judged-none}
 use Rattle.call.proofs.Done.{by-checks, done-zero, own-answered, written-past, written-length}
 use Rattle.refusal.proofs.Verdicts.{answer-none, then-accepted}
 use Rattle.schedule.specs.Walker.{Stands}
-use Rattle.schedule.specs.Firing.{freshWalker, nodeAfter, endCounts}
+use Rattle.schedule.specs.Firing.{freshWalker, endCounts}
 use Rattle.schedule.specs.Calls.{scratchLimit, checkCore, CheckDone, BoundsDone, FreshDone, FireDone, RunDone}
 use Rattle.schedule.specs.Plain.{plainRun}
 use Rattle.schedule.specs.declared.Walker.{Walker}
 use Rattle.schedule.specs.declared.RunAnswer.{RunAnswer}
 use Rattle.schedule.proofs.Walkers.{walker-out, step-tells, handed-back}
-use Rattle.schedule.proofs.Following.{run-leads, run-ends, end-length}
+use Rattle.schedule.proofs.Following.{run-leads, end-length}
 use Rattle.schedule.proofs.Done.{check-law, bounds-law, fire-law, run-law}
-use Rattle.demands.specs.Terms.{said, asked}
+use Rattle.demands.specs.Terms.{said}
 use Rattle.demands.specs.Demand2.{HowMany, none-yet, one-more, no-more, Counted, BoundsWritten, Fired, RanAll, Demand2}
 use Rattle.demands.proofs.Checked.{reply-passes, check-zero, accepted-reply}
 use Rattle.demands.proofs.Demand1.{net-by}

@@ -5,7 +5,7 @@ use mathlib.Core.Path.{_≡_, refl, sym, ap, _∙_, subst}
 use mathlib.Core.Logic.{_↔_, Iff·rfl}
 use mathlib.Core.List.{List, [], _∷_, _++_}
 use lib.ListN.{length, getD, take, drop}
-use lib.Seq.{ext-getD, getD-take, length-take-le}
+use lib.Seq.{ext-getD, getD-take}
 use Rattle.refusal.specs.Checks.{once, AllPass}
 use Rattle.refusal.specs.declared.Verdict.the-variants as verdict
 use Rattle.refusal.proofs.Judges.{pass-append}
@@ -18,7 +18,7 @@ use Rattle.call.specs.Call.{writtenOver}
 use Rattle.call.specs.Demands.{number, callChecks}
 use Rattle.call.proofs.Lent.{room-one}
 use Rattle.call.proofs.Judged.{words-judged}
-use Rattle.call.proofs.Done.{by-checks, done-zero, own-answered, written-front, written-length}
+use Rattle.call.proofs.Done.{by-checks, done-zero, own-answered, written-front}
 use Rattle.call.proofs.Demands.{every-call-one}
 use Rattle.schedule.specs.Calls.{scratchLimit}
 use Rattle.minimal.specs.Minimal.{minimalForm}

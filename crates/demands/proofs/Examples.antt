@@ -1,7 +1,7 @@
 -- The rows of worked examples hold: one computation of the definitions for a table, and one law that carries it to the calls.
 use Prim.Native.Nat.{ℕ, _≤_}
 use native.Mathlib.Omega.{arith}
-use mathlib.Core.Path.{_≡_, refl, sym, ap, _∙_}
+use mathlib.Core.Path.{_≡_, refl, ap, _∙_}
 use mathlib.Core.List.{List, [], _∷_}
 use lib.ListN.{length, take}
 use Rattle.scan.specs.Scan.{orElse, when, found, first, all, any, bit, count, passing, least, tabulate}

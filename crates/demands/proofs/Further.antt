@@ -1,14 +1,12 @@
 -- The promises beside the three demands, each proved.
-use Prim.Native.Nat.{ℕ, _≤_, _<_}
+use Prim.Native.Nat.{ℕ, _≤_}
 use native.Mathlib.Omega.{arith}
 use mathlib.Core.Path.{_≡_, refl, sym, ap, _∙_, subst}
-use mathlib.Core.Logic.{_↔_}
 use mathlib.Core.List.{List, [], _∷_, _++_}
-use mathlib.Core.Option.{none, some}
+use mathlib.Core.Option.{none}
 use lib.ListN.{length, getD, List·getD-append}
-use Rattle.automaton.specs.Automaton.{follow}
-use Rattle.automaton.proofs.Automaton.{follow-allows, allows-follow}
-use Rattle.refusal.specs.Checks.{once, AllPass}
+use Rattle.automaton.proofs.Automaton.{follow-allows}
+use Rattle.refusal.specs.Checks.{once}
 use Rattle.refusal.specs.Verdict.{verdictOf}
 use Rattle.refusal.specs.declared.Verdict.{Verdict}
 use Rattle.refusal.specs.declared.Verdict.the-variants as verdict
@@ -18,16 +16,16 @@ use Rattle.net.specs.Checks.{netChecks}
 use Rattle.net.proofs.Checks.{net-judged}
 use Rattle.net.proofs.Laws.{sizes, some-source}
 use Rattle.sequential.specs.Petri.{PetriNet, petriNet}
-use Rattle.sequential.specs.Words.{count, marking, graph}
+use Rattle.sequential.specs.Words.{count, graph}
 use Rattle.sequential.specs.Check.{scheduleReply}
 use Rattle.sequential.specs.Checks.{sheetChecks}
 use Rattle.sequential.proofs.Words.{words-hold, words-pass}
 use Rattle.sequential.proofs.Entries.{marking-at}
 use Rattle.sequential.proofs.Clauses.{choice-refl, choice-sym, choice-trans, choice-source}
-use Rattle.sequential.proofs.Accepted.{schedule-judged, accepts, closed}
+use Rattle.sequential.proofs.Accepted.{accepts, closed}
 use Rattle.sequential.proofs.Runs.{goes-on}
 use Rattle.sequential.proofs.Paths.{short-where}
-use Rattle.call.specs.Demands.{number, own}
+use Rattle.call.specs.Demands.{number}
 use Rattle.scan.specs.Front.{cleared}
 use Rattle.call.proofs.Lent.{room-one, scratch-enough}
 use Rattle.call.proofs.Judged.{words-judged}
@@ -35,7 +33,7 @@ use Rattle.call.proofs.Done.{by-checks, done-zero, own-answered}
 use Rattle.call.proofs.Laws.{served, answered-none}
 use Rattle.schedule.specs.Walker.{runChecks}
 use Rattle.schedule.specs.Firing.{freshWalker, stepFault, follows, runFault, nodeAfter, endCounts}
-use Rattle.schedule.specs.Calls.{scratchLimit, fireCore, runCore, FreshDone, FireDone, RunDone}
+use Rattle.schedule.specs.Calls.{scratchLimit, runCore, FireDone, RunDone}
 use Rattle.schedule.specs.Plain.{plainRun}
 use Rattle.schedule.specs.Walks.{Chain, stays, goes}
 use Rattle.schedule.specs.declared.Walker.{Walker}
@@ -48,9 +46,9 @@ use Rattle.minimal.specs.Minimal.{minimalForm, Fewest}
 use Rattle.minimal.proofs.Encoded.{encoded-passes}
 use Rattle.minimal.proofs.Decoded.{decode-encode}
 use Rattle.minimal.proofs.Recoded.{encode-decode, decoded-encodable}
-use Rattle.minimal.proofs.Minimal.{form-accepted, form-no-longer, form-twice, form-fewest}
+use Rattle.minimal.proofs.Minimal.{form-no-longer, form-twice, form-fewest}
 use Rattle.demands.specs.Terms.{said}
-use Rattle.demands.specs.Demand3.{Form, size, made}
+use Rattle.demands.specs.Demand3.{made}
 use Rattle.demands.specs.Further.{PathsShorten, ChoicePartition, NeverStuck, Firings, none-fired, one-fired, Folds, RunFolds, OneEncoding, FormNoLonger, FormTwice, FormFewest}
 use Rattle.demands.proofs.Checked.{accepted-reply, some-scratch, enough-scratch}
 use Rattle.demands.proofs.Demand3.{made-form, size-form}

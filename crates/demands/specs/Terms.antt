@@ -1,8 +1,7 @@
 -- Words that the three demands share: the graph that a schedule says, when a schedule is accepted, and all that a call checks.
-use Prim.Native.Nat.{ℕ, _≤_}
+use Prim.Native.Nat.{ℕ}
 use mathlib.Core.Path.{_≡_}
 use mathlib.Core.List.{List, _++_}
-use lib.ListN.{length}
 use Rattle.automaton.specs.Automaton.{Automaton}
 use Rattle.refusal.specs.Checks.{Check}
 use Rattle.net.specs.Checks.{netChecks}

@@ -1,8 +1,6 @@
 -- The promises of the reading of files, each proved.
-use Prim.Native.Nat.{ℕ}
 use native.Mathlib.Omega.{arith}
-use mathlib.Core.Path.{_≡_, sym}
-use mathlib.Core.List.{List}
+use mathlib.Core.Path.{sym}
 use Rattle.sequential.proofs.Cut.{cut-reply-both}
 use Rattle.files.specs.Program.{filesAnswer, programAnswer}
 use Rattle.files.specs.Words.{isRagged, wordsOf}

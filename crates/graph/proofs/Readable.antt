@@ -1,14 +1,13 @@
 -- What is known of words that are readable, as the code reads them.
-use Prim.Native.Nat.{ℕ, _+_, _*_, _-_, _≤_, _<_}
-use native.Mathlib.Omega.{arith}
+use Prim.Native.Nat.{ℕ, _+_, _*_, _≤_}
 use native.Mathlib.Nat.{mul-le-mul}
-use mathlib.Core.Path.{_≡_, refl}
+use mathlib.Core.Path.{_≡_}
 use mathlib.Core.List.{List}
 use lib.ListN.{length, getD}
 use Rattle.net.specs.Net.{placeCount, transitionCount}
 use Rattle.net.proofs.Laws.{sizes}
 use Rattle.sequential.specs.Petri.{petriNet}
-use Rattle.sequential.specs.Words.{nodeCount, entryCount, arcKeys, keyLimit}
+use Rattle.sequential.specs.Words.{nodeCount, entryCount}
 use Rattle.graph.specs.Readable.{wordsReply, Readable}
 use Rattle.sequential.specs.Known.{WordsHold}
 use Rattle.refusal.proofs.Verdicts.{then-accepted, answer-none}

@@ -5,13 +5,13 @@ use native.Mathlib.Decide.{decLt}
 use native.Mathlib.Numerals.{add-one}
 use mathlib.Core.Path.{_≡_, refl, sym, ap, _∙_}
 use mathlib.Core.List.{List}
-use mathlib.Core.Bool.{Bool, true, false, cond, not, _&&_}
+use mathlib.Core.Bool.{true, false, not}
 use mathlib.Core.Option.{Option, none, some, Option·map}
 use lib.ListN.{length, getD}
 use lib.Dec.{ltb, leb}
 use borrow.Author.Tests.{lt-ltb, le-ltb, ltb-true, leb-true, le-leb, lt-leb, not-true}
 use Rattle.table.specs.Table.{valueAt, entryOf}
-use Rattle.table.specs.Row.{rowEntry, entryRow, entryCode}
+use Rattle.table.specs.Row.{entryRow, entryCode}
 use Rattle.table.proofs.Table.{entry-some}
 use Rattle.table.proofs.Row.{row-at, row-entry, row-past, entry-right, entry-past}
 use Rattle.automaton.specs.Automaton.{byArc}

@@ -4,15 +4,14 @@ use Prim.Native.Nat.{ℕ, _+_, _≤_, _<_}
 use native.Mathlib.Omega.{arith}
 use mathlib.Core.Path.{_≡_, refl, sym, ap, _∙_}
 use mathlib.Core.List.{List}
-use mathlib.Core.Bool.{Bool, true, false, Bool·beq}
+use mathlib.Core.Bool.{true, false, Bool·beq}
 use mathlib.Core.Option.{Option, none, some}
-use lib.ListN.{getD}
 use lib.Dec.{ltb, eqb}
-use borrow.Author.Tests.{eqb-true, eq-eqb, lt-ltb, ltb-true}
+use borrow.Author.Tests.{eqb-true, eq-eqb, lt-ltb}
 use Rattle.scan.specs.Scan.{found, all, any, least, tabulate}
-use Rattle.scan.proofs.Tests.{iff→eq, byTest, true-false}
+use Rattle.scan.proofs.Tests.{iff→eq}
 use Rattle.scan.proofs.Every.{all-in, all-out, all-ext, any-in, any-out, any-none}
-use Rattle.scan.proofs.Least.{least-le, least-hit, least-low, least-ext, least-of}
+use Rattle.scan.proofs.Least.{least-hit, least-low, least-ext, least-of}
 use Rattle.scan.proofs.Tabulate.{tabulate-at}
 use Rattle.automaton.specs.Automaton.{byArc}
 use Rattle.automaton.specs.Equivalence.{leaderBy, sameClass}

@@ -1,20 +1,15 @@
 -- An accepted schedule is readable, and the numbers that go with its verdict.
-use Prim.Native.Nat.{ℕ, _+_, _*_, _≤_, _<_}
+use Prim.Native.Nat.{ℕ, _≤_}
 use native.Mathlib.Omega.{arith}
-use native.Mathlib.Decide.{decLt}
-use mathlib.Core.Path.{_≡_, refl, sym, ap, _∙_}
+use mathlib.Core.Path.{_≡_, refl, sym, _∙_}
 use mathlib.Core.List.{List}
-use mathlib.Core.Bool.{Bool, true, false}
 use mathlib.Core.Option.{Option, none, some}
-use lib.ListN.{length}
-use lib.Dec.{ltb}
 use borrow.Author.Tests.{lt-ltb, le-ltb}
-use Rattle.scan.specs.Scan.{orElse, count}
+use Rattle.scan.specs.Scan.{orElse}
 use Rattle.scan.proofs.Count.{count-prefix}
 use Rattle.scan.proofs.First.{orElse-left}
-use Rattle.table.specs.Table.{keyAt}
 use Rattle.table.specs.Bisection.{lowerBound}
-use Rattle.table.proofs.Bisection.{LowerBound, lower-bound}
+use Rattle.table.proofs.Bisection.{lower-bound}
 use Rattle.refusal.proofs.Verdicts.{answer-none, verdict-next, then-next, then-accepted}
 use Rattle.refusal.specs.Verdict.{verdictOf, andThen}
 use Rattle.net.specs.Check.{netReply}
@@ -22,7 +17,7 @@ use Rattle.refusal.specs.declared.Refusal.{Refusal}
 use Rattle.refusal.specs.declared.Verdict.{Verdict}
 use Rattle.refusal.specs.declared.Verdict.the-variants.{Accepted, Refused}
 use Rattle.sequential.specs.Petri.{PetriNet, petriNet}
-use Rattle.sequential.specs.Words.{nodeCount, entryCount, entryKey, arcKeys, isArc}
+use Rattle.sequential.specs.Words.{entryCount, entryKey, arcKeys, isArc}
 use Rattle.sequential.specs.Check.{arcCount, wordsFault, graphFault, scheduleFault, scheduleReply}
 use Rattle.sequential.specs.Known.{WordsHold}
 use Rattle.graph.specs.Readable.{wordsReply, Readable}

@@ -1,12 +1,10 @@
 -- 11 to 13 from rows: what the code finds in a node's row of arcs is what the definitions say of the node.
-use Prim.Native.Nat.{ℕ, _+_, _≤_, _<_}
+use Prim.Native.Nat.{ℕ, _≤_, _<_}
 use native.Mathlib.Omega.{arith}
-use mathlib.Core.Path.{_≡_, refl, sym, ap, _∙_}
+use mathlib.Core.Path.{_≡_, sym, ap, _∙_}
 use mathlib.Core.List.{List}
-use mathlib.Core.Bool.{Bool, true, false, not}
-use mathlib.Core.Option.{Option, none, some}
+use mathlib.Core.Bool.{Bool, true, false}
 use lib.ListN.{getD}
-use lib.Dec.{eqb}
 use borrow.Author.Tests.{eq-eqb}
 use Rattle.refusal.specs.Finding.{lineFinds, foundAt}
 use Rattle.scan.specs.Scan.{orElse, when, all, any, least, tabulate}
@@ -19,9 +17,9 @@ use Rattle.net.proofs.Laws.{some-source}
 use Rattle.refusal.specs.declared.Position.the-variants.{Node}
 use Rattle.refusal.specs.declared.Verdict.the-variants.{Accepted, Refused}
 use Rattle.sequential.specs.Petri.{PetriNet, petriNet}
-use Rattle.sequential.specs.Tests.{takesNothing, isSource, isAwait, offersSome, firstOffered, offersOneChoiceSet}
+use Rattle.sequential.specs.Tests.{takesNothing, isSource, isAwait, firstOffered, offersOneChoiceSet}
 use Rattle.sequential.specs.Words.{graph}
-use Rattle.sequential.specs.Check.{nodeFault, rootFault}
+use Rattle.sequential.specs.Check.{nodeFault}
 use Rattle.judge.specs.Rows.{choiceOf, firstSource, present, presentAsChoice}
 use Rattle.graph.specs.Rows.{arcCode}
 use Rattle.judge.proofs.Choices.{first-present-offered, row-one-choice, row-await, no-offer, some-offer}

@@ -18,7 +18,7 @@ use Rattle.table.specs.Table.{entryOf}
 use Rattle.table.specs.Row.{entryCode}
 use Rattle.table.proofs.Table.{entry-some}
 use Rattle.table.proofs.Row.{row-entry, row-most}
-use Rattle.automaton.specs.Automaton.{Automaton, Closed, byArc}
+use Rattle.automaton.specs.Automaton.{Automaton, Closed}
 use Rattle.automaton.specs.Equivalence.{same}
 use Rattle.automaton.specs.BreadthFirst.{order}
 use Rattle.automaton.specs.Quotient.{minimal, number, representative}

@@ -3,15 +3,14 @@ use Prim.Native.Nat.{ℕ}
 use mathlib.Core.Path.{_≡_, sym, ap, _∙_}
 use mathlib.Core.Logic.{_↔_}
 use mathlib.Core.List.{List}
-use mathlib.Core.Bool.{Bool, true, false, not}
-use borrow.Author.Tests.{ltb-false, le-ltb, eqb-true, eq-eqb, not-false}
-use Rattle.scan.specs.Scan.{orElse, when, first}
+use mathlib.Core.Bool.{false, not}
+use borrow.Author.Tests.{ltb-false, le-ltb, eqb-true, eq-eqb}
+use Rattle.scan.specs.Scan.{orElse, when}
 use Rattle.scan.proofs.First.{orElse-assoc}
 use Rattle.scan.proofs.Tests.{decides-not}
 use Rattle.scan.proofs.Every.{all-in, all-out, any-in, any-out}
 use Rattle.table.proofs.Keys.{key-passes}
 use Rattle.refusal.specs.Refusal.{refusal}
-use Rattle.refusal.specs.Checks.{HoldAt, Passes, AllPass}
 use Rattle.refusal.specs.Finding.{foundAt, foundBy, lineFinds, finding}
 use Rattle.refusal.specs.declared.Position.the-variants.{Nothing}
 use Rattle.refusal.proofs.Checks.{Decides, Decided, Lawful, finding-tells}

@@ -1,10 +1,10 @@
 -- A net of more words than fit is answered as its first words are: the largest has 4,163.
 use Prim.Native.Nat.{ℕ, _+_, _*_, _≤_, _<_}
 use native.Mathlib.Omega.{arith}
-use mathlib.Core.Path.{_≡_, refl, sym, ap, _∙_}
+use mathlib.Core.Path.{_≡_, sym, ap, _∙_}
 use mathlib.Core.List.{List}
-use mathlib.Core.Bool.{Bool, true, false, cond, not}
-use mathlib.Core.Option.{Option, none, some}
+use mathlib.Core.Bool.{true, false, cond}
+use mathlib.Core.Option.{some}
 use lib.Dec.{ltb, leb, eqb}
 use lib.ListN.{length, take}
 use lib.Seq.{getD-take, take-all, length-take-le}
@@ -19,7 +19,6 @@ use Rattle.net.specs.Check.{sizesPass, shapeFault, entriesFault, netRepl
 use Rattle.refusal.specs.Verdict.{verdictOf}
 use Rattle.refusal.specs.declared.Position.the-variants.{Nothing}
 use Rattle.refusal.specs.declared.Refusal.{Refusal}
-use Rattle.refusal.specs.declared.Verdict.{Verdict}
 use Rattle.refusal.specs.declared.Verdict.the-variants.{Refused}
 use Rattle.net.proofs.Shape.{sizes-out, limit-high}
 use Rattle.net.proofs.Checks.{net-fault}

@@ -1,19 +1,18 @@
 -- 3 and 4: the keys and weights of a net. Its keys rise, so each weight is found at its key.
-use Prim.Native.Nat.{ℕ, _+_, _-_, _≤_, _<_}
+use Prim.Native.Nat.{ℕ, _+_, _≤_, _<_}
 use native.Mathlib.Omega.{arith}
 use mathlib.Core.Path.{_≡_, refl}
 use mathlib.Core.List.{List}
 use mathlib.Core.Bool.{false}
 use mathlib.Core.Option.{Option, none, some}
 use lib.ListN.{length}
-use lib.Dec.{ltb, leb, eqb}
-use borrow.Author.Tests.{leb-false, ltb-true, ltb-false, eqb-false, lt-ltb, le-ltb, lt-leb, ne-eqb}
-use Rattle.scan.specs.Scan.{orElse, when}
-use Rattle.scan.proofs.Tests.{byTest, or-none-left, or-none-right}
+use lib.Dec.{eqb}
+use borrow.Author.Tests.{ltb-false, eqb-false, le-ltb, ne-eqb}
+use Rattle.scan.proofs.Tests.{or-none-left, or-none-right}
 use Rattle.scan.proofs.First.{orElse-left, orElse-right, when-none, first-all}
 use Rattle.table.specs.Table.{Rising, entryOf}
 use Rattle.table.proofs.Table.{entry-some}
-use Rattle.net.specs.Net.{entryCount, entryKey, entryWeight, keyLimit, weightOf, weightAt}
+use Rattle.net.specs.Net.{entryCount, entryWeight, keyLimit, weightOf, weightAt}
 use Rattle.table.specs.Table.{KeyPasses}
 use Rattle.table.proofs.Keys.{key-passes, keys-rise}
 use Rattle.refusal.specs.Finding.{foundAt, lineFinds}

@@ -2,14 +2,12 @@
 -- They stand on these and on the accessors' contracts, and open no definition of the net.
 use Prim.Native.Nat.{ℕ, _≤_}
 use native.Mathlib.Omega.{arith}
-use mathlib.Core.Path.{_≡_, refl}
+use mathlib.Core.Path.{_≡_}
 use mathlib.Core.List.{List}
 use mathlib.Core.Bool.{Bool, true, false, cond, _&&_, and-false}
-use lib.Dec.{ltb}
 use borrow.Author.Tests.{le-ltb}
-use Rattle.net.specs.Net.{placeCount, transitionCount, weightAt, takenKey, putKey, startKey, isPlace, isTransition, taken, put, start}
+use Rattle.net.specs.Net.{placeCount, transitionCount, takenKey, putKey, startKey, isPlace, isTransition, taken, put, start}
 use Rattle.net.specs.Check.{netReply}
-use Rattle.refusal.specs.Checks.{Passes, AllPass}
 use Rattle.net.specs.Checks.{SizesPass, IsNet, HasSource}
 use Rattle.refusal.specs.declared.Verdict.the-variants.{Accepted}
 use Rattle.net.specs.Demands.{AccessorsRight}

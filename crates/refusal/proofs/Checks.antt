@@ -3,13 +3,12 @@ use Prim.Native.Nat.{ℕ, _<_}
 use native.Mathlib.Omega.{arith}
 use mathlib.Core.Path.{_≡_, refl, sym, ap, _∙_}
 use mathlib.Core.Logic.{_⊎_, _↔_, inl, inr, ⊎-elim}
-use mathlib.Core.Bool.{Bool, true, false}
-use mathlib.Core.List.{List, [], _∷_, _++_}
+use mathlib.Core.Bool.{Bool, false}
+use mathlib.Core.List.{List, [], _∷_}
 use mathlib.Core.Option.{Option, none, some}
 use Rattle.scan.specs.Scan.{orElse, when, first}
 use Rattle.scan.proofs.Tests.{byTest, true-false}
-use Rattle.scan.proofs.First.{none-some, orElse-left, orElse-right, orElse-next, orElse-hit, orElse-cases, orElse-assoc, when-hit, when-miss, when-none, when-some, first-all, first-empty, first-at, first-hit}
-use Rattle.refusal.specs.Refusal.{refusal}
+use Rattle.scan.proofs.First.{none-some, orElse-left, orElse-right, orElse-next, orElse-hit, orElse-cases, when-hit, when-miss, when-none, when-some, first-all, first-empty, first-at, first-hit}
 use Rattle.refusal.specs.Checks.{Clause, Check, once, each, HoldAt, FailAt, FailFirst, Passes, Fails, AllPass, FirstFails}
 use Rattle.refusal.specs.Finding.{Tests, foundAt, foundBy, finding}
 use Rattle.refusal.specs.declared.Position.{Position}

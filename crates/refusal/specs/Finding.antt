@@ -3,7 +3,7 @@
 use Prim.Native.Nat.{ℕ, zero, suc}
 use mathlib.Core.Bool.{Bool}
 use mathlib.Core.List.{List, [], _∷_}
-use mathlib.Core.Option.{Option, none, some}
+use mathlib.Core.Option.{Option, none}
 use Rattle.scan.specs.Scan.{orElse, when, first}
 use Rattle.refusal.specs.Refusal.{refusal}
 use Rattle.refusal.specs.Checks.{Clause, Check, once, each}

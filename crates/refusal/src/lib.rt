@@ -1,6 +1,6 @@
 // Refusals: by number, at a position; what a check answers; and both as plain numbers.
 ghost use mathlib.Core.Path.{_≡_};
-ghost use Rattle.refusal.specs.Refusal.{refusal, numberOf, positionOf, kindOf, indexOf, plainOf};
+ghost use Rattle.refusal.specs.Refusal.{refusal, numberOf, positionOf, kindOf, indexOf};
 
 // What a refusal's position counts, from 0.
 pub enum Position {

@@ -1,22 +1,19 @@
 -- Single firings one after the other, each with the walker that the one before handed back, go as the graph's arcs do.
-use Prim.Native.Nat.{ℕ, _≤_, _<_}
-use native.Mathlib.Omega.{arith}
+use Prim.Native.Nat.{ℕ}
 use mathlib.Core.Path.{_≡_, refl, sym, ap, _∙_}
 use mathlib.Core.List.{List, [], _∷_}
 use mathlib.Core.Option.{none, some}
 use lib.ListN.{length}
 use Rattle.automaton.specs.Automaton.{byArc, follow}
 use Rattle.automaton.proofs.Automaton.{follow-first}
-use Rattle.refusal.specs.Verdict.{verdictOf, andThen}
 use Rattle.refusal.specs.declared.Verdict.the-variants.{Accepted}
-use Rattle.refusal.proofs.Verdicts.{answer-none, then-next, then-accepted}
 use Rattle.sequential.specs.Petri.{petriNet}
 use Rattle.sequential.specs.Words.{arc, graph}
 use Rattle.sequential.specs.Check.{scheduleReply}
-use Rattle.schedule.specs.Firing.{walkerFault, stepFault, follows}
+use Rattle.schedule.specs.Firing.{walkerFault, follows}
 use Rattle.schedule.specs.Walks.{Chain, stays, goes}
 use Rattle.schedule.specs.declared.Walker.{Walker}
-use Rattle.schedule.proofs.Walkers.{WalkerPasses, walker-out, step-tells, step-passes, follows-node, follows-length, handed-back}
+use Rattle.schedule.proofs.Walkers.{walker-out, step-tells, step-passes, follows-node, follows-length, handed-back}
 
 module _ (net sheet : List ℕ) (accepted : scheduleReply net sheet ≡ Accepted) where
   -- what stays true of the walker

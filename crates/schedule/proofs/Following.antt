@@ -4,15 +4,14 @@ use native.Mathlib.Omega.{arith}
 use mathlib.Core.Path.{_≡_, refl, sym, ap, _∙_}
 use mathlib.Core.Logic.{_↔_, inl, ⊎-elim}
 use mathlib.Core.List.{List, [], _∷_, _++_}
-use mathlib.Core.Bool.{true, not}
+use mathlib.Core.Bool.{true}
 use mathlib.Core.Option.{none, some}
 use lib.ListN.{length, getD, take}
 use lib.Seq.{take-suc, take-length}
-use Rattle.scan.specs.Scan.{when, found}
 use Rattle.scan.proofs.Tests.{lt-suc-cases, decides-not}
 use Rattle.scan.proofs.First.{first-all, first-empty, first-at, first-hit}
 use Rattle.scan.proofs.Tabulate.{tabulate-length}
-use Rattle.automaton.specs.Automaton.{byArc, follow, allows}
+use Rattle.automaton.specs.Automaton.{follow, allows}
 use Rattle.automaton.proofs.Automaton.{follow-snoc, follow-lands, allows-follow, follow-allows, allows-prefix}
 use Rattle.refusal.specs.Refusal.{refusal}
 use Rattle.refusal.specs.Checks.{_else_, FailFirst}

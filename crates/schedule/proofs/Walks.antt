@@ -5,7 +5,7 @@ use native.Mathlib.Numerals.{add-one}
 use native.Mathlib.Decide.{decLt}
 use mathlib.Core.Path.{_≡_, refl, sym, ap, _∙_}
 use mathlib.Core.List.{List, []}
-use mathlib.Core.Bool.{Bool, true, false, cond, not, _&&_, and-false}
+use mathlib.Core.Bool.{Bool, true, false, cond, not, _&&_}
 use mathlib.Core.Option.{Option, none, some}
 use lib.ListN.{getD}
 use lib.Dec.{ltb}
@@ -29,7 +29,6 @@ use Rattle.sequential.specs.Petri.{PetriNet, petriNet, fire, firedCount}
 use Rattle.sequential.specs.Words.{nodeCount, entryCount, entryValue, isNode, entryWithKey, arcKey, arcEntry, arc, count, graph}
 use Rattle.sequential.specs.Check.{scheduleReply}
 use Rattle.sequential.specs.Known.{WordsHold}
-use Rattle.graph.specs.Readable.{Readable}
 use Rattle.refusal.specs.Verdict.{verdictOf}
 use Rattle.refusal.proofs.Verdicts.{answer-some, then-next}
 use Rattle.call.specs.Call.{WordsDone}
@@ -38,7 +37,7 @@ use Rattle.schedule.specs.Calls.{fireCore}
 use Rattle.schedule.specs.Walker.{walker}
 use Rattle.schedule.specs.Firing.{countFault, walkerFault, stepFault, follows, nodeAfter, firingFault}
 use Rattle.schedule.specs.declared.Walker.{Walker}
-use Rattle.sequential.proofs.Words.{words-in, words-rise, words-fit}
+use Rattle.sequential.proofs.Words.{words-rise, words-fit}
 use Rattle.sequential.proofs.Entries.{graph-closed, marking-at}
 use Rattle.sequential.proofs.Accepted.{accepts}
 use Rattle.schedule.proofs.Walkers.{count-past, step-fault}

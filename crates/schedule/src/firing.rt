@@ -9,7 +9,7 @@ ghost use Rattle.sequential.specs.Petri.{petriNet};
 ghost use Rattle.sequential.specs.Words.{nodeCount, entryCount, entryValue, arcEntry};
 ghost use Rattle.sequential.specs.Check.{scheduleReply};
 ghost use Rattle.graph.specs.Readable.{Readable};
-ghost use Rattle.schedule.specs.Firing.{walkerFault, stepFault, FollowedTo};
+ghost use Rattle.schedule.specs.Firing.{walkerFault, FollowedTo};
 ghost use Rattle.schedule.specs.Calls.{StepDone};
 use super::Fired;
 use super::Walker;

@@ -1,7 +1,7 @@
 -- Accepted exactly where all checks pass, and so exactly where the net is one, the words pass, and the graph that they say is a schedule.
 use Prim.Native.Nat.{ℕ, _<_}
 use native.Mathlib.Omega.{arith}
-use mathlib.Core.Path.{_≡_, _∙_}
+use mathlib.Core.Path.{_≡_}
 use mathlib.Core.Logic.{_↔_}
 use mathlib.Core.List.{List, _++_}
 use mathlib.Core.Option.{some}
@@ -14,8 +14,8 @@ use Rattle.net.specs.Checks.{netChecks}
 use Rattle.net.specs.Check.{netReply}
 use Rattle.net.proofs.Checks.{net-judged}
 use Rattle.net.proofs.Laws.{sizes}
-use Rattle.sequential.specs.Petri.{PetriNet, petriNet, Enabled, fire}
-use Rattle.sequential.specs.Words.{nodeCount, entryCount, entryValue, arcNode, arcTransition, arc, marking, graph}
+use Rattle.sequential.specs.Petri.{PetriNet, petriNet}
+use Rattle.sequential.specs.Words.{nodeCount, entryCount, entryValue, arcNode, arcTransition, arc, graph}
 use Rattle.sequential.specs.Schedule.{IsSchedule}
 use Rattle.sequential.specs.Checks.{IsArc, wordChecks, graphChecks, sheetChecks}
 use Rattle.sequential.specs.Check.{scheduleFault, scheduleReply}

@@ -1,14 +1,13 @@
 -- The tests of the net and of the nodes, and the clauses that they decide.
-use Prim.Native.Nat.{ℕ, zero, suc, _<_}
+use Prim.Native.Nat.{ℕ, _<_}
 use native.Mathlib.Omega.{arith}
 use mathlib.Core.Path.{_≡_, refl, sym, _∙_}
 use mathlib.Core.Logic.{_↔_}
 use mathlib.Core.List.{List}
 use mathlib.Core.Bool.{Bool, true, false, Bool·beq}
-use lib.ListN.{getD}
-use borrow.Author.Tests.{leb-true, leb-false, le-leb, eqb-true, eq-eqb}
-use Rattle.scan.specs.Scan.{found, all}
-use Rattle.scan.proofs.Tests.{byTest, true-false, iff→eq}
+use borrow.Author.Tests.{leb-true, le-leb, eqb-true, eq-eqb}
+use Rattle.scan.specs.Scan.{found}
+use Rattle.scan.proofs.Tests.{iff→eq}
 use Rattle.scan.proofs.First.{found-some}
 use Rattle.scan.proofs.Every.{all-in, all-out, any-in, any-out}
 use Rattle.scan.proofs.Least.{least-hit, least-of}

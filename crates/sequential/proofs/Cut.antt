@@ -1,10 +1,10 @@
 -- A net or a sheet of more words than fit is answered as its first words are: the longest sheet has 8,194.
 use Prim.Native.Nat.{ℕ, _+_, _*_, _≤_, _<_}
 use native.Mathlib.Omega.{arith}
-use mathlib.Core.Path.{_≡_, refl, sym, ap, _∙_}
+use mathlib.Core.Path.{_≡_, sym, ap, _∙_}
 use mathlib.Core.List.{List}
-use mathlib.Core.Bool.{Bool, true, false, cond, not}
-use mathlib.Core.Option.{Option, none, some}
+use mathlib.Core.Bool.{true, false, cond}
+use mathlib.Core.Option.{some}
 use lib.Dec.{ltb, leb, eqb}
 use lib.ListN.{length, take}
 use lib.Seq.{getD-take, take-all, length-take-le}
@@ -13,8 +13,6 @@ use Rattle.scan.specs.Scan.{orElse, when}
 use Rattle.scan.proofs.Tests.{byTest}
 use Rattle.scan.proofs.First.{orElse-hit}
 use Rattle.refusal.specs.Refusal.{refusal}
-use Rattle.refusal.specs.Verdict.{verdictOf, andThen}
-use Rattle.net.specs.Check.{netReply}
 use Rattle.refusal.specs.declared.Position.the-variants.{Nothing}
 use Rattle.refusal.specs.declared.Refusal.{Refusal}
 use Rattle.net.proofs.Cut.{overlong, cut-reply}

@@ -3,19 +3,19 @@ use Prim.Native.Nat.{ℕ, _+_, _*_, _/_, _%_, _≤_, _<_}
 use native.Mathlib.Omega.{arith}
 use native.Mathlib.Nat.{div-lt-iff-lt-mul, mul-add-div-right, mul-add-mod-self-right, div-eq-of-lt, mod-eq-of-lt, mod-lt, add-zero, mul-le-mul-right, div-add-mod'}
 use mathlib.Core.Path.{_≡_, refl, sym, ap, _∙_}
-use mathlib.Core.List.{List, []}
+use mathlib.Core.List.{List}
 use mathlib.Core.Bool.{Bool, true, false, cond, _&&_}
 use mathlib.Core.Option.{Option, none, some, Option·map}
-use lib.ListN.{length, getD}
+use lib.ListN.{getD}
 use lib.Dec.{ltb}
-use borrow.Author.Tests.{lt-ltb, le-ltb, ltb-true, ltb-false}
+use borrow.Author.Tests.{lt-ltb, le-ltb, ltb-true}
 use Rattle.scan.specs.Scan.{tabulate}
-use Rattle.scan.proofs.Tests.{byTest, and-left, and-right}
+use Rattle.scan.proofs.Tests.{byTest}
 use Rattle.scan.proofs.First.{none-some}
-use Rattle.scan.proofs.Tabulate.{tabulate-at, tabulate-length}
-use Rattle.table.specs.Table.{keyAt, entryOf}
+use Rattle.scan.proofs.Tabulate.{tabulate-at}
+use Rattle.table.specs.Table.{keyAt}
 use Rattle.table.proofs.Table.{entry-at, entry-some}
-use Rattle.automaton.specs.Automaton.{Automaton, Closed}
+use Rattle.automaton.specs.Automaton.{Closed}
 use Rattle.sequential.specs.Petri.{PetriNet}
 use Rattle.sequential.specs.Words.{nodeCount, entryCount, entryKey, entryValue, isNode, entryWithKey, valueOf, arcKeys, arcKey, countKey, arcEntry, arc, count, marking, graph, isArc, arcNode, arcTransition}
 use Rattle.sequential.specs.Known.{WordsHold}

@@ -1,10 +1,10 @@
 -- 10 to 17: the tests decide the clauses.
 use Prim.Native.Nat.{ℕ, _-_, _<_}
-use mathlib.Core.Path.{_≡_, refl, sym, ap, _∙_}
+use mathlib.Core.Path.{_≡_, sym, ap, _∙_}
 use mathlib.Core.Logic.{_↔_}
 use mathlib.Core.List.{List}
-use mathlib.Core.Bool.{Bool, true, false, not}
-use mathlib.Core.Option.{none, some}
+use mathlib.Core.Bool.{true, false, not}
+use mathlib.Core.Option.{none}
 use lib.ListN.{getD}
 use borrow.Author.Tests.{ltb-true, lt-ltb, eqb-true, eq-eqb}
 use Rattle.scan.specs.Scan.{orElse, when, first}
@@ -25,7 +25,7 @@ use Rattle.sequential.specs.Petri.{PetriNet, initial, fire, firedCount, 
 use Rattle.sequential.specs.Words.{nodeCount, entryCount, entryValue, count, marking, graph, isArc, arcNode, arcTransition}
 use Rattle.sequential.specs.Schedule.{Offers, ToAwait}
 use Rattle.sequential.specs.Tests.{isAwait, offersSome}
-use Rattle.sequential.specs.Checks.{IsArc, ArcEnabled, ArcLands, graphChecks}
+use Rattle.sequential.specs.Checks.{IsArc, graphChecks}
 use Rattle.sequential.specs.Check.{startFault, nodeFault, rootFault, arcEnabled, landsAt, arcLands, arcFault, reachFault, returnFault, graphTests, graphFault}
 use Rattle.sequential.specs.Known.{WordsHold}
 use Rattle.sequential.proofs.Entries.{graph-closed, entry-target, marking-node, marking-at}

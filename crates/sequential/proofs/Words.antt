@@ -1,20 +1,19 @@
 -- 6 to 9: the tests decide the clauses, and what a schedule's words hold that pass.
-use Prim.Native.Nat.{ℕ, _+_, _*_, _≤_, _<_}
+use Prim.Native.Nat.{ℕ, _+_, _≤_}
 use native.Mathlib.Omega.{arith}
-use mathlib.Core.Path.{_≡_, refl, sym, ap, _∙_}
+use mathlib.Core.Path.{_≡_, sym, ap, _∙_}
 use mathlib.Core.Logic.{_↔_}
 use mathlib.Core.List.{List}
 use mathlib.Core.Bool.{true, false}
 use mathlib.Core.Option.{none}
 use lib.ListN.{length}
-use lib.Dec.{ltb, leb, eqb}
+use lib.Dec.{ltb, eqb}
 use borrow.Author.Tests.{leb-true, leb-false, ltb-true, ltb-false, eqb-true, eqb-false, lt-ltb, le-ltb, le-leb, lt-leb, eq-eqb, ne-eqb}
 use Rattle.scan.specs.Scan.{orElse, first}
 use Rattle.scan.proofs.Tests.{byTest, decides-not, and-left, and-right, and-both, or-none-left, or-none-right}
 use Rattle.scan.proofs.First.{orElse-assoc}
 use Rattle.table.specs.Table.{Rising}
 use Rattle.table.proofs.Keys.{key-passes, keys-rise}
-use Rattle.refusal.specs.Checks.{AllPass}
 use Rattle.refusal.specs.Finding.{foundBy, finding}
 use Rattle.refusal.proofs.Checks.{Decides, Decided, Lawful, Tells, finding-tells}
 use Rattle.sequential.specs.Petri.{PetriNet}

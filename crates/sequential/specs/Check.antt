@@ -5,7 +5,7 @@ use mathlib.Core.Bool.{Bool, cond, not, _&&_, _||_}
 use mathlib.Core.Option.{Option}
 use lib.ListN.{length}
 use lib.Dec.{ltb, leb, eqb}
-use Rattle.scan.specs.Scan.{orElse, first, all, count}
+use Rattle.scan.specs.Scan.{orElse, all, count}
 use Rattle.table.specs.Keys.{keyFails}
 use Rattle.automaton.specs.Reach.{reachedIn, leadsIn}
 use Rattle.refusal.specs.Verdict.{verdictOf, andThen}

@@ -3,9 +3,6 @@ use Rattle.files.proofs.Replies.{program-read, net-counted, sheet-counted}
 use borrow.Author.Needs.{needs}
 use Rattle.checker.proofs.answer.Statement.{statement}
 use Rattle.checker.proofs.answer.Tie as tie
-use Rattle.checker.proofs.answer.Reads as reads
-use Rattle.checker.proofs.answer.Lts as lts
-use Rattle.files.proofs.check_files.Reads as check-files-reads
 
 check-files-requires : tie.Need-check-files-requires
 check-files-requires c κs = search needs

@@ -5,8 +5,6 @@ use Rattle.files.proofs.Decoding.{past-end}
 use borrow.Author.Needs.{needs}
 use Rattle.files.proofs.byte.Statement.{statement}
 use Rattle.files.proofs.byte.Tie as tie
-use Rattle.files.proofs.byte.Reads as reads
-use Rattle.files.proofs.byte.Lts as lts
 
 returns : tie.Need-returns
 returns c = let a = c .before .args in past-end (a .bytes .now) (a .at + a .i) (omega arith)

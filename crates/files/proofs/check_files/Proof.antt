@@ -4,10 +4,6 @@ use Rattle.files.proofs.Replies.{files-read}
 use borrow.Author.Needs.{needs}
 use Rattle.files.proofs.check_files.Statement.{statement}
 use Rattle.files.proofs.check_files.Tie as tie
-use Rattle.files.proofs.check_files.Reads as reads
-use Rattle.files.proofs.check_files.Lts as lts
-use Rattle.files.proofs.check_read.Reads as check-read-reads
-use Rattle.files.proofs.decode.Reads as decode-reads
 
 decode-requires : tie.Need-decode-requires
 decode-requires c κs = search needs

@@ -4,10 +4,6 @@ use Rattle.files.proofs.Replies.{net-tail, net-refused, sheet-tail, no-
 use borrow.Author.Needs.{needs}
 use Rattle.files.proofs.check_read.Statement.{statement}
 use Rattle.files.proofs.check_read.Tie as tie
-use Rattle.files.proofs.check_read.Reads as reads
-use Rattle.files.proofs.check_read.Lts as lts
-use Rattle.judge.proofs.checked.Reads as checked-reads
-use Rattle.net.proofs.check.Reads as check-reads
 
 returns : tie.Need-returns
 returns c = net-tail _ _ _ _ ((c .if1) .taken)

@@ -1,7 +1,7 @@
 -- `files::decode` meets its contract: when the counter is i the first i words of the buffer are the file's.
 use Prim.Native.Nat.{ℕ, _-_, _≤_}
 use native.Mathlib.Omega.{arith}
-use mathlib.Core.Path.{_≡_, refl, ap, sym, _∙_}
+use mathlib.Core.Path.{_≡_, refl, ap, _∙_}
 use mathlib.Core.List.{List, _++_}
 use lib.ListN.{length, set, drop, length-set}
 use borrow.Author.Needs.{needs}
@@ -10,10 +10,6 @@ use Rattle.files.specs.Words.{wordAt, wordCount, wordsOf, decoded}
 use Rattle.files.proofs.Decoding.{count-fits, front-more}
 use Rattle.files.proofs.decode.Statement.{statement}
 use Rattle.files.proofs.decode.Tie as tie
-use Rattle.files.proofs.decode.Reads as reads
-use Rattle.files.proofs.decode.Lts as lts
-use Rattle.files.proofs.measure.Reads as measure-reads
-use Rattle.files.proofs.word.Reads as word-reads
 
 abbrev Inv-loop : tie.InvT-loop
 Inv-loop bytes out₀ reading words i₀ out i =

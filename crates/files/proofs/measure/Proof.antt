@@ -3,8 +3,6 @@ use native.Mathlib.Omega.{arith}
 use Rattle.files.proofs.Decoding.{long-read, short-read}
 use Rattle.files.proofs.measure.Statement.{statement}
 use Rattle.files.proofs.measure.Tie as tie
-use Rattle.files.proofs.measure.Reads as reads
-use Rattle.files.proofs.measure.Lts as lts
 
 returns : tie.Need-returns
 returns c = long-read _ _ (omega arith)

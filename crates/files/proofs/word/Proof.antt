@@ -4,10 +4,6 @@ use native.Mathlib.Nat.{add-zero}
 use borrow.Author.Needs.{needs}
 use Rattle.files.proofs.word.Statement.{statement}
 use Rattle.files.proofs.word.Tie as tie
-use Rattle.files.proofs.word.Reads as reads
-use Rattle.files.proofs.word.Lts as lts
-use Rattle.files.proofs.byte.Reads as byte-reads
-use Rattle.files.proofs.wide.Reads as wide-reads
 
 byte-requires : tie.Need-byte-requires
 byte-requires c κs = search needs

@@ -1,16 +1,10 @@
 -- `minimize::form_into` meets its contract.
-use mathlib.Core.Path.{_≡_, refl, sym, ap, _∙_}
+use mathlib.Core.Path.{refl, sym, _∙_}
 use Rattle.judge.proofs.Judged.{accepted-readable}
 use Rattle.call.proofs.Laws.{refused-words}
 use borrow.Author.Needs.{needs}
 use Rattle.minimize.proofs.form_into.Statement.{statement}
 use Rattle.minimize.proofs.form_into.Tie as tie
-use Rattle.minimize.proofs.form_into.Reads as reads
-use Rattle.minimize.proofs.form_into.Lts as lts
-use Rattle.judge.proofs.judge.Reads as judge-reads
-use Rattle.minimize.proofs.classes.classes.Reads as classes-reads
-use Rattle.minimize.proofs.numbering.numbering.Reads as numbering-reads
-use Rattle.minimize.proofs.writer.write.Reads as write-reads
 
 judge-requires : tie.Need-judge-requires
 judge-requires c κs = search needs

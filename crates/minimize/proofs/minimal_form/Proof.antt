@@ -1,14 +1,9 @@
 -- `minimize::minimal_form` meets its contract.
-use mathlib.Core.Path.{_≡_, refl, sym, ap, _∙_}
+use mathlib.Core.Path.{refl, sym, _∙_}
 use Rattle.call.proofs.Laws.{refused-scratch, served}
 use borrow.Author.Needs.{needs}
 use Rattle.minimize.proofs.minimal_form.Statement.{statement}
 use Rattle.minimize.proofs.minimal_form.Tie as tie
-use Rattle.minimize.proofs.minimal_form.Reads as reads
-use Rattle.minimize.proofs.minimal_form.Lts as lts
-use Rattle.call.proofs.scratch_fault.Reads as scratch-fault-reads
-use Rattle.minimize.proofs.form_into.Reads as form-into-reads
-use Rattle.scan.proofs.clear_front.Reads as clear-front-reads
 
 scratch-fault-requires : tie.Need-scratch-fault-requires
 scratch-fault-requires c κs = search needs

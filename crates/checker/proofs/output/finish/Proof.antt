@@ -4,9 +4,6 @@ use lib.ListN.{length-take}
 use borrow.Author.Needs.{needs}
 use Rattle.checker.proofs.output.finish.Statement.{statement}
 use Rattle.checker.proofs.output.finish.Tie as tie
-use Rattle.checker.proofs.output.finish.Reads as reads
-use Rattle.checker.proofs.output.finish.Lts as lts
-use Rattle.io.proofs.write_all.Reads as write-all-reads
 
 slice-aggregate-write-all : tie.Need-slice-aggregate-write-all
 slice-aggregate-write-all c = simp length-take (omega arith)

@@ -1,14 +1,10 @@
 -- `checker::output::text` meets its contract.
 use Prim.Native.Nat.{_≤_, _-_}
 use borrow.Author.Needs.{needs}
-use native.Mathlib.Omega.{arith}
 use mathlib.Core.Path.{_≡_}
 use lib.ListN.{length}
 use Rattle.checker.proofs.output.text.Statement.{statement}
 use Rattle.checker.proofs.output.text.Tie as tie
-use Rattle.checker.proofs.output.text.Reads as reads
-use Rattle.checker.proofs.output.text.Lts as lts
-use Rattle.checker.proofs.output.byte.Reads as byte-reads
 
 abbrev Inv-loop : tie.InvT-loop
 Inv-loop buf₀ at bytes n₀ i₀ buf n i = (i ≤ length bytes) × (length buf ≡ length buf₀)

@@ -1,16 +1,10 @@
 -- `checker::print::bounds` meets its contract.
 use Prim.Native.Nat.{_≤_, _-_}
 use borrow.Author.Needs.{needs}
-use native.Mathlib.Omega.{arith}
 use mathlib.Core.Path.{_≡_}
 use lib.ListN.{length}
 use Rattle.checker.proofs.print.bounds.Statement.{statement}
 use Rattle.checker.proofs.print.bounds.Tie as tie
-use Rattle.checker.proofs.print.bounds.Reads as reads
-use Rattle.checker.proofs.print.bounds.Lts as lts
-use Rattle.checker.proofs.print.bound.Reads as bound-reads
-use Rattle.net.proofs.places.Reads as places-reads
-use Rattle.schedule.proofs.bounds_into.Reads as bounds-into-reads
 
 abbrev Inv-loop : tie.InvT-loop
 Inv-loop buf₀ at net sheet bounds places at₀ p₀ buf at' p = (p ≤ 32) × (length buf ≡ length buf₀)

@@ -1,15 +1,10 @@
 -- `checker::print::words` meets its contract.
 use Prim.Native.Nat.{_≤_, _-_}
 use borrow.Author.Needs.{needs}
-use native.Mathlib.Omega.{arith}
 use mathlib.Core.Path.{_≡_}
 use lib.ListN.{length}
 use Rattle.checker.proofs.print.words.Statement.{statement}
 use Rattle.checker.proofs.print.words.Tie as tie
-use Rattle.checker.proofs.print.words.Reads as reads
-use Rattle.checker.proofs.print.words.Lts as lts
-use Rattle.checker.proofs.output.text.Reads as text-reads
-use Rattle.checker.proofs.print.word.Reads as word-reads
 
 abbrev Inv-loop : tie.InvT-loop
 Inv-loop buf₀ at words n at₀ i₀ buf at' i = (i ≤ length words) × (length buf ≡ length buf₀)

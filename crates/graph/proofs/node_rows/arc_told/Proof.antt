@@ -1,15 +1,12 @@
 -- `graph::node_rows::arc_told` meets its contract.
-use Prim.Native.Nat.{ℕ, _+_, _≤_, _<_}
+use Prim.Native.Nat.{ℕ, _+_}
 use native.Mathlib.Omega.{arith}
-use mathlib.Core.Path.{_≡_, refl, sym, ap, _∙_}
+use mathlib.Core.Path.{sym, ap, _∙_}
 use Rattle.sequential.specs.Words.{nodeCount, entryCount}
 use Rattle.graph.proofs.Rows.{arc-told-none, arc-told-node, arc-told-past}
 use borrow.Author.Needs.{needs}
 use Rattle.graph.proofs.node_rows.arc_told.Statement.{statement}
 use Rattle.graph.proofs.node_rows.arc_told.Tie as tie
-use Rattle.graph.proofs.node_rows.arc_told.Reads as reads
-use Rattle.graph.proofs.node_rows.arc_told.Lts as lts
-use Rattle.graph.proofs.node_rows.value_told.Reads as value-told-reads
 
 returns : tie.Need-returns
 returns c = sym (arc-told-none _ _ ((c .if1) .taken))

@@ -1,24 +1,17 @@
 -- `graph::node_rows::counts_in_row` meets its contract: the row is right before the counter.
-use Prim.Native.Nat.{ℕ, _-_, _≤_, _<_, _+_, _*_}
+use Prim.Native.Nat.{ℕ, _-_, _≤_, _<_}
 use native.Mathlib.Nat.{mul-le-mul}
 use lib.ListN.{length, getD, length-set}
-use Rattle.scan.specs.Scan.{tabulate}
 use Rattle.scan.proofs.Tabulate.{stored-more, tabulate-is}
 use Rattle.table.proofs.Row.{row-most}
-use Rattle.sequential.specs.Words.{nodeCount, entryCount, arcKeys}
+use Rattle.sequential.specs.Words.{nodeCount, entryCount}
 use Rattle.graph.specs.Rows.{valueTold}
 use Rattle.graph.proofs.Rows.{row-sizes, count-in-row}
 use borrow.Author.Needs.{needs}
 use native.Mathlib.Omega.{arith}
-use mathlib.Core.Path.{_≡_, refl, sym, ap, _∙_}
+use mathlib.Core.Path.{_≡_, _∙_}
 use Rattle.graph.proofs.node_rows.counts_in_row.Statement.{statement}
 use Rattle.graph.proofs.node_rows.counts_in_row.Tie as tie
-use Rattle.graph.proofs.node_rows.counts_in_row.Reads as reads
-use Rattle.graph.proofs.node_rows.counts_in_row.Lts as lts
-use Rattle.net.proofs.places.Reads as places-reads
-use Rattle.net.proofs.transitions.Reads as transitions-reads
-use Rattle.graph.proofs.node_rows.value_told.Reads as value-told-reads
-use Rattle.table.proofs.entry_row.Reads as entry-row-reads
 
 abbrev Inv-loop : tie.InvT-loop
 Inv-loop net sheet n places first told row₀ p₀ row p = (p ≤ 32) × (length row ≡ 32) × ((j : ℕ) → j < p → getD row j 0 ≡ valueTold sheet (getD told j 0))

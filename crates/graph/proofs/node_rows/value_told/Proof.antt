@@ -1,16 +1,10 @@
 -- `graph::node_rows::value_told` meets its contract.
-use Prim.Native.Nat.{zero, suc, _+_, _≤_}
-use Rattle.table.specs.Table.{valueAt}
-use Rattle.sequential.specs.Words.{entryCount, entryValue}
-use Rattle.graph.specs.Rows.{valueTold}
+use Rattle.sequential.specs.Words.{entryCount}
 use Rattle.graph.proofs.Rows.{value-told-none, value-told-some}
-use borrow.Author.Needs.{needs}
 use native.Mathlib.Omega.{arith}
-use mathlib.Core.Path.{_≡_, refl, sym, ap, _∙_}
+use mathlib.Core.Path.{sym}
 use Rattle.graph.proofs.node_rows.value_told.Statement.{statement}
 use Rattle.graph.proofs.node_rows.value_told.Tie as tie
-use Rattle.graph.proofs.node_rows.value_told.Reads as reads
-use Rattle.graph.proofs.node_rows.value_told.Lts as lts
 
 returns : tie.Need-returns
 returns c = sym (value-told-none _ _ (c .if1 .taken))

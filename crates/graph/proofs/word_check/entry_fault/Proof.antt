@@ -3,15 +3,9 @@ use Rattle.scan.specs.Scan.{orElse, when}
 use Rattle.refusal.specs.Finding.{foundAt}
 use Rattle.sequential.specs.Check.{entryFault}
 use borrow.Author.Needs.{needs}
-use native.Mathlib.Omega.{arith}
-use mathlib.Core.Path.{_≡_, refl, sym, ap, _∙_}
+use mathlib.Core.Path.{sym, _∙_}
 use Rattle.graph.proofs.word_check.entry_fault.Statement.{statement}
 use Rattle.graph.proofs.word_check.entry_fault.Tie as tie
-use Rattle.graph.proofs.word_check.entry_fault.Reads as reads
-use Rattle.graph.proofs.word_check.entry_fault.Lts as lts
-use Rattle.graph.proofs.word_check.key_fails.Reads as key-fails-reads
-use Rattle.refusal.proofs.refuse.Reads as refuse-reads
-use Rattle.graph.proofs.word_check.value_fails.Reads as value-fails-reads
 
 key-fails-requires : tie.Need-key-fails-requires
 key-fails-requires c κs = search needs

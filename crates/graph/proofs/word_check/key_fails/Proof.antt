@@ -1,18 +1,14 @@
 -- `graph::word_check::key_fails` meets its contract.
 use Prim.Native.Nat.{_+_, _-_, _<_}
-use mathlib.Core.Bool.{true, false, _&&_, _||_}
 use borrow.Author.Tests.{lt-ltb, le-leb, lt-leb}
 use Rattle.table.specs.Table.{keyAt}
 use Rattle.sequential.specs.Words.{entryCount}
 use Rattle.table.specs.Keys.{keyFails}
 use Rattle.sequential.proofs.Words.{shape-out}
-use borrow.Author.Needs.{needs}
 use native.Mathlib.Omega.{arith}
-use mathlib.Core.Path.{_≡_, refl, sym, ap, _∙_}
+use mathlib.Core.Path.{_≡_}
 use Rattle.graph.proofs.word_check.key_fails.Statement.{statement}
 use Rattle.graph.proofs.word_check.key_fails.Tie as tie
-use Rattle.graph.proofs.word_check.key_fails.Reads as reads
-use Rattle.graph.proofs.word_check.key_fails.Lts as lts
 
 add-key : tie.Need-add-key
 unfolding entryCount

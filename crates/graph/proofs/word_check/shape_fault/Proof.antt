@@ -1,5 +1,4 @@
 -- `graph::word_check::shape_fault` meets its contract.
-use mathlib.Core.Bool.{true, false, not, _&&_, _||_}
 use borrow.Author.Tests.{le-ltb, lt-ltb, eq-eqb, ne-eqb, not-true, not-false}
 use Rattle.scan.specs.Scan.{orElse, when}
 use Rattle.sequential.specs.Words.{nodeCount, entryCount}
@@ -7,13 +6,9 @@ use Rattle.refusal.specs.Finding.{foundBy, finding}
 use Rattle.sequential.specs.Check.{shapeFault}
 use borrow.Author.Needs.{needs}
 use native.Mathlib.Omega.{arith}
-use mathlib.Core.Path.{_≡_, refl, sym, ap, _∙_}
+use mathlib.Core.Path.{sym, _∙_}
 use Rattle.graph.proofs.word_check.shape_fault.Statement.{statement}
 use Rattle.graph.proofs.word_check.shape_fault.Tie as tie
-use Rattle.graph.proofs.word_check.shape_fault.Reads as reads
-use Rattle.graph.proofs.word_check.shape_fault.Lts as lts
-use Rattle.refusal.proofs.refuse.Reads as refuse-reads
-use Rattle.graph.proofs.word_check.sizes_pass.Reads as sizes-pass-reads
 
 refuse-requires : tie.Need-refuse-requires
 refuse-requires c κs = search needs

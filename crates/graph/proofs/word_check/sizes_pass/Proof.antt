@@ -1,14 +1,8 @@
 -- `graph::word_check::sizes_pass` meets its contract.
-use mathlib.Core.Bool.{true, false, _&&_}
 use borrow.Author.Tests.{le-leb, lt-leb}
 use Rattle.sequential.specs.Check.{sizesPass}
-use borrow.Author.Needs.{needs}
-use native.Mathlib.Omega.{arith}
-use mathlib.Core.Path.{_≡_, refl, sym, ap, _∙_}
 use Rattle.graph.proofs.word_check.sizes_pass.Statement.{statement}
 use Rattle.graph.proofs.word_check.sizes_pass.Tie as tie
-use Rattle.graph.proofs.word_check.sizes_pass.Reads as reads
-use Rattle.graph.proofs.word_check.sizes_pass.Lts as lts
 
 returns : tie.Need-returns
 unfolding sizesPass

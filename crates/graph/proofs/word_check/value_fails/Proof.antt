@@ -1,17 +1,12 @@
 -- `graph::word_check::value_fails` meets its contract.
-use mathlib.Core.Bool.{true, false, cond, _||_}
-use borrow.Author.Tests.{lt-ltb, le-ltb, eq-eqb, ne-eqb}
+use borrow.Author.Tests.{lt-ltb, le-ltb, ne-eqb}
 use Rattle.table.specs.Table.{keyAt, valueAt}
 use Rattle.sequential.specs.Words.{nodeCount, entryCount, entryKey, entryValue}
 use Rattle.sequential.specs.Check.{targetFails, countFails, valueFails}
 use Rattle.sequential.proofs.Words.{shape-out}
-use borrow.Author.Needs.{needs}
 use native.Mathlib.Omega.{arith}
-use mathlib.Core.Path.{_≡_, refl, sym, ap, _∙_}
 use Rattle.graph.proofs.word_check.value_fails.Statement.{statement}
 use Rattle.graph.proofs.word_check.value_fails.Tie as tie
-use Rattle.graph.proofs.word_check.value_fails.Reads as reads
-use Rattle.graph.proofs.word_check.value_fails.Lts as lts
 
 shared-slice-read-entries : tie.Need-shared-slice-read-entries
 unfolding entryCount

@@ -1,5 +1,5 @@
 -- `graph::word_check::words_fault` meets its contract: nothing is found at the entries before the counter.
-use Prim.Native.Nat.{_-_, _≤_, _<_, _+_, _*_}
+use Prim.Native.Nat.{_-_, _≤_, _+_}
 use native.Mathlib.Nat.{mul-le-mul}
 use mathlib.Core.Option.{none}
 use lib.ListN.{getD}
@@ -13,15 +13,9 @@ use Rattle.sequential.specs.Check.{entryFault}
 use Rattle.sequential.proofs.Words.{shape-out, words-fault}
 use borrow.Author.Needs.{needs}
 use native.Mathlib.Omega.{arith}
-use mathlib.Core.Path.{_≡_, refl, sym, ap, _∙_}
+use mathlib.Core.Path.{_≡_, sym, ap, _∙_}
 use Rattle.graph.proofs.word_check.words_fault.Statement.{statement}
 use Rattle.graph.proofs.word_check.words_fault.Tie as tie
-use Rattle.graph.proofs.word_check.words_fault.Reads as reads
-use Rattle.graph.proofs.word_check.words_fault.Lts as lts
-use Rattle.net.proofs.places.Reads as places-reads
-use Rattle.net.proofs.transitions.Reads as transitions-reads
-use Rattle.graph.proofs.word_check.entry_fault.Reads as entry-fault-reads
-use Rattle.graph.proofs.word_check.shape_fault.Reads as shape-fault-reads
 
 abbrev Inv-loop : tie.InvT-loop
 Inv-loop net sheet nodes transitions arcs limit entries i₀ i = (i ≤ entries) × (first (entryFault sheet arcs limit) i ≡ none)

@@ -1,5 +1,5 @@
 -- `judge::node_check::await_count` meets its contract.
-use Prim.Native.Nat.{_-_, _≤_, _<_, _+_}
+use Prim.Native.Nat.{_-_, _≤_}
 use lib.ListN.{getD}
 use Rattle.scan.specs.Scan.{bit, count}
 use Rattle.scan.proofs.Count.{count-more, count-le}
@@ -10,12 +10,9 @@ use Rattle.sequential.specs.Check.{awaitCount}
 use Rattle.graph.proofs.Readable.{known}
 use borrow.Author.Needs.{needs}
 use native.Mathlib.Omega.{arith}
-use mathlib.Core.Path.{_≡_, refl, sym, ap, _∙_}
+use mathlib.Core.Path.{_≡_, refl}
 use Rattle.judge.proofs.node_check.await_count.Statement.{statement}
 use Rattle.judge.proofs.node_check.await_count.Tie as tie
-use Rattle.judge.proofs.node_check.await_count.Reads as reads
-use Rattle.judge.proofs.node_check.await_count.Lts as lts
-use Rattle.judge.proofs.node_check.is_await.Reads as is-await-reads
 
 abbrev Inv-loop : tie.InvT-loop
 Inv-loop net sheet table source nodes awaits₀ n₀ awaits n = (n ≤ nodes) × (awaits ≡ count (isAwait (petriNet net) (graph (petriNet net) sheet)) n)

@@ -1,17 +1,11 @@
 -- `judge::node_check::is_await` meets its contract.
-use Prim.Native.Nat.{_≤_, _<_}
 use Rattle.graph.proofs.Readable.{known}
 use Rattle.judge.proofs.Nodes.{any-source, await-row}
 use borrow.Author.Needs.{needs}
 use native.Mathlib.Omega.{arith}
-use mathlib.Core.Path.{_≡_, refl, sym, ap, _∙_}
+use mathlib.Core.Path.{_∙_}
 use Rattle.judge.proofs.node_check.is_await.Statement.{statement}
 use Rattle.judge.proofs.node_check.is_await.Tie as tie
-use Rattle.judge.proofs.node_check.is_await.Reads as reads
-use Rattle.judge.proofs.node_check.is_await.Lts as lts
-use Rattle.net.proofs.transitions.Reads as transitions-reads
-use Rattle.judge.proofs.choice_sets.are_choice.Reads as are-choice-reads
-use Rattle.judge.proofs.node_rows.arcs_from.Reads as arcs-from-reads
 
 arcs-from-requires : tie.Need-arcs-from-requires
 arcs-from-requires c κs = ((c .before .before .pre .0), (c .before .before .pre .1 .1 .1))

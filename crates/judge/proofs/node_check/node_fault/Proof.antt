@@ -1,20 +1,11 @@
 -- `judge::node_check::node_fault` meets its contract.
-use Prim.Native.Nat.{_≤_, _<_}
-use Rattle.sequential.specs.Words.{nodeCount}
 use Rattle.graph.proofs.Readable.{known}
 use Rattle.judge.proofs.Nodes.{node-none, node-whole, node-torn}
 use borrow.Author.Needs.{needs}
 use native.Mathlib.Omega.{arith}
-use mathlib.Core.Path.{_≡_, refl, sym, ap, _∙_}
+use mathlib.Core.Path.{_∙_}
 use Rattle.judge.proofs.node_check.node_fault.Statement.{statement}
 use Rattle.judge.proofs.node_check.node_fault.Tie as tie
-use Rattle.judge.proofs.node_check.node_fault.Reads as reads
-use Rattle.judge.proofs.node_check.node_fault.Lts as lts
-use Rattle.net.proofs.transitions.Reads as transitions-reads
-use Rattle.judge.proofs.choice_sets.are_choice.Reads as are-choice-reads
-use Rattle.judge.proofs.choice_sets.first_present.Reads as first-present-reads
-use Rattle.judge.proofs.node_rows.arcs_from.Reads as arcs-from-reads
-use Rattle.refusal.proofs.refuse.Reads as refuse-reads
 
 arcs-from-requires : tie.Need-arcs-from-requires
 arcs-from-requires c κs = ((c .before .before .pre .0), (c .before .before .pre .1 .1))

@@ -1,10 +1,10 @@
 -- `judge::node_check::nodes_fault` meets its contract: nothing is found at the nodes before the counter.
 use mathlib.Core.Bool.{not}
-use Prim.Native.Nat.{_-_, _≤_, _<_}
+use Prim.Native.Nat.{_-_, _≤_}
 use mathlib.Core.Option.{none}
 use lib.ListN.{getD}
 use Rattle.refusal.specs.Finding.{lineFinds, foundAt}
-use Rattle.scan.specs.Scan.{orElse, when, first}
+use Rattle.scan.specs.Scan.{first}
 use Rattle.scan.proofs.First.{when-hit, when-miss, first-none, first-more, orElse-next}
 use Rattle.refusal.specs.Verdict.{verdictOf}
 use Rattle.refusal.proofs.Verdicts.{answer-none, answer-left, answer-first}
@@ -14,14 +14,9 @@ use Rattle.sequential.specs.Check.{nodeFault, rootFault}
 use Rattle.graph.proofs.Readable.{known}
 use borrow.Author.Needs.{needs}
 use native.Mathlib.Omega.{arith}
-use mathlib.Core.Path.{_≡_, refl, sym, ap, _∙_}
+use mathlib.Core.Path.{_≡_, sym, ap, _∙_}
 use Rattle.judge.proofs.node_check.nodes_fault.Statement.{statement}
 use Rattle.judge.proofs.node_check.nodes_fault.Tie as tie
-use Rattle.judge.proofs.node_check.nodes_fault.Reads as reads
-use Rattle.judge.proofs.node_check.nodes_fault.Lts as lts
-use Rattle.judge.proofs.node_check.is_await.Reads as is-await-reads
-use Rattle.judge.proofs.node_check.node_fault.Reads as node-fault-reads
-use Rattle.refusal.proofs.refuse.Reads as refuse-reads
 
 abbrev Inv-loop : tie.InvT-loop
 Inv-loop net sheet table source nodes n₀ n = (n ≤ nodes) × (first (nodeFault (petriNet net) sheet) n ≡ none)

@@ -4,9 +4,6 @@ use Rattle.graph.proofs.Rows.{arcs-right}
 use borrow.Author.Needs.{needs}
 use Rattle.judge.proofs.node_rows.arcs_from.Statement.{statement}
 use Rattle.judge.proofs.node_rows.arcs_from.Tie as tie
-use Rattle.judge.proofs.node_rows.arcs_from.Reads as reads
-use Rattle.judge.proofs.node_rows.arcs_from.Lts as lts
-use Rattle.graph.proofs.arcs.Reads as arcs-reads
 
 arcs-requires : tie.Need-arcs-requires
 arcs-requires c κs = search needs

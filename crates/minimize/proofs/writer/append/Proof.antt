@@ -11,9 +11,6 @@ use native.Mathlib.Omega.{arith}
 use mathlib.Core.Path.{_≡_, refl}
 use Rattle.minimize.proofs.writer.append.Statement.{statement}
 use Rattle.minimize.proofs.writer.append.Tie as tie
-use Rattle.minimize.proofs.writer.append.Reads as reads
-use Rattle.minimize.proofs.writer.append.Lts as lts
-use Rattle.minimize.proofs.writer.word.Reads as word-reads
 
 abbrev Inv-loop : tie.InvT-loop
 Inv-loop sheet numbers counts values first width out₀ at told next₀ c₀ out next c =

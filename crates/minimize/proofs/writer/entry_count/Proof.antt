@@ -14,12 +14,6 @@ use native.Mathlib.Omega.{arith}
 use mathlib.Core.Path.{_≡_, refl, _∙_}
 use Rattle.minimize.proofs.writer.entry_count.Statement.{statement}
 use Rattle.minimize.proofs.writer.entry_count.Tie as tie
-use Rattle.minimize.proofs.writer.entry_count.Reads as reads
-use Rattle.minimize.proofs.writer.entry_count.Lts as lts
-use Rattle.minimize.proofs.writer.filled.Reads as filled-reads
-use Rattle.minimize.proofs.writer.told_row.Reads as told-row-reads
-use Rattle.net.proofs.places.Reads as places-reads
-use Rattle.net.proofs.transitions.Reads as transitions-reads
 
 abbrev Inv-loop : tie.InvT-loop
 Inv-loop net sheet rows reps transitions places entries₀ i₀ entries i =

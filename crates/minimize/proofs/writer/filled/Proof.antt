@@ -9,8 +9,6 @@ use native.Mathlib.Omega.{arith}
 use mathlib.Core.Path.{_≡_, refl}
 use Rattle.minimize.proofs.writer.filled.Statement.{statement}
 use Rattle.minimize.proofs.writer.filled.Tie as tie
-use Rattle.minimize.proofs.writer.filled.Reads as reads
-use Rattle.minimize.proofs.writer.filled.Lts as lts
 
 abbrev Inv-loop : tie.InvT-loop
 Inv-loop width told entries₀ c₀ entries c = (c ≤ width) × (entries ≡ count (present told) c)

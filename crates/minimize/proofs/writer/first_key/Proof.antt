@@ -8,10 +8,6 @@ use native.Mathlib.Omega.{arith}
 use mathlib.Core.Path.{refl}
 use Rattle.minimize.proofs.writer.first_key.Statement.{statement}
 use Rattle.minimize.proofs.writer.first_key.Tie as tie
-use Rattle.minimize.proofs.writer.first_key.Reads as reads
-use Rattle.minimize.proofs.writer.first_key.Lts as lts
-use Rattle.net.proofs.places.Reads as places-reads
-use Rattle.net.proofs.transitions.Reads as transitions-reads
 
 transitions-requires : tie.Need-transitions-requires
 transitions-requires c κs = search needs

@@ -8,11 +8,6 @@ use borrow.Author.Needs.{needs}
 use native.Mathlib.Omega.{arith}
 use Rattle.minimize.proofs.writer.told_row.Statement.{statement}
 use Rattle.minimize.proofs.writer.told_row.Tie as tie
-use Rattle.minimize.proofs.writer.told_row.Reads as reads
-use Rattle.minimize.proofs.writer.told_row.Lts as lts
-use Rattle.net.proofs.places.Reads as places-reads
-use Rattle.net.proofs.transitions.Reads as transitions-reads
-use Rattle.table.proofs.entry_row.Reads as entry-row-reads
 
 transitions-requires : tie.Need-transitions-requires
 transitions-requires c κs = search needs

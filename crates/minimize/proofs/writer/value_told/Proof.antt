@@ -5,8 +5,6 @@ use native.Mathlib.Omega.{arith}
 use mathlib.Core.Path.{sym}
 use Rattle.minimize.proofs.writer.value_told.Statement.{statement}
 use Rattle.minimize.proofs.writer.value_told.Tie as tie
-use Rattle.minimize.proofs.writer.value_told.Reads as reads
-use Rattle.minimize.proofs.writer.value_told.Lts as lts
 
 returns : tie.Need-returns
 returns c = sym (value-told-none _ _ (c .if1 .taken))

@@ -3,10 +3,6 @@ use Rattle.minimize.specs.Sections.{widthOf}
 use borrow.Author.Needs.{needs}
 use Rattle.minimize.proofs.writer.width_of.Statement.{statement}
 use Rattle.minimize.proofs.writer.width_of.Tie as tie
-use Rattle.minimize.proofs.writer.width_of.Reads as reads
-use Rattle.minimize.proofs.writer.width_of.Lts as lts
-use Rattle.net.proofs.places.Reads as places-reads
-use Rattle.net.proofs.transitions.Reads as transitions-reads
 
 places-requires : tie.Need-places-requires
 places-requires c κs = search needs

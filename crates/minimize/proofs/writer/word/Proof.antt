@@ -8,9 +8,6 @@ use native.Mathlib.Omega.{arith}
 use mathlib.Core.Path.{refl, ap}
 use Rattle.minimize.proofs.writer.word.Statement.{statement}
 use Rattle.minimize.proofs.writer.word.Tie as tie
-use Rattle.minimize.proofs.writer.word.Reads as reads
-use Rattle.minimize.proofs.writer.word.Lts as lts
-use Rattle.minimize.proofs.writer.value_told.Reads as value-told-reads
 
 returns : tie.Need-returns
 unfolding wordOf

@@ -1,5 +1,5 @@
 -- `minimize::writer::write` meets its contract.
-use mathlib.Core.Path.{_≡_, refl, sym, ap, _∙_}
+use mathlib.Core.Path.{refl, sym, ap, _∙_}
 use Prim.Native.Nat.{_≤_}
 use native.Mathlib.Omega.{arith}
 use lib.ListN.{length}
@@ -13,11 +13,6 @@ use Rattle.minimize.proofs.Parts.{form-length}
 use borrow.Author.Needs.{needs}
 use Rattle.minimize.proofs.writer.write.Statement.{statement}
 use Rattle.minimize.proofs.writer.write.Tie as tie
-use Rattle.minimize.proofs.writer.write.Reads as reads
-use Rattle.minimize.proofs.writer.write.Lts as lts
-use Rattle.call.proofs.output_fault.Reads as output-fault-reads
-use Rattle.minimize.proofs.writer.entry_count.Reads as entry-count-reads
-use Rattle.minimize.proofs.writer.write_form.Reads as write-form-reads
 
 entry-count-requires : tie.Need-entry-count-requires
 entry-count-requires c κs = (accepted-readable _ _ (c .before .before .before .pre .0), (_, c .before .before .before .pre .1))

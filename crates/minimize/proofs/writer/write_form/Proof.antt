@@ -8,9 +8,6 @@ use native.Mathlib.Omega.{arith}
 use mathlib.Core.Path.{_∙_}
 use Rattle.minimize.proofs.writer.write_form.Statement.{statement}
 use Rattle.minimize.proofs.writer.write_form.Tie as tie
-use Rattle.minimize.proofs.writer.write_form.Reads as reads
-use Rattle.minimize.proofs.writer.write_form.Lts as lts
-use Rattle.minimize.proofs.writer.write_part.Reads as write-part-reads
 
 cast-out : tie.Need-cast-out
 cast-out c = let m = rows-most _ _ _ _ _ ((c .before .before .before .pre) .0) ((c .before .before .before .pre) .1 .0) in omega arith

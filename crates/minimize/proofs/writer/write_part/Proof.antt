@@ -14,12 +14,6 @@ use native.Mathlib.Omega.{arith}
 use mathlib.Core.Path.{_≡_, refl, _∙_}
 use Rattle.minimize.proofs.writer.write_part.Statement.{statement}
 use Rattle.minimize.proofs.writer.write_part.Tie as tie
-use Rattle.minimize.proofs.writer.write_part.Reads as reads
-use Rattle.minimize.proofs.writer.write_part.Lts as lts
-use Rattle.minimize.proofs.writer.append.Reads as append-reads
-use Rattle.minimize.proofs.writer.first_key.Reads as first-key-reads
-use Rattle.minimize.proofs.writer.told_row.Reads as told-row-reads
-use Rattle.minimize.proofs.writer.width_of.Reads as width-of-reads
 
 abbrev Inv-loop : tie.InvT-loop
 Inv-loop net sheet numbers rows counts values out₀ at reps width next₀ i₀ out next i =

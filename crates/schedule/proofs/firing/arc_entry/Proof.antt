@@ -10,10 +10,6 @@ use native.Mathlib.Omega.{arith}
 use mathlib.Core.Path.{_∙_}
 use Rattle.schedule.proofs.firing.arc_entry.Statement.{statement}
 use Rattle.schedule.proofs.firing.arc_entry.Tie as tie
-use Rattle.schedule.proofs.firing.arc_entry.Reads as reads
-use Rattle.schedule.proofs.firing.arc_entry.Lts as lts
-use Rattle.net.proofs.transitions.Reads as transitions-reads
-use Rattle.table.proofs.find.Reads as find-reads
 
 transitions-requires : tie.Need-transitions-requires
 transitions-requires c κs = search needs

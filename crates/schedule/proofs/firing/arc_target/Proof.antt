@@ -5,8 +5,6 @@ use native.Mathlib.Omega.{arith}
 use mathlib.Core.Path.{refl}
 use Rattle.schedule.proofs.firing.arc_target.Statement.{statement}
 use Rattle.schedule.proofs.firing.arc_target.Tie as tie
-use Rattle.schedule.proofs.firing.arc_target.Reads as reads
-use Rattle.schedule.proofs.firing.arc_target.Lts as lts
 
 shared-slice-read-entries : tie.Need-shared-slice-read-entries
 unfolding entryCount

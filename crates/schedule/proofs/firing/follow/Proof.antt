@@ -15,11 +15,6 @@ use native.Mathlib.Omega.{arith}
 use mathlib.Core.Path.{_≡_, sym, ap, _∙_}
 use Rattle.schedule.proofs.firing.follow.Statement.{statement}
 use Rattle.schedule.proofs.firing.follow.Tie as tie
-use Rattle.schedule.proofs.firing.follow.Reads as reads
-use Rattle.schedule.proofs.firing.follow.Lts as lts
-use Rattle.schedule.proofs.firing.arc_entry.Reads as arc-entry-reads
-use Rattle.schedule.proofs.firing.arc_target.Reads as arc-target-reads
-use Rattle.refusal.proofs.refuse.Reads as refuse-reads
 
 abbrev Inv-loop : tie.InvT-loop
 Inv-loop net sheet firings node₀ i₀ node i = (i ≤ length firings) × (node ≡ nodeAfter (petriNet net) sheet firings i) × (node < nodeCount sheet) × (first (firingFault (petriNet net) sheet firings) i ≡ none)

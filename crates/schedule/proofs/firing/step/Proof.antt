@@ -1,5 +1,5 @@
 -- `schedule::firing::step` meets its contract.
-use mathlib.Core.Path.{_≡_, refl, sym, ap, _∙_}
+use mathlib.Core.Path.{sym, _∙_}
 use Rattle.refusal.proofs.Verdicts.{answer-none}
 use Rattle.sequential.specs.Words.{entryCount}
 use Rattle.graph.proofs.Readable.{known, words}
@@ -8,13 +8,6 @@ use Rattle.schedule.proofs.Walks.{found-at, found-nothing, entry-low, t
 use borrow.Author.Needs.{needs}
 use Rattle.schedule.proofs.firing.step.Statement.{statement}
 use Rattle.schedule.proofs.firing.step.Tie as tie
-use Rattle.schedule.proofs.firing.step.Reads as reads
-use Rattle.schedule.proofs.firing.step.Lts as lts
-use Rattle.refusal.proofs.refuse.Reads as refuse-reads
-use Rattle.schedule.proofs.firing.arc_entry.Reads as arc-entry-reads
-use Rattle.schedule.proofs.firing.arc_target.Reads as arc-target-reads
-use Rattle.schedule.proofs.firing.walker_fault.Reads as walker-fault-reads
-use Rattle.schedule.proofs.node_rows.marking.Reads as marking-reads
 
 walker-fault-requires : tie.Need-walker-fault-requires
 walker-fault-requires c κs = accepted-readable _ _ (c .before .before .pre)

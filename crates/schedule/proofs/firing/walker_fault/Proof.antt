@@ -18,10 +18,6 @@ use native.Mathlib.Omega.{arith}
 use mathlib.Core.Path.{_≡_, sym, ap, _∙_}
 use Rattle.schedule.proofs.firing.walker_fault.Statement.{statement}
 use Rattle.schedule.proofs.firing.walker_fault.Tie as tie
-use Rattle.schedule.proofs.firing.walker_fault.Reads as reads
-use Rattle.schedule.proofs.firing.walker_fault.Lts as lts
-use Rattle.schedule.proofs.node_rows.marking.Reads as marking-reads
-use Rattle.refusal.proofs.refuse.Reads as refuse-reads
 
 abbrev Inv-loop : tie.InvT-loop
 Inv-loop net sheet n counts held p₀ p = (p ≤ 32) × (first (countFault (petriNet net) sheet (walker n counts)) p ≡ none)

@@ -4,9 +4,6 @@ use Rattle.graph.proofs.Rows.{marking-right}
 use borrow.Author.Needs.{needs}
 use Rattle.schedule.proofs.node_rows.marking.Statement.{statement}
 use Rattle.schedule.proofs.node_rows.marking.Tie as tie
-use Rattle.schedule.proofs.node_rows.marking.Reads as reads
-use Rattle.schedule.proofs.node_rows.marking.Lts as lts
-use Rattle.graph.proofs.marking.Reads as marking-reads
 
 marking-requires : tie.Need-marking-requires
 marking-requires c κs = search needs
