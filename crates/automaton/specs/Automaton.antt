@@ -24,7 +24,7 @@ abbrev pub byArc {ℓ} : {X : Type ℓ} → X → (ℕ → X) → Option ℕ →
 byArc d f none = d
 byArc d f (some m) = f m
 
--- Where a list leads from node n, if it does. A list is any numbers (§11.1).
+-- Where a list leads from node n, if it can be followed. It may hold any numbers (§11.1).
 unfoldable pub follow : Automaton → ℕ → List ℕ → Option ℕ
 follow A n [] = some n
 follow A n (t ∷ σ) = byArc none (λ m. follow A m σ) (A .arc n t)

@@ -41,7 +41,7 @@ unfoldable pub sameIn : Automaton → ℕ → ℕ → ℕ → Bool
 sameIn A zero n m = equalLabels (A .label n) (A .label m)
 sameIn A (suc k) n m = equalLabels (A .label n) (A .label m) && all (agree A (sameIn A k) n m) (A .transitions)
 
--- nodes that as many rounds as there are nodes do not tell apart; fewer would not do (§11.4)
+-- nodes that as many rounds as there are nodes do not tell apart; no fixed number would do (§11.4)
 unfoldable pub same : Automaton → ℕ → ℕ → Bool
 same A n m = sameIn A (A .nodes) n m
 

@@ -39,7 +39,7 @@ pub record ScratchLeft (limit number : ℕ) (scratch scratch′ : List ℕ) : Ty
 -- A call: its limit of scratch; its answer as plain numbers, k of them its own; what it checks for given scratch; what it may change, as it was
 -- before; and its postcondition, of scratch before, the answer, what it may change and scratch after.
 module _ {Answer Left : Type 0} (limit : ℕ) (plain : Answer → List ℕ) (k : ℕ) (checks : List ℕ → List Check) (before : Left) (Done : List ℕ → Answer → Left → List ℕ → Type 0) where
-  -- §13.1
+  -- what demand 1 asks of it: §13.1
   pub record EveryCall : Type 0 where
     -- there is a reply to all that can be lent
     pub replies : (s : List ℕ) → (a : Answer) × (left : Left) × (s′ : List ℕ) × Done s a left s′

@@ -1,4 +1,4 @@
--- A file as words: §12.1 to §12.4.
+-- A file as words: §12.1, §12.3, §12.4.
 use Prim.Native.Nat.{ℕ, _+_, _*_, _/_, _%_}
 use mathlib.Core.Path.{_≡_}
 use mathlib.Core.List.{List, _++_}

@@ -1,6 +1,6 @@
 //! The calls from the customer's scope, the plainest way: tables are dense and numbers are 64 bits
-//! wide, so that no sum of the limits comes near their end. `net`, `sheet` and `form` are the net, the
-//! schedule and the minimal form; here are the refusals and the calls. Clauses are `docs/SPEC.md`'s.
+//! wide, so that no sum of the limits comes near their end. `net`, `sheet` and `form` are what their
+//! names say; here are the refusals and the calls. Clauses are those of `docs/SPEC.md`.
 
 mod form;
 mod net;
@@ -116,9 +116,9 @@ pub fn net_check(net: &[u32]) -> [u64; 3] {
     plain(Net::read(net).map(|_| vec![]))
 }
 
-/// What a transition takes and puts at a place, and what the place starts with: §10.2, and 0 by §2.8.
-/// Of a net that is refused `docs/DECISIONS.md` decides: one that 1 or 2 refuses has none, one that 3
-/// or 4 refuses what is found by halving, one without a source its weights.
+/// What a transition takes and puts at a place, and what the place starts with: §10.2, §2.8. Of a
+/// refused net `docs/DECISIONS.md` decides: one that 1 or 2 refuses has none, one that 3 or 4
+/// refuses what is found by halving, one without a source its weights.
 pub fn weights(net: &[u32], transition: u32, place: u32) -> [u64; 3] {
     let Ok(shape) = Shape::read(net) else {
         return [0; 3];

@@ -1,5 +1,5 @@
-//! The program: how it reads `net.bin` and `sheet.bin` (§12.1), what it prints (§12.6, §12.7), and a
-//! comparison of a program with that.
+//! The program: how it reads `net.bin` and `sheet.bin` (§12.1), what it prints (§12.6, §12.7), and
+//! a comparison of a program with that.
 
 use crate::generate::schedules::Schedule;
 use crate::generate::{self, rng::Rng};
@@ -14,8 +14,8 @@ use std::process::Command;
 const NET_WORDS: usize = 4_164;
 const SHEET_WORDS: usize = 8_195;
 
-/// The words of a file (§12.1); nothing where it has a tail (§12.4). Of a longer file only the first
-/// words are taken, and it has no tail (§12.3).
+/// The words of a file (§12.1); nothing where it has a tail (§12.4). Of a longer file only the
+/// first words are taken, and it has no tail (§12.3).
 fn words(bytes: &[u8], most: usize) -> Option<Vec<u32>> {
     let bytes = &bytes[..bytes.len().min(4 * most)];
     let whole = bytes.chunks_exact(4);

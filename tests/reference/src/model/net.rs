@@ -123,8 +123,8 @@ impl Net {
         Ok(Net::from_table(&table, shape.places as usize, shape.transitions as usize))
     }
 
-    /// The keys are rows of P places: what each transition takes, what each puts, the start; what has
-    /// no key is 0 (§2.8).
+    /// The keys are rows of P places: what each transition takes, what each puts, the start; what
+    /// has no key is 0 (§2.8).
     fn from_table(table: &[Option<u64>], p: usize, t: usize) -> Net {
         let row = |r: usize| -> Vec<u64> {
             table[r * p..(r + 1) * p].iter().map(|weight| weight.unwrap_or(0)).collect()
