@@ -97,7 +97,7 @@ module _ (fire : List ℕ → ℕ → List ℕ) (A B : Automaton) (cA : Closed A
       equivalent-trans A (minimal A) B 0 0 0 (equivalent-sym (minimal A) A 0 0 (minimal-equivalent fire A cA fA))
       (subst (λ (M : Automaton). Equivalent M B 0 0) (sym e) (minimal-equivalent fire B cB fB))
 
-  -- "Two are equal" exactly where the roots have equal labels and allow the same lists.
+  -- two are equal exactly where the roots have equal labels and allow the same lists
   pub minimal-equal↔equivalent : A .transitions ≡ B .transitions → (minimal A ≡ minimal B) ↔ Equivalent A B 0 0
   minimal-equal↔equivalent T = (minimal-equal→equivalent, equivalent→minimal-equal T)
 

@@ -6,26 +6,25 @@ use mathlib.Core.List.{List, [], _∷_}
 use mathlib.Core.Option.{Option, none, some}
 use Rattle.scan.specs.Scan.{found, foundOr}
 
--- "Node 0 is the root. Key n × T + t: from node n, firing t leads to the node that the value names. An absent arc key is no arc."
--- Nodes are 0 to nodes - 1, transitions 0 to transitions - 1; a node's label is what it holds, its counts.
+-- Nodes are 0 to nodes - 1 with the root 0 (§3.3), transitions 0 to transitions - 1; no arc is none (§3.7); a node's label is its marking (§4.1).
 pub record Automaton : Type 0 where
   pub nodes : ℕ
   pub transitions : ℕ
   pub arc : ℕ → ℕ → Option ℕ
   pub label : ℕ → List ℕ
 
--- The root is a node and arcs of nodes land on nodes; "a number from T on never has an arc".
+-- The root is a node, arcs of nodes lead to nodes (§3.5), and what is no transition has no arc (§3.7).
 pub record Closed (A : Automaton) : Type 0 where
   pub root : 0 < A .nodes
   pub lands : (n t m : ℕ) → n < A .nodes → A .arc n t ≡ some m → m < A .nodes
   pub bounded : (n t : ℕ) → A .transitions ≤ t → A .arc n t ≡ none
 
--- Where a list leads from node n: "one arc for each firing: the first from that node, each next from the node where the last one landed".
+-- Where a list leads from node n, if it can be followed. It may hold any numbers (§11.1).
 unfoldable pub follow : Automaton → ℕ → List ℕ → Option ℕ
 follow A n [] = some n
 follow A n (t ∷ σ) = foundOr none (λ m. follow A m σ) (A .arc n t)
 
--- "A node allows a sequence when the sheet's arcs can be followed through it from that node."
+-- §11.2
 unfoldable pub allows : Automaton → ℕ → List ℕ → Bool
 allows A n σ = found (follow A n σ)
 

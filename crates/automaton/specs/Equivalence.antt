@@ -9,12 +9,12 @@ use lib.ListN.{getD}
 use Rattle.scan.specs.Scan.{all, least, tabulate}
 use Rattle.automaton.specs.Automaton.{Automaton, SameLists}
 
--- "two nodes become one exactly when their counts are equal and they allow the same finite firing sequences"
+-- what makes two nodes one: §11.3, both halves of it (§11.4)
 pub record Equivalent (A B : Automaton) (n m : ℕ) : Type 0 where
   pub labels : A .label n ≡ B .label m
   pub lists : SameLists A B n m
 
--- "each arc lands on a node with the resulting counts": the target's label follows from the node's label and the transition.
+-- The target's label follows from the node's label and the transition: §6.6.
 pub record Fires (fire : List ℕ → ℕ → List ℕ) (A : Automaton) : Type 0 where
   pub fires : (n t m : ℕ) → n < A .nodes → A .arc n t ≡ some m → A .label m ≡ fire (A .label n) t
 
@@ -41,7 +41,7 @@ unfoldable pub sameIn : Automaton → ℕ → ℕ → ℕ → Bool
 sameIn A zero n m = equalLabels (A .label n) (A .label m)
 sameIn A (suc k) n m = equalLabels (A .label n) (A .label m) && all (agree A (sameIn A k) n m) (A .transitions)
 
--- nodes that as many rounds as there are nodes do not tell apart
+-- nodes that as many rounds as there are nodes do not tell apart; no fixed number would do (§11.4)
 unfoldable pub same : Automaton → ℕ → ℕ → Bool
 same A n m = sameIn A (A .nodes) n m
 

@@ -26,7 +26,7 @@ merged r A xs = record {
 unfoldable pub minimalBy : (ℕ → ℕ → Bool) → Automaton → Automaton
 minimalBy r A = merged r A (order r A)
 
--- "The merged nodes are numbered breadth first from the root, arcs by rising transition."
+-- merged by §11.3, numbered by §11.5
 unfoldable pub minimal : Automaton → Automaton
 minimal A = minimalBy (same A) A
 
@@ -38,8 +38,7 @@ number A n = indexOf (same A) (order (same A) A) n
 abbrev pub representative : Automaton → ℕ → ℕ
 representative A i = getD (order (same A) A) i 0
 
--- "two nodes become one exactly when their counts are equal and they allow the same finite firing sequences":
--- f takes the reached nodes of A onto the nodes of M, the root to the root, and carries arcs and labels over.
+-- §11.3: f takes the reached nodes of A onto the nodes of M, the root to the root, and carries arcs and labels over.
 pub record Quotient (A M : Automaton) (f : ℕ → ℕ) : Type 0 where
   pub root : f 0 ≡ 0
   pub node : (n : ℕ) → Reachable A n → f n < M .nodes

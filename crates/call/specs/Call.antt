@@ -1,4 +1,4 @@
--- What a call does with what it is lent: it needs enough scratch and clears it, and it writes its output buffers or leaves them alone.
+-- What a call does with what it is lent (§9.1): it needs enough scratch and clears it, and it writes its output buffers or leaves them alone.
 -- Calls differ in what they make of their words. The rest is the same for all of them and is said here, for any limit of scratch.
 use Prim.Native.Nat.{ℕ}
 use mathlib.Core.Path.{_≡_}
@@ -26,7 +26,7 @@ pub record Core (Answer : Type 0) : Type 0 where
   -- the words that it writes, a list for each output buffer
   pub results : List (List ℕ)
 
--- ---- 21 and 22
+-- ---- §7.21 and §7.22
 
 -- fewer words of scratch than the limit
 unfoldable pub scratchFault : ℕ → ℕ → Verdict
@@ -40,7 +40,7 @@ roomFault lent needed = verdictOf (when (ltb lent needed) (refusal 22 Nothing))
 abbrev pub buffer : List (List ℕ) → ℕ → List ℕ
 buffer buffers i = getD buffers i []
 
--- any output buffer that is too short
+-- any output buffer that is too short: §9.6
 unfoldable pub outputFault : List (List ℕ) → List (List ℕ) → Verdict
 outputFault [] outs = Accepted
 outputFault (result ∷ results) outs = andThen (roomFault (length (buffer outs 0)) (length result)) (outputFault results (drop 1 outs))
@@ -48,11 +48,11 @@ outputFault (result ∷ results) outs = andThen (roomFault (length (buffer outs 
 -- ---- what is answered
 
 module _ {Answer : Type 0} where
-  -- 22 comes last: only words that pass have a result whose length can be asked for
+  -- 22 comes last (§9.6): only words that pass have a result whose length can be asked for
   unfoldable pub wordsVerdict : Core Answer → List (List ℕ) → Verdict
   wordsVerdict core outs = andThen (core .verdict) (outputFault (core .results) outs)
 
-  -- 21 comes first
+  -- 21 comes first: §9.2
   unfoldable pub callVerdict : ℕ → Core Answer → List (List ℕ) → ℕ → Verdict
   callVerdict limit core outs lent = andThen (scratchFault limit lent) (wordsVerdict core outs)
 
@@ -62,23 +62,23 @@ module _ {Answer : Type 0} where
 
 -- ---- what is left in the buffers
 
--- what lies past the result stays
+-- what lies past the result stays: §9.4
 abbrev pub writtenOver : List ℕ → List ℕ → List ℕ
 writtenOver result out = result ++ drop (length result) out
 
 unfoldable pub writtenAt : List (List ℕ) → List (List ℕ) → ℕ → List ℕ
 writtenAt results outs i = writtenOver (buffer results i) (buffer outs i)
 
--- a refused call writes to no output buffer, not even to one that is long enough
+-- a refused call writes to no output buffer (§9.5), not even to one that is long enough (§9.6)
 abbrev pub outsAfter : Verdict → List (List ℕ) → List (List ℕ) → List (List ℕ)
 outsAfter Accepted results outs = tabulate (writtenAt results outs) (length outs)
 outsAfter (Refused r) results outs = outs
 
--- scratch is cleared up to the limit whatever the answer is, unless it is short of the limit: then no word of it is touched
+-- scratch is cleared up to the limit whatever the answer is (§9.3), unless it is short of the limit: then no word of it is touched (§9.2)
 unfoldable pub scratchAfter : ℕ → List ℕ → List ℕ
 scratchAfter limit scratch = cond (ltb (length scratch) limit) scratch (cleared limit scratch)
 
--- ---- a call done: what it is lent, what it answers, and what the buffers hold afterwards
+-- ---- a call done: what it is lent, what it answers, and what the buffers hold afterwards, all of it by equations (§13.5)
 
 module _ {Answer : Type 0} where
   pub record CallDone (limit : ℕ) (core : Core Answer) (outs : List (List ℕ)) (scratch : List ℕ) (answer : Answer) (outs′ : List (List ℕ)) (scratch′ : List ℕ) : Type 0 where

@@ -9,20 +9,20 @@ use Rattle.refusal.specs.Checks.{Check, once, AllPass, FirstFails}
 use Rattle.refusal.specs.declared.Refusal.{Refusal}
 use Rattle.call.specs.Call.{Core, CallDone, buffer}
 
--- ---- an answer as plain numbers
+-- ---- an answer as plain numbers: §8.1
 
--- its number, and the i-th of the call's own, which stand behind number, kind and position
+-- its number, and the i-th of the call's own, which stand behind number, kind and position; none can be missing (§8.4)
 abbrev pub number : List ℕ → ℕ
 number plain = getD plain 0 0
 
 abbrev pub own : List ℕ → ℕ → ℕ
 own plain i = getD plain (3 + i) 0
 
--- all that a call checks: scratch before the rest, which are the checks of its words and, where it writes, at the end whether the result fits
+-- all that a call checks: scratch before the rest (§7.54), which are the checks of its words and, where it writes, at the end whether the result fits
 abbrev pub callChecks : ℕ → List ℕ → List Check → List Check
 callChecks limit scratch rest = once (limit ≤ length scratch) 21 ∷ rest
 
--- an answer with k numbers of its own: 0 exactly where all checks pass, else the one that fails first, and nothing beside it
+-- an answer with k numbers of its own: 0 exactly where all checks pass, else the one that fails first (§7.54), and nothing beside it (§8.3)
 pub record ByChecks (checks : List Check) (plain : List ℕ) (k : ℕ) : Type 0 where
   pub zero : (number plain ≡ 0) ↔ AllPass checks
   pub named : (number plain ≡ 0 → ⊥) → (r : Refusal) × FirstFails checks r × (plain ≡ told r k)
@@ -30,7 +30,7 @@ pub record ByChecks (checks : List Check) (plain : List ℕ) (k : ℕ) : Type 0 
 
 -- ---- what a call leaves
 
--- scratch that is too small is as it was; all other scratch is zero up to the limit, and as it was from there on
+-- scratch that is too small is as it was (§9.2); all other scratch is zero up to the limit, and as it was from there on (§9.3)
 pub record ScratchLeft (limit number : ℕ) (scratch scratch′ : List ℕ) : Type 0 where
   pub small : (number ≡ 21) ↔ (length scratch < limit)
   pub kept : number ≡ 21 → scratch′ ≡ scratch
@@ -39,6 +39,7 @@ pub record ScratchLeft (limit number : ℕ) (scratch scratch′ : List ℕ) : Ty
 -- A call: its limit of scratch; its answer as plain numbers, k of them its own; what it checks for given scratch; what it may change, as it was
 -- before; and its postcondition, of scratch before, the answer, what it may change and scratch after.
 module _ {Answer Left : Type 0} (limit : ℕ) (plain : Answer → List ℕ) (k : ℕ) (checks : List ℕ → List Check) (before : Left) (Done : List ℕ → Answer → Left → List ℕ → Type 0) where
+  -- what demand 1 asks of it: §13.1
   pub record EveryCall : Type 0 where
     -- there is a reply to all that can be lent
     pub replies : (s : List ℕ) → (a : Answer) × (left : Left) × (s′ : List ℕ) × Done s a left s′
@@ -46,9 +47,9 @@ module _ {Answer Left : Type 0} (limit : ℕ) (plain : Answer → List ℕ) (k :
     pub one : (s t s′ t′ : List ℕ) (a b : Answer) (left right : Left) → length s ≡ length t → Done s a left s′ → Done t b right t′ → (a ≡ b) × (left ≡ right)
     -- it answers by its checks
     pub by-numbers : (s s′ : List ℕ) (a : Answer) (left : Left) → Done s a left s′ → ByChecks (checks s) (plain a) k
-    -- a refusal changes nothing
+    -- a refusal changes nothing: §9.5
     pub keeps : (s s′ : List ℕ) (a : Answer) (left : Left) → Done s a left s′ → (number (plain a) ≡ 0 → ⊥) → left ≡ before
-    -- but scratch
+    -- but scratch: §9.2, §9.3
     pub scratch : (s s′ : List ℕ) (a : Answer) (left : Left) → Done s a left s′ → ScratchLeft limit (number (plain a)) s s′
 
 -- ---- what a call does not depend on

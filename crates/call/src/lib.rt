@@ -1,11 +1,11 @@
-// What every call asks of what it is lent: enough scratch before all else, and room for its result after all else.
+// What every call asks of what it is lent: enough scratch before all else, and room for its result after all else (§7.54).
 ghost use mathlib.Core.Path.{_≡_};
 ghost use Rattle.call.specs.Call.{scratchFault, roomFault};
 use refusal::Position;
 use refusal::Refusal;
 use refusal::Verdict;
 
-// Refusal 21: fewer words of scratch than the call's limit.
+// §7.21, §9.2: fewer words of scratch than the call's limit.
 pub fn scratch_fault(limit: usize, lent: usize) -> Verdict
     ensures { λ r. ⌜ r ≡ scratchFault limit lent ⌝ }
 {
@@ -15,7 +15,7 @@ pub fn scratch_fault(limit: usize, lent: usize) -> Verdict
     Verdict::Accepted
 }
 
-// Refusal 22: an output buffer of fewer words than are to be written to it.
+// §7.22, §9.6: an output buffer of fewer words than are to be written to it.
 pub fn output_fault(lent: usize, needed: usize) -> Verdict
     ensures { λ r. ⌜ r ≡ roomFault lent needed ⌝ }
 {

@@ -1,4 +1,4 @@
-// The checker: reads net.bin and sheet.bin of the folder that it runs in, and prints what is answered for them.
+// The checker: reads net.bin and sheet.bin of the folder that it runs in (§12.1), prints what is answered for them, and ends well (§12.8).
 mod output;
 mod print;
 
@@ -8,7 +8,7 @@ ghost use Rattle.io.specs.Counts.{Counts};
 ghost use Rattle.files.specs.Program.{programAnswer};
 use files::FilesAnswer;
 
-// The bytes of a file at the start of buf, as many as it holds; none of a file that cannot be opened or read.
+// The bytes of a file at the start of buf, as many as it holds; none of a file that cannot be opened or read (§12.2).
 fn read_file(path: &[u8], buf: &mut [u8]) -> usize
     ensures { λ r. ⌜ Counts r (now (buf .exit)) ⌝ }
 {
@@ -21,7 +21,7 @@ fn read_file(path: &[u8], buf: &mut [u8]) -> usize
     n
 }
 
-// The answer for the bytes of the two files. The buffers cut a longer file.
+// The answer for the bytes of the two files (§12.5). The buffers cut a longer file (§12.3).
 fn answer(netbin: &[u8], sheetbin: &[u8], net: &mut [u32], sheet: &mut [u32]) -> FilesAnswer
     requires { ⌜ length (now net) ≡ 4164 ⌝ }
     requires { ⌜ length (now sheet) ≡ 8195 ⌝ }

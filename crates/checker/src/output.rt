@@ -1,4 +1,4 @@
-// Output gathered in a buffer, which is written out when it is full. Each function is told how much of the buffer is filled and answers
+// Standard output (§12.8), gathered in a buffer that is written out when it is full. Each function is told how much of it is filled and answers
 // how much of it is then.
 use libc::STDOUT_FILENO;
 

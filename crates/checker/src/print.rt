@@ -1,4 +1,4 @@
-// The lines of the program's output.
+// The lines of the program's output: §12.6, and on acceptance §12.7.
 use super::output;
 use judge::CheckAnswer;
 use judge::Counts;
@@ -16,7 +16,7 @@ fn kind(buf: &mut [u8], at: usize, position: Position) -> usize {
     }
 }
 
-// Line 1: number, kind of position, position.
+// Line 1: §12.6.
 fn first(buf: &mut [u8], refusal: u32, position: Position) -> usize {
     let at = output::field(buf, 0, b"answer ", refusal as u64);
     let at = kind(buf, at, position);
@@ -77,6 +77,7 @@ fn short(buf: &mut [u8], at: usize, net: &[u32], sheet: &[u32], form: &mut [u32]
     }
 }
 
+// §12.7
 fn accepted(buf: &mut [u8], numbers: Counts, net: &[u32], sheet: &[u32], form: &mut [u32]) {
     let at = first(buf, 0, Position::Nothing);
     let at = counts(buf, at, numbers);

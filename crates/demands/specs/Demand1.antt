@@ -1,4 +1,4 @@
--- Demand 1: every call replies, whatever it is handed and whatever was called before; it answers or refuses by the numbers, and a refusal changes
+-- Demand 1 (§13.1): every call replies, whatever it is handed and whatever was called before; it answers or refuses by the numbers, and a refusal changes
 -- nothing but scratch. That each call ends is part of its proof in the language, and none has a `requires`. proofs/Demand1 has a term for this record.
 use Prim.Native.Nat.{ℕ, _≤_}
 use mathlib.Core.Path.{_≡_}
@@ -21,14 +21,14 @@ use Rattle.schedule.specs.declared.Walker.{Walker}
 use Rattle.minimal.specs.Form.{plainForm, FormDone}
 use Rattle.demands.specs.Terms.{asked}
 
--- what an output buffer and scratch held is read by nothing: the answers are one, and each word left is the same or is as it was in both
+-- what an output buffer and scratch held is read by nothing: the answers are one, and each word left is the same or is as it was in both (§13.5)
 abbrev pub Unread : {Answer : Type 0} → (List ℕ → List ℕ → Answer → List ℕ → List ℕ → Type 0) → Type 0
 Unread {Answer} Done = (o₁ o₂ s₁ s₂ o₁′ o₂′ s₁′ s₂′ : List ℕ) (a₁ a₂ : Answer) → length o₁ ≡ length o₂ → length s₁ ≡ length s₂
     → Done o₁ s₁ a₁ o₁′ s₁′ → Done o₂ s₂ a₂ o₂′ s₂′
     → (a₁ ≡ a₂) × ((i : ℕ) → (getD o₁′ i 0 ≡ getD o₂′ i 0) ⊎ ((getD o₁′ i 0 ≡ getD o₁ i 0) × (getD o₂′ i 0 ≡ getD o₂ i 0)))
 
 pub record Demand1 : Type 0 where
-  -- ---- each call on its own
+  -- ---- each call on its own: §10.1, §10.3 to §10.9
   pub net-check : (net : List ℕ) (v : Verdict) → NetDone net v → ByChecks (netChecks net) (plainOf v) 0
   pub fresh-walker : (net : List ℕ) (v : Verdict) (w : Walker) → FreshDone net v w
       → ByChecks (netChecks net) (plainOf v) 0 × ((number (plainOf v) ≡ 0 → ⊥) → w ≡ record { node = 0; counts = replicate mostPlaces 0 })
@@ -39,7 +39,7 @@ pub record Demand1 : Type 0 where
       → EveryCall scratchLimit plainOf 0 (asked net sheet (walkerChecks (petriNet net) sheet w t)) w (λ s v next s′. FireDone net sheet s w t v next s′)
   pub run : (net sheet firings out : List ℕ)
       → EveryCall scratchLimit plainRun 2 (asked net sheet (runChecks (petriNet net) sheet firings ++ (once (petriNet net .places ≤ length out) 22 ∷ []))) out (RunDone net sheet firings out)
-  -- how many words the minimal form needs is said by demand 3
+  -- how many words the minimal form needs is said by demand 3 (§11.7)
   pub minimal-form : (net sheet : List ℕ) → (needed : ℕ)
       × ((out : List ℕ) → EveryCall scratchLimit plainForm 1 (asked net sheet (once (needed ≤ length out) 22 ∷ [])) out (FormDone net sheet out))
   -- ---- and what none of them reads

@@ -1,4 +1,4 @@
--- Demand 2: what is accepted, what is named where it is not, what is counted and fired, and what holds of all runs of an accepted schedule.
+-- Demand 2 (§13.2, §13.3): what is accepted, what is named where it is not, what is counted and fired, and what holds of all runs of an accepted schedule.
 -- proofs/Demand2 has a term for this record.
 use Prim.Native.Nat.{ℕ, suc, _*_, _/_, _%_, _≤_, _<_}
 use mathlib.Core.Path.{_≡_}
@@ -35,26 +35,26 @@ pub data HowMany (Such : ℕ → Type 0) : ℕ → ℕ → Type 0 where
   one-more : (n k : ℕ) → HowMany Such n k → Such n → HowMany Such (suc n) (suc k)
   no-more : (n k : ℕ) → HowMany Such n k → (Such n → ⊥) → HowMany Such (suc n) k
 
--- the nodes, the arcs, of which each is known by its key, and the await nodes
+-- the nodes, the arcs, of which each is known by its key, and the await nodes: §10.3
 pub record Counted (N : PetriNet) (A : Automaton) (nodes arcs awaits : ℕ) : Type 0 where
   pub all-nodes : nodes ≡ A .nodes
   pub all-arcs : HowMany (λ key. Offers N A (key / N .transitions) (key % N .transitions)) (A .nodes * N .transitions) arcs
   pub all-awaits : HowMany (Await N A) (A .nodes) awaits
 
--- the words at the front of a buffer: at each place the least number that no run exceeds there; past them the buffer is as it was
+-- the words at the front of a buffer: at each place the least number that no run exceeds there; past them the buffer is as it was: §10.4, §9.4
 pub record BoundsWritten (N : PetriNet) (A : Automaton) (out out′ : List ℕ) : Type 0 where
   pub least : (p : ℕ) → p < N .places → LeastBound N A p (getD out′ p 0)
   pub past : (i : ℕ) → N .places ≤ i → getD out′ i 0 ≡ getD out i 0
   pub length-kept : length out′ ≡ length out
 
--- a firing follows an arc, of a transition that is enabled; the counts are those that firing gives, and the next firing passes by all that is offered
+-- a firing follows an arc, of a transition that is enabled; the counts are those that firing gives, and the next firing passes by all that is offered: §10.7
 pub record Fired (N : PetriNet) (sheet : List ℕ) (A : Automaton) (w : Walker) (t : ℕ) (next : Walker) : Type 0 where
   pub arc : A .arc (w .node) t ≡ some (next .node)
   pub enabled : Enabled N (w .counts) t
   pub stands : Stands N next (next .node) (firedCount N (w .counts) t)
   pub passes : (u : ℕ) → Offers N A (next .node) u → AllPass (walkerChecks N sheet next u)
 
--- a run fires all of its record, each where it is enabled, to the node that it tells, whose counts it writes
+-- a run fires all of its record, each where it is enabled, to the node that it tells, whose counts it writes: §10.8
 pub record RanAll (N : PetriNet) (A : Automaton) (firings out : List ℕ) (fired node : ℕ) (out′ : List ℕ) : Type 0 where
   pub all : fired ≡ length firings
   pub ends : follow A 0 firings ≡ some node
@@ -63,27 +63,27 @@ pub record RanAll (N : PetriNet) (A : Automaton) (firings out : List ℕ) (fired
   pub written : out′ ≡ A .label node ++ drop (N .places) out
 
 pub record Demand2 : Type 0 where
-  -- accepted exactly when scratch suffices, the net is one, the words pass and the graph that they say is a schedule
+  -- accepted exactly when scratch suffices, the net is one, the words pass and the graph that they say is a schedule: §13.2, §6.1
   pub accepts : (net sheet s s′ : List ℕ) (a : CheckAnswer) → CheckDone net sheet s a s′
       → (number (plainCheck a) ≡ 0) ↔ ((scratchLimit ≤ length s) × IsNet net × WordsPass (petriNet net) sheet × IsSchedule (petriNet net) (said net sheet))
-  -- a schedule in the published sense, with no node besides those that it reaches
+  -- a schedule in the published sense, with no node besides those that it reaches: §6.12
   pub published : (net sheet s s′ : List ℕ) (a : CheckAnswer) → CheckDone net sheet s a s′ → scratchLimit ≤ length s → IsNet net → WordsPass (petriNet net) sheet
       → (number (plainCheck a) ≡ 0) ↔ (SequentialSchedule (petriNet net) (said net sheet) × ((n : ℕ) → n < said net sheet .nodes → Reachable (said net sheet) n))
-  -- otherwise the first check that fails is named
+  -- otherwise the first check that fails is named: §7.54
   pub names : (net sheet s s′ : List ℕ) (a : CheckAnswer) → CheckDone net sheet s a s′ → ByChecks (asked net sheet [] s) (plainCheck a) 3
-  -- what is counted
+  -- what is counted: §10.3
   pub counts : (net sheet s s′ : List ℕ) (a : CheckAnswer) → CheckDone net sheet s a s′ → number (plainCheck a) ≡ 0
       → Counted (petriNet net) (said net sheet) (own (plainCheck a) 0) (own (plainCheck a) 1) (own (plainCheck a) 2)
-  -- what is fired, from a fresh walker on
+  -- what is fired, from a fresh walker on: §10.6 to §10.8
   pub fresh : (net : List ℕ) (v : Verdict) (w : Walker) → FreshDone net v w → number (plainOf v) ≡ 0 → Stands (petriNet net) w 0 (petriNet net .start)
   pub fires : (net sheet s s′ : List ℕ) (w next : Walker) (t : ℕ) (v : Verdict) → FireDone net sheet s w t v next s′ → number (plainOf v) ≡ 0
       → Fired (petriNet net) sheet (said net sheet) w t next
   pub runs : (net sheet firings out s out′ s′ : List ℕ) (a : RunAnswer) → RunDone net sheet firings out s a out′ s′ → number (plainRun a) ≡ 0
       → RanAll (petriNet net) (said net sheet) firings out (own (plainRun a) 0) (own (plainRun a) 1) out′
-  -- every run of an accepted schedule fires only enabled transitions and can go on, and every node has a way to an await node
+  -- every run of an accepted schedule fires only enabled transitions and can go on, and every node has a way to an await node: §13.3
   pub enabled : (net sheet σ : List ℕ) → Accepted net sheet → allows (said net sheet) 0 σ ≡ true → FiresEnabled (petriNet net) (initial (petriNet net)) σ
   pub goes-on : (net sheet σ : List ℕ) → Accepted net sheet → allows (said net sheet) 0 σ ≡ true → (t : ℕ) × (allows (said net sheet) 0 (σ ++ (t ∷ [])) ≡ true)
   pub returns : (net sheet : List ℕ) → Accepted net sheet → (n : ℕ) → n < said net sheet .nodes → ToAwait (petriNet net) (said net sheet) n
-  -- each word that place bounds writes is the least that all runs keep
+  -- each word that place bounds writes is the least that all runs keep: §10.4, §13.3
   pub bounds : (net sheet out s out′ s′ : List ℕ) (v : Verdict) → BoundsDone net sheet out s v out′ s′ → number (plainOf v) ≡ 0
       → BoundsWritten (petriNet net) (said net sheet) out out′

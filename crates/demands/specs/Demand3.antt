@@ -1,4 +1,4 @@
--- Demand 3, whole: two accepted schedules of a net, the minimal forms that two calls wrote for them, and all finite lists of firings.
+-- Demand 3, whole (§11.9, §13.4): two accepted schedules of a net, the minimal forms that two calls wrote for them, and all finite lists of firings.
 -- proofs/Demand3 has a term for this record.
 use Prim.Native.Nat.{ℕ, _+_, _*_, _≤_, _<_}
 use mathlib.Core.Path.{_≡_}
@@ -17,20 +17,19 @@ use Rattle.minimal.specs.Form.{plainForm, FormDone}
 use Rattle.minimal.specs.declared.FormAnswer.{FormAnswer}
 use Rattle.demands.specs.Terms.{said, Accepted}
 
--- `form` is an accepted schedule that says what merging and numbering give: two nodes of `sheet` have one new number exactly when they hold the
--- same and allow the same lists, arcs and counts are carried over, and the new numbers run breadth first
+-- `form` is an accepted schedule that says what merging (§11.3) and numbering (§11.5) give
 pub record Merges (net sheet form : List ℕ) : Type 0 where
   pub accepted : Accepted net form
   pub newNumber : ℕ → ℕ
   pub merged : Quotient (said net sheet) (said net form) newNumber
   pub numbered : BreadthFirst (said net form)
 
--- every call of the check that is lent scratch enough answers 0
+-- every call of the check that is lent scratch enough answers 0: §11.8
 abbrev pub AlwaysAccepted : List ℕ → List ℕ → Type 0
 AlwaysAccepted net sheet = (scratch scratch′ : List ℕ) (answer : CheckAnswer) → scratchLimit ≤ length scratch
     → CheckDone net sheet scratch answer scratch′ → number (plainCheck answer) ≡ 0
 
--- a call of the minimal form that answered 0; the buffers lent held anything
+-- a call of the minimal form that answered 0 (§11.7); the buffers lent held anything
 pub record Form (net sheet : List ℕ) : Type 0 where
   pub out : List ℕ
   pub scratch : List ℕ
@@ -40,30 +39,30 @@ pub record Form (net sheet : List ℕ) : Type 0 where
   pub done : FormDone net sheet out scratch answer out′ scratch′
   pub zero : number (plainForm answer) ≡ 0
 
--- the length that it answered, and so many words of its buffer
+-- the length that it answered, and so many words of its buffer: §11.7
 abbrev pub size : {net sheet : List ℕ} → Form net sheet → ℕ
 size c = own (plainForm (c .answer)) 0
 
 abbrev pub made : {net sheet : List ℕ} → Form net sheet → List ℕ
 made c = take (size c) (c .out′)
 
--- equal in length and word for word
+-- equal in length and word for word: §11.8
 pub record SameWords {net x y : List ℕ} (a : Form net x) (b : Form net y) : Type 0 where
   pub lengths : size a ≡ size b
   pub words : (i : ℕ) → i < size a → getD (a .out′) i 0 ≡ getD (b .out′) i 0
 
 pub record Demand3 : Type 0 where
-  -- two are equal exactly when every list is allowed from both roots or from neither
+  -- two are equal exactly when every list is allowed from both roots or from neither: §11.9
   pub equal : (net x y : List ℕ) → Accepted net x → Accepted net y → (a : Form net x) (b : Form net y)
       → SameWords a b ↔ SameLists (said net x) (said net y) 0 0
-  -- each is the one schedule that merging and numbering give
+  -- each is the one schedule that merging and numbering give: §11.3, §11.5, §11.6
   pub the-form : (net sheet : List ℕ) → Accepted net sheet → (c : Form net sheet) (form : List ℕ) → (form ≡ made c) ↔ Merges net sheet form
-  -- it is accepted, and allows the lists that its original allows
+  -- it is accepted, and allows the lists that its original allows: §11.9
   pub accepted : (net sheet : List ℕ) → Accepted net sheet → (c : Form net sheet) → AlwaysAccepted net (made c)
   pub same-lists : (net sheet : List ℕ) → Accepted net sheet → (c : Form net sheet) → SameLists (said net (made c)) (said net sheet) 0 0
-  -- its words all lie in the buffer, and what follows them there is as it was
+  -- its words all lie in the buffer, and what follows them there is as it was: §9.4
   pub within : (net sheet : List ℕ) → Accepted net sheet → (c : Form net sheet) → (size c ≤ length (c .out)) × (c .out′ ≡ made c ++ drop (size c) (c .out))
-  -- with scratch enough the call answers 0 exactly when the buffer holds the form, as 2 + 2 × 4,096 words do: there is such a call
+  -- with scratch enough the call answers 0 exactly when the buffer holds the form, as 2 + 2 × 4,096 words do: there is such a call (§11.7)
   pub answers : (net sheet out scratch out′ scratch′ : List ℕ) (answer : FormAnswer) → Accepted net sheet → scratchLimit ≤ length scratch
       → FormDone net sheet out scratch answer out′ scratch′
       → (number (plainForm answer) ≡ 0) ↔ ((form : List ℕ) → Merges net sheet form → length form ≤ length out)

@@ -1,4 +1,4 @@
--- The proved table: nets and schedules, what every check of them answers, and what every call of the minimal form writes.
+-- The proved table (§13.7): nets and schedules, what every check of them answers, and what every call of the minimal form writes.
 use Prim.Native.Nat.{ℕ, _+_, _*_, _≤_}
 use mathlib.Core.Path.{_≡_}
 use mathlib.Core.List.{List, [], _∷_}
@@ -21,12 +21,14 @@ pub record Row : Type 0 where
 abbrev pub row : List ℕ → List ℕ → List ℕ → List ℕ → Row
 row net sheet answer form = record { net = net; sheet = sheet; answer = answer; form = form }
 
+-- §14.2
 abbrev pub netA : List ℕ
 netA = 1 ∷ 2 ∷ 2 ∷ 1 ∷ 2 ∷ 1 ∷ 1 ∷ []
 
 abbrev pub two : List ℕ
 two = 2 ∷ 3 ∷ 0 ∷ 3 ∷ 5 ∷ 1 ∷ 0 ∷ 1 ∷ []
 
+-- §14.3, row by row; the third is §14.4
 abbrev pub starred : List Row
 starred =
     row (1 ∷ 1 ∷ 0 ∷ []) (1 ∷ 1 ∷ 0 ∷ 0 ∷ []) (0 ∷ 0 ∷ 0 ∷ 1 ∷ 1 ∷ 1 ∷ []) (1 ∷ 1 ∷ 0 ∷ 0 ∷ [])
@@ -72,8 +74,7 @@ further =
 abbrev pub FurtherRows : Type 0
 FurtherRows = AllHold further
 
--- Places A, B, F, Q; transitions a, b, x, y, z, w: a and b fill A and B, F starts with one, x takes A and F and puts Q, y takes A, z takes B and F,
--- w takes B. After x or z two await nodes have the same futures, one of them with one in Q: merging by futures alone would leave six nodes.
+-- §14.5: lists alone would leave six nodes
 abbrev pub netQ : List ℕ
 netQ = 4 ∷ 6 ∷ 10 ∷ 8 ∷ 10 ∷ 12 ∷ 17 ∷ 18 ∷ 21 ∷ 24 ∷ 29 ∷ 35 ∷ 50 ∷ 1 ∷ 1 ∷ 1 ∷ 1 ∷ 1 ∷ 1 ∷ 1 ∷ 1 ∷ 1 ∷ 1 ∷ []
 

@@ -26,11 +26,11 @@ use Rattle.demands.specs.Demand3.{Form, size, made}
 
 -- ---- schedules
 
--- fewer firings than there are nodes suffice, wherever any do: of all words that pass, whether or not they say a schedule
+-- fewer firings than there are nodes suffice, wherever any do (§6.9): of all words that pass, whether or not they say a schedule
 abbrev pub PathsShorten : Type 0
 PathsShorten = (net sheet : List ℕ) → IsNet net → WordsPass (petriNet net) sheet → (n : ℕ) → n < said net sheet .nodes → ShortWhereAny (petriNet net) (said net sheet) n
 
--- the choice sets are a partition of the transitions; there is a source, and the sources are one of the sets
+-- the choice sets are a partition of the transitions; there is a source, and the sources are one of the sets: §5.2, §2.9
 pub record Partition (N : PetriNet) : Type 0 where
   pub reflexive : (t : ℕ) → SameChoice N t t
   pub symmetric : (t u : ℕ) → SameChoice N t u → SameChoice N u t
@@ -41,7 +41,7 @@ pub record Partition (N : PetriNet) : Type 0 where
 abbrev pub ChoicePartition : Type 0
 ChoicePartition = (net : List ℕ) → IsNet net → Partition (petriNet net)
 
--- every run goes on by the members of one choice set, and by nothing else
+-- every run goes on by the members of one choice set, and by nothing else: §13.3
 abbrev pub NeverStuck : Type 0
 NeverStuck = (net sheet σ : List ℕ) → Accepted net sheet → allows (said net sheet) 0 σ ≡ true → GoesOn (petriNet net) (said net sheet) σ
 
@@ -64,7 +64,7 @@ RunFolds = (net sheet firings out s out′ s′ : List ℕ) (a : RunAnswer) (v :
 
 -- ---- words and graphs
 
--- encoding and decoding are inverse, between the words that pass 6 to 9 and the graphs that words can say
+-- encoding and decoding are inverse, between the words that pass 6 to 9 and the graphs that words can say: §11.6
 pub record Inverse (N : PetriNet) : Type 0 where
   pub decodes : (sheet : List ℕ) → WordsPass N sheet → Encodable N (graph N sheet)
   pub encodes : (A : Automaton) → Encodable N A → WordsPass N (encode N A)

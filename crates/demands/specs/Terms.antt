@@ -1,5 +1,5 @@
 -- Words that the three demands share: the graph that a schedule says, when a schedule is accepted, and all that a call checks.
-use Prim.Native.Nat.{ℕ, _≤_}
+use Prim.Native.Nat.{ℕ}
 use mathlib.Core.Path.{_≡_}
 use mathlib.Core.List.{List, _∷_, _++_}
 use lib.ListN.{length}
@@ -15,15 +15,15 @@ use Rattle.call.specs.Demands.{number}
 use Rattle.refusal.specs.Limits.{scratchLimit}
 use Rattle.schedule.specs.Calls.{CheckDone}
 
--- the graph that a schedule's words say
+-- the graph that a schedule's words say: §3.5, §3.6
 abbrev pub said : List ℕ → List ℕ → Automaton
 said net sheet = graph (petriNet net) sheet
 
--- all that a call checks: scratch, the net, the schedule, and what the call asks besides
+-- all that a call checks, in the order of §7.54: scratch, the net, the schedule, and what the call asks besides
 abbrev pub asked : List ℕ → List ℕ → List Check → List ℕ → List Check
 asked net sheet besides scratch = once (scratchLimit ≤ length scratch) 21 ∷ ((netChecks net ++ sheetChecks (petriNet net) sheet) ++ besides)
 
--- some call of the schedule check answered 0
+-- some call of the schedule check (§10.3) answered 0
 pub record Accepted (net sheet : List ℕ) : Type 0 where
   pub scratch : List ℕ
   pub scratch′ : List ℕ

@@ -20,7 +20,7 @@ use Rattle.files.specs.Program.{programAnswer}
 unfoldable pub allWords : List ℕ → List ℕ
 allWords bytes = tabulate (wordAt bytes) (length bytes / 4)
 
--- "the first .. words are handed on", and a file is read as its cut is
+-- §12.3; and a file is read as its cut is
 pub record ReadAsCut (most : ℕ) (bytes : List ℕ) : Type 0 where
   pub handed-on : wordsOf most bytes ≡ take most (allWords bytes)
   pub words : wordsOf most (cut most bytes) ≡ wordsOf most bytes
@@ -29,15 +29,15 @@ pub record ReadAsCut (most : ℕ) (bytes : List ℕ) : Type 0 where
 abbrev pub CutReads : Type 0
 CutReads = (most : ℕ) (bytes : List ℕ) → ReadAsCut most bytes
 
--- a longer file is answered as its cut: 16,656 bytes of the net and 32,780 of the sheet are enough
+-- a longer file is answered as its cut: 16,656 bytes of the net and 32,780 of the sheet are enough (§12.3)
 abbrev pub CutAnswers : Type 0
 CutAnswers = (net sheet : List ℕ) → programAnswer (cut netRead net) (cut sheetRead sheet) ≡ programAnswer net sheet
 
--- "one more than fits": the words that are not handed on change no answer
+-- the words that are not handed on change no answer: §12.5. What is cut is still a word too long (§1.7).
 abbrev pub CutChecks : Type 0
 CutChecks = (net sheet : List ℕ) → scheduleReply (take netRead net) (take sheetRead sheet) ≡ scheduleReply net sheet
 
--- "a tail of one to three bytes is 1 or 6 before any other check of that file": the net's tail, the net, the sheet's tail, the sheet
+-- the net's tail, the net, the sheet's tail, the sheet: §12.4
 pub record AnswersFiles (net sheet : List ℕ) : Type 0 where
   pub net-tail : isRagged netRead net ≡ true → programAnswer net sheet ≡ Failed (refusal 1 Nothing)
   pub net-refused : isRagged netRead net ≡ false → (r : Refusal) → netReply (wordsOf netRead net) ≡ Refused r → programAnswer net sheet ≡ Failed r

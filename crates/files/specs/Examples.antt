@@ -18,21 +18,21 @@ tailed bytes most words = record { bytes = bytes; most = most; words = words; ra
 
 abbrev pub table : List Example
 table =
-    -- "A missing file is empty"
+    -- no file: §12.2
     whole [] 2 [] ∷
-    -- "words of four bytes, least significant first"
+    -- §12.1
     whole (1 ∷ 2 ∷ 3 ∷ 4 ∷ []) 2 (67305985 ∷ []) ∷
     whole (255 ∷ 255 ∷ 255 ∷ 255 ∷ []) 2 (4294967295 ∷ []) ∷
-    -- "a tail of one to three bytes"
+    -- tails: §12.4
     tailed (1 ∷ []) 2 [] ∷
     tailed (1 ∷ 2 ∷ []) 2 [] ∷
     tailed (1 ∷ 2 ∷ 3 ∷ []) 2 [] ∷
     tailed (1 ∷ 0 ∷ 0 ∷ 0 ∷ 9 ∷ []) 2 (1 ∷ []) ∷
     tailed (1 ∷ 0 ∷ 0 ∷ 0 ∷ 9 ∷ 9 ∷ 9 ∷ []) 2 (1 ∷ []) ∷
-    -- the most words, with no tail and with one that is not looked for
+    -- the most words, with no tail and with one that is not looked for: §12.3
     whole (1 ∷ 0 ∷ 0 ∷ 0 ∷ 0 ∷ 1 ∷ 0 ∷ 0 ∷ []) 2 (1 ∷ 256 ∷ []) ∷
     whole (1 ∷ 0 ∷ 0 ∷ 0 ∷ 0 ∷ 1 ∷ 0 ∷ 0 ∷ 9 ∷ []) 2 (1 ∷ 256 ∷ []) ∷
-    -- "of a longer file the first .. words are handed on"
+    -- more words than are handed on: §12.3
     whole (1 ∷ 0 ∷ 0 ∷ 0 ∷ 0 ∷ 1 ∷ 0 ∷ 0 ∷ 9 ∷ 9 ∷ 9 ∷ 9 ∷ []) 2 (1 ∷ 256 ∷ []) ∷
     whole (1 ∷ 0 ∷ 0 ∷ 0 ∷ 0 ∷ 1 ∷ 0 ∷ 0 ∷ 9 ∷ 9 ∷ 9 ∷ 9 ∷ 9 ∷ []) 2 (1 ∷ 256 ∷ []) ∷ []
 

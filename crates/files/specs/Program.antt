@@ -1,4 +1,4 @@
--- Document 01, "The calls", its last paragraph: what the program answers for its two files.
+-- What the program answers for its two files: §12.4, §12.5.
 use Prim.Native.Nat.{ℕ}
 use mathlib.Core.Path.{_≡_}
 use mathlib.Core.List.{List}
@@ -16,12 +16,12 @@ use Rattle.judge.specs.declared.CheckAnswer.{CheckAnswer}
 use Rattle.files.specs.Words.{netRead, sheetRead, isRagged, wordCount, wordsOf, decoded}
 use Rattle.files.specs.declared.FilesAnswer.{FilesAnswer}
 
--- "a tail of one to three bytes is 1 or 6"
+-- a tail, refused by the number of its file: §12.4
 abbrev pub tailReply : Bool → ℕ → Verdict
 tailReply true number = Refused (refusal number Nothing)
 tailReply false number = Accepted
 
--- ".. before any other check of that file"; "then the net ..; then the sheet"
+-- the net's tail, the net, the sheet's tail, the sheet: §12.4
 unfoldable pub readReply : Bool → Bool → List ℕ → List ℕ → Verdict
 readReply netRagged sheetRagged net sheet =
     andThen (tailReply netRagged 1) (andThen (netReply net) (andThen (tailReply sheetRagged 6) (scheduleReply net sheet)))
@@ -34,6 +34,7 @@ unfoldable pub filesAnswer : ℕ → ℕ → List ℕ → List ℕ → CheckAnsw
 filesAnswer netMost sheetMost netBytes sheetBytes =
     readAnswer (isRagged netMost netBytes) (isRagged sheetMost sheetBytes) (wordsOf netMost netBytes) (wordsOf sheetMost sheetBytes)
 
+-- §1.7, §12.5
 unfoldable pub programAnswer : List ℕ → List ℕ → CheckAnswer
 programAnswer netBytes sheetBytes = filesAnswer netRead sheetRead netBytes sheetBytes
 

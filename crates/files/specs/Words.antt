@@ -1,4 +1,4 @@
--- Document 01, "The calls", its last paragraph: a file as words.
+-- A file as words: §12.1, §12.3, §12.4.
 use Prim.Native.Nat.{ℕ, _+_, _*_, _/_, _%_}
 use mathlib.Core.Path.{_≡_}
 use mathlib.Core.List.{List, _++_}
@@ -16,7 +16,7 @@ netRead = 4 + 2 * ((2 * mostTransitions + 1) * mostPlaces)
 abbrev pub sheetRead : ℕ
 sheetRead = 3 + 2 * mostEntries
 
--- "words of four bytes, least significant first": the word that starts at a byte, missing bytes being 0
+-- §12.1: the word that starts at a byte, missing bytes being 0
 unfoldable pub wordFrom : List ℕ → ℕ → ℕ
 wordFrom bytes at = getD bytes at 0 + 256 * getD bytes (at + 1) 0 + 65536 * getD bytes (at + 2) 0 + 16777216 * getD bytes (at + 3) 0
 
@@ -26,15 +26,15 @@ wordAt bytes i = wordFrom bytes (4 * i)
 
 -- where at most so many words are handed on
 module _ (most : ℕ) (bytes : List ℕ) where
-  -- "a longer file": the words that are handed on lie whole in it
+  -- the words that are handed on lie whole in it
   unfoldable pub isLong : Bool
   isLong = leb (4 * most) (length bytes)
 
-  -- "a tail of one to three bytes"; of a longer file "no tail is looked for"
+  -- §12.4; a longer file has none that counts (§12.3)
   unfoldable pub isRagged : Bool
   isRagged = not isLong && not (eqb (length bytes % 4) 0)
 
-  -- "of a longer file the first .. words are handed on"
+  -- §12.3
   unfoldable pub wordCount : ℕ
   wordCount = cond isLong most (length bytes / 4)
 

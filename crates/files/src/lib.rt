@@ -9,7 +9,7 @@ use refusal::Position;
 use refusal::Refusal;
 use refusal::Verdict;
 
-// How many words of a file are handed on, and whether a tail of one to three bytes was found.
+// How many words of a file are handed on (§12.3), and whether a tail was found (§12.4).
 pub struct Reading {
     pub words: usize,
     pub ragged: bool,
@@ -47,7 +47,7 @@ fn wide(byte: u8) -> u32
     byte as u32
 }
 
-// The word that starts at a byte, the least significant first.
+// The word that starts at a byte: §12.1.
 pub fn word(bytes: &[u8], at: usize) -> u32
     ensures { λ r. ⌜ r ≡ wordFrom (now (bytes .entry)) at ⌝ }
 {
@@ -75,7 +75,7 @@ fn measure(bytes: &[u8], most: usize) -> Reading
     }
 }
 
-// Decodes a file into a buffer; of a longer file as many words as the buffer has.
+// Decodes a file into a buffer; of a longer file as many words as the buffer has (§12.3).
 pub fn decode(bytes: &[u8], out: &mut [u32]) -> Reading
     ensures { λ r. ⌜ FileRead (now (bytes .entry)) (now (out .entry)) r (now (out .exit)) ⌝ }
 {
@@ -89,7 +89,7 @@ pub fn decode(bytes: &[u8], out: &mut [u32]) -> Reading
     reading
 }
 
-// What is answered for the words of two files, either of which may have had a tail.
+// What is answered for the words of two files, either of which may have had a tail: §12.4.
 pub fn check_read(tails: Tails, net: &[u32], sheet: &[u32]) -> CheckAnswer
     ensures { λ r. ⌜ r ≡ readAnswer (tails .net) (tails .sheet) (now (net .entry)) (now (sheet .entry)) ⌝ }
 {
@@ -112,7 +112,7 @@ pub fn check_read(tails: Tails, net: &[u32], sheet: &[u32]) -> CheckAnswer
     judge::checked(net, sheet)
 }
 
-// What is answered for the bytes of two files, whose words are left in the buffers lent.
+// What is answered for the bytes of two files (§12.5), whose words are left in the buffers lent.
 pub fn check_files(
     netbin: &[u8],
     sheetbin: &[u8],

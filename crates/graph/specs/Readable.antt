@@ -10,7 +10,7 @@ use Rattle.refusal.specs.declared.Verdict.the-variants.{Accepted}
 use Rattle.sequential.specs.Petri.{petriNet}
 use Rattle.sequential.specs.Check.{wordsFault}
 
--- "then the net ..; then the sheet": its words
+-- the net before the words of the schedule: §7.54
 unfoldable pub wordsReply : List ℕ → List ℕ → Verdict
 wordsReply net sheet = andThen (netReply net) (verdictOf (wordsFault (petriNet net) sheet))
 

@@ -1,4 +1,4 @@
-// Refusals 6 to 9: the words of a schedule.
+// Refusals 6 to 9: the words of a schedule, in the order of §7.56.
 ghost use mathlib.Core.Path.{_≡_};
 ghost use mathlib.Core.Option.{none};
 ghost use Prim.Native.Nat.{_<_};
@@ -14,6 +14,7 @@ use refusal::Position;
 use refusal::Refusal;
 use refusal::Verdict;
 
+// §3.2
 fn sizes_pass(nodes: u32, entries: u32) -> bool
     ensures { λ r. ⌜ r ≡ sizesPass nodes entries ⌝ }
 {
@@ -43,7 +44,7 @@ pub(crate) fn shape_fault(sheet: &[u32]) -> Verdict
     Verdict::Accepted
 }
 
-// Whether the key of entry i is too large, or not above the one before.
+// Whether the key of entry i breaks §3.4.
 fn key_fails(sheet: &[u32], limit: u32, i: usize) -> bool
     requires { ⌜ shapeFault (now sheet) ≡ none ⌝ }
     requires { ⌜ i < entryCount (now sheet) ⌝ }
@@ -59,7 +60,7 @@ fn key_fails(sheet: &[u32], limit: u32, i: usize) -> bool
     key <= sheet[1 + i]
 }
 
-// Whether the value of entry i lies outside the range of its key.
+// Whether the value of entry i breaks §3.5 or §3.6.
 fn value_fails(sheet: &[u32], arcs: u32, i: usize) -> bool
     requires { ⌜ shapeFault (now sheet) ≡ none ⌝ }
     requires { ⌜ i < entryCount (now sheet) ⌝ }

@@ -1,4 +1,4 @@
--- Document 01, "The calls", the sheet check: "on acceptance the numbers of nodes, arcs and await nodes".
+-- What the schedule check answers: §10.3.
 use Prim.Native.Nat.{ℕ}
 use mathlib.Core.List.{List, [], _∷_}
 use Rattle.refusal.specs.Refusal.{told}
@@ -18,7 +18,7 @@ abbrev pub checkAnswer : Verdict → Counts → CheckAnswer
 checkAnswer Accepted numbers = Passed numbers
 checkAnswer (Refused r) numbers = Failed r
 
--- number, kind, position, nodes, arcs, await nodes; 0 where refused
+-- number, kind, position, nodes, arcs, await nodes (§8.1); the last three 0 where refused (§8.3)
 abbrev pub plainCheck : CheckAnswer → List ℕ
 plainCheck (Passed c) = 0 ∷ 0 ∷ 0 ∷ c .nodes ∷ c .arcs ∷ c .awaits ∷ []
 plainCheck (Failed r) = told r 3

@@ -1,4 +1,4 @@
-// Choice sets: each known by its least transition, in a table made once for a net.
+// Choice sets (§5.1): each known by its least transition, in a table made once for a net.
 ghost use mathlib.Core.Path.{_≡_};
 ghost use Prim.Native.Nat.{_≤_};
 ghost use Rattle.scan.specs.Scan.{all, least, tabulate};
@@ -8,7 +8,7 @@ ghost use Rattle.sequential.specs.Petri.{petriNet};
 ghost use Rattle.sequential.specs.Tests.{isSource, sameChoice};
 ghost use Rattle.judge.specs.Rows.{choiceOf, firstSource, present, presentAsChoice};
 
-// Whether t and u take the same weight from every place.
+// Whether t and u are in one choice set: §5.1.
 fn same_choice(net: &[u32], t: u32, u: u32) -> bool
     requires { ⌜ netReply (now net) ≡ Accepted ⌝ }
     ensures { λ r. ⌜ r ≡ sameChoice (petriNet (now (net .entry))) t u ⌝ }
@@ -54,7 +54,7 @@ pub(crate) fn choice_table(net: &[u32]) -> [u32; 32]
     table
 }
 
-// Whether t takes nothing.
+// Whether t is a source: §2.9.
 fn is_source(net: &[u32], t: u32) -> bool
     requires { ⌜ netReply (now net) ≡ Accepted ⌝ }
     ensures { λ r. ⌜ r ≡ isSource (petriNet (now (net .entry))) t ⌝ }
@@ -71,7 +71,7 @@ fn is_source(net: &[u32], t: u32) -> bool
     true
 }
 
-// The least source.
+// The least source, which stands for all of them (§5.2).
 pub(crate) fn first_source(net: &[u32]) -> u32
     requires { ⌜ netReply (now net) ≡ Accepted ⌝ }
     ensures { λ r. ⌜ r ≡ firstSource (petriNet (now (net .entry))) ⌝ }
@@ -102,7 +102,7 @@ pub(crate) fn first_present(arcs: [u32; 32], transitions: usize) -> usize
     transitions
 }
 
-// Whether a row has the arcs of the choice set that is known by c, and no others.
+// Whether a row has the arcs of the choice set that is known by c, and no others: §5.3.
 pub(crate) fn are_choice(arcs: [u32; 32], choices: [u32; 32], c: u32, transitions: usize) -> bool
     requires { ⌜ transitions ≤ 32 ⌝ }
     ensures { λ r. ⌜ r ≡ all (presentAsChoice arcs choices c) transitions ⌝ }

@@ -28,7 +28,7 @@ found-of o m e = rw e
 
 -- ---- what an automaton says
 
--- "Key n × T + t: from node n, firing t leads to the node that the value names"
+-- §3.5
 pub record ArcAt (N : PetriNet) (A : Automaton) (k v : ℕ) : Type 0 where
   pub node : ℕ
   pub transition : ℕ
@@ -37,7 +37,7 @@ pub record ArcAt (N : PetriNet) (A : Automaton) (k v : ℕ) : Type 0 where
   pub key : k ≡ node * N .transitions + transition
   pub arc : A .arc node transition ≡ some v
 
--- "Key V × T + n × P + p: at node n, place p holds the value"
+-- §3.6
 pub record CountAt (N : PetriNet) (A : Automaton) (k v : ℕ) : Type 0 where
   pub node : ℕ
   pub place : ℕ
@@ -94,7 +94,7 @@ module _ (N : PetriNet) (A : Automaton) where
   unfolding keys values
   keys-paired = length-append arcKeys countKeys ∙ omega (arith, arcs-paired, counts-paired) ∙ sym (length-append targets counts)
 
-  -- "Keys rise strictly and lie below V × (T + P)."
+  -- §3.4
   pub keys-between : Between (keys N A) 0 (A .nodes * N .transitions + A .nodes * N .places)
   unfolding keys
   keys-between =

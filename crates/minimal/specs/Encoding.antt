@@ -1,4 +1,4 @@
--- The words of a graph: V, K, then K rising keys, then K values; and which graphs have words.
+-- The words of a graph (§11.6), and which graphs have words. §14.1 works an example by hand.
 use Prim.Native.Nat.{ℕ, zero, suc, _+_, _*_, _≤_, _<_}
 use mathlib.Core.Path.{_≡_}
 use mathlib.Core.List.{List, [], _∷_, _++_}
@@ -30,32 +30,32 @@ gatherRows f columns (suc n) = gatherRows f columns n ++ gather (f n) columns
 -- ---- the words of an automaton whose nodes have arcs by N's transitions and counts of N's places
 
 module _ (N : PetriNet) (A : Automaton) where
-  -- "Key n × T + t: from node n, firing t leads to the node that the value names"; "An absent arc key is no arc"
+  -- §3.5, and none for no arc (§3.7)
   unfoldable pub keyOfArc : ℕ → ℕ → Option ℕ
   keyOfArc n t = when (found (A .arc n t)) (n * N .transitions + t)
 
   unfoldable pub held : ℕ → ℕ → ℕ
   held n p = getD (A .label n) p 0
 
-  -- "Key V × T + n × P + p: at node n, place p holds the value"; "an absent count is 0"
+  -- §3.6, and none for a count of 0 (§3.8)
   unfoldable pub keyOfCount : ℕ → ℕ → Option ℕ
   keyOfCount n p = when (ltb 0 (held n p)) (A .nodes * N .transitions + n * N .places + p)
 
   unfoldable pub valueOfCount : ℕ → ℕ → Option ℕ
   valueOfCount n p = when (ltb 0 (held n p)) (held n p)
 
-  -- "Keys rise strictly": the arcs node by node and by rising transition, then the counts node by node and by rising place
+  -- so that they rise (§3.4): the arcs node by node and by rising transition, then the counts node by node and by rising place
   unfoldable pub keys : List ℕ
   keys = gatherRows keyOfArc (N .transitions) (A .nodes) ++ gatherRows keyOfCount (N .places) (A .nodes)
 
   unfoldable pub values : List ℕ
   values = gatherRows (A .arc) (N .transitions) (A .nodes) ++ gatherRows valueOfCount (N .places) (A .nodes)
 
-  -- "A sheet is V, K, then K keys, then K values."
+  -- §3.1
   unfoldable pub encode : List ℕ
   encode = A .nodes ∷ length keys ∷ (keys ++ values)
 
--- ---- what a schedule's words can say
+-- ---- what a schedule's words can say: §3.2, §3.5, §3.6
 
 pub record Encodable (N : PetriNet) (A : Automaton) : Type 0 where
   pub transitions : A .transitions ≡ N .transitions

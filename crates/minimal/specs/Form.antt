@@ -1,4 +1,4 @@
--- The call that writes the minimal form: what it makes of its words, its postcondition, and its answer as plain numbers.
+-- The call that writes the minimal form (§10.9): what it makes of its words, its postcondition, and its answer as plain numbers.
 use Prim.Native.Nat.{ℕ}
 use mathlib.Core.List.{List, [], _∷_}
 use lib.ListN.{length}
@@ -25,7 +25,7 @@ FormWritten net sheet out r out′ = WordsDone (formCore net sheet) (out ∷ [])
 abbrev pub FormDone : List ℕ → List ℕ → List ℕ → List ℕ → FormAnswer → List ℕ → List ℕ → Type 0
 FormDone net sheet out scratch r out′ scratch′ = CallDone scratchLimit (formCore net sheet) (out ∷ []) scratch r (out′ ∷ []) scratch′
 
--- the number, the kind and the index of the position, and the length
+-- number, kind, position, the length (§8.1), which is 0 where refused (§8.3)
 abbrev pub plainForm : FormAnswer → List ℕ
 plainForm (Written n) = 0 ∷ 0 ∷ 0 ∷ n ∷ []
 plainForm (Refused r) = told r 1

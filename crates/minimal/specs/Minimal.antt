@@ -1,4 +1,4 @@
--- The minimal form of a schedule: the words of the minimal automaton of the graph that its words say; and what holds of it.
+-- The minimal form of a schedule: the words (§11.6) of the minimal automaton of the graph that its words say; and what holds of it.
 use Prim.Native.Nat.{ℕ, _≤_}
 use mathlib.Core.Path.{_≡_}
 use mathlib.Core.List.{List}
@@ -11,7 +11,7 @@ use Rattle.minimal.specs.Encoding.{encode}
 unfoldable pub minimalForm : List ℕ → List ℕ → List ℕ
 minimalForm net sheet = encode (petriNet net) (minimal (graph (petriNet net) sheet))
 
--- it says the quotient, numbered breadth first
+-- it says the quotient (§11.3), numbered breadth first (§11.5)
 pub record QuotientForm (N : PetriNet) (sheet form : List ℕ) : Type 0 where
   pub number : ℕ → ℕ
   pub quotient : Quotient (graph N sheet) (graph N form) number

@@ -1,4 +1,4 @@
-// Classes of equivalent nodes: nodes with equal counts, refined round by round by where their arcs lead, each class known by its
+// Classes of equivalent nodes (§11.3): nodes with equal counts, refined round by round by where their arcs lead, each class known by its
 // least node.
 ghost use mathlib.Core.Path.{_≡_};
 ghost use Prim.Native.Nat.{_+_, _*_, _≤_, _<_};

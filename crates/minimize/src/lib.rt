@@ -23,7 +23,7 @@ pub fn form_into(net: &[u32], sheet: &[u32], out: &mut [u32]) -> FormAnswer
     writer::write(net, sheet, reps, numbers, numbering.found, out)
 }
 
-// The minimal form.
+// The minimal form: §10.9.
 pub fn minimal_form(net: &[u32], sheet: &[u32], out: &mut [u32], scratch: &mut [u32]) -> FormAnswer
     ensures { λ r. ⌜ FormDone (now (net .entry)) (now (sheet .entry)) (now (out .entry)) (now (scratch .entry)) r (now (out .exit)) (now (scratch .exit)) ⌝ }
 {

@@ -1,6 +1,6 @@
 -- What the net's accessors answer on any words: the weight that bisection finds, and the row that one walk
 -- from there finds; 0 where 1 or 2 refuses the net.
--- On an accepted net these are document 01's weights (Demands, `AccessorsRight`).
+-- On an accepted net these are the weights of §2.5 to §2.8 (Demands, `AccessorsRight`): §10.2.
 use Prim.Native.Nat.{ℕ, zero, suc, _+_, _*_}
 use mathlib.Core.List.{List}
 use mathlib.Core.Bool.{Bool, cond, not, _&&_}

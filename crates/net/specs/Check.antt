@@ -16,9 +16,11 @@ use Rattle.refusal.specs.declared.Verdict.{Verdict}
 use Rattle.net.specs.Net.{placeCount, transitionCount, entryCount, entryWeight, keyLimit, hasSource}
 use Rattle.net.specs.Checks.{netChecks}
 
+-- §2.2
 unfoldable pub sizesPass : ℕ → ℕ → ℕ → Bool
 sizesPass p t k = leb 1 p && (leb p mostPlaces && (leb 1 t && (leb t mostTransitions && leb k ((2 * t + 1) * p))))
 
+-- §2.4
 unfoldable pub weightFails : ℕ → Bool
 weightFails w = eqb w 0 || ltb mostCount w
 
@@ -49,7 +51,7 @@ module _ (net : List ℕ) where
   unfoldable pub entriesFault : Option Refusal
   entriesFault = orElse shapeFault (first entryFault (entryCount net))
 
--- what the net check answers
+-- what the net check answers: §10.1
 unfoldable pub netReply : List ℕ → Verdict
 netReply net = verdictOf (finding (netChecks net) (netTests net))
 

@@ -9,6 +9,7 @@ use Rattle.refusal.specs.Checks.{_else_, Check, each, once, AllPass}
 use Rattle.refusal.specs.declared.Position.the-variants.{Entry}
 use Rattle.net.specs.Net.{placeCount, transitionCount, entryCount, entryWeight, keyLimit, taken}
 
+-- §2.2, with the limits of §1.3
 pub record SizesPass (net : List ℕ) : Type 0 where
   pub some-place : 1 ≤ placeCount net
   pub few-places : placeCount net ≤ mostPlaces
@@ -16,13 +17,16 @@ pub record SizesPass (net : List ℕ) : Type 0 where
   pub few-transitions : transitionCount net ≤ mostTransitions
   pub few-entries : entryCount net ≤ keyLimit net
 
+-- §2.4, with the limit of §1.5
 pub record WeightPasses (net : List ℕ) (i : ℕ) : Type 0 where
   pub some : 1 ≤ entryWeight net i
   pub most : entryWeight net i ≤ mostCount
 
+-- §2.9
 abbrev pub HasSource : List ℕ → Type 0
 HasSource net = (t : ℕ) × (t < transitionCount net) × ((p : ℕ) → p < placeCount net → taken net t p ≡ 0)
 
+-- in the order of §7.55; a number is that of its clause, §7.1 to §7.5, and positions are those of §7.53
 abbrev pub netChecks : List ℕ → List Check
 netChecks net =
     once (3 ≤ length net) 1
@@ -32,5 +36,6 @@ netChecks net =
     ∷ once (HasSource net) 5
     ∷ []
 
+-- the words are right: §2.1 to §2.4, §2.9
 abbrev pub IsNet : List ℕ → Type 0
 IsNet net = AllPass (netChecks net)

@@ -8,7 +8,7 @@ use Rattle.net.specs.Net.{taken, put, start}
 use Rattle.net.specs.Checks.{IsNet}
 use Rattle.net.specs.Accessors.{takenReply, putReply, startReply, takenRowReply, putRowReply, startRowReply}
 
--- on a net the accessors answer the weights that its words say
+-- on a net the accessors answer the weights that its words say: §10.2
 pub record AccessorsRight (net : List ℕ) : Type 0 where
   pub takes : (t p : ℕ) → takenReply net t p ≡ taken net t p
   pub puts : (t p : ℕ) → putReply net t p ≡ put net t p

@@ -1,4 +1,4 @@
--- Worked nets with the answers that document 01 asks for: the nets of its list, and the boundaries.
+-- Worked nets with their answers: the nets of §14.3, and the limits, met exactly and passed (§1.8, §14.6).
 use Prim.Native.Nat.{ℕ}
 use mathlib.Core.List.{List, [], _∷_}
 use Rattle.refusal.specs.Refusal.{refusal}
@@ -17,7 +17,7 @@ net answers answer = record { net = net; answer = answer }
 infix 3 _answers_
 abbrev pub table : List Example
 table =
-    -- the nets of document 01's list
+    -- the nets of §14.3
     (1 ∷ 1 ∷ 0 ∷ [] answers Accepted) ∷
     (1 ∷ 2 ∷ 2 ∷ 1 ∷ 2 ∷ 1 ∷ 1 ∷ [] answers Accepted) ∷
     (1 ∷ 3 ∷ 3 ∷ 1 ∷ 2 ∷ 3 ∷ 1 ∷ 1 ∷ 1 ∷ [] answers Accepted) ∷

@@ -1,4 +1,4 @@
--- Document 01, "The net as words", and what a source is.
+-- The net's words, §2.1 to §2.8, and what a source is, §2.9.
 use Prim.Native.Nat.{ℕ, _+_, _*_}
 use mathlib.Core.List.{List}
 use mathlib.Core.Bool.{Bool, cond, _&&_}
@@ -7,7 +7,7 @@ use lib.Dec.{ltb, eqb}
 use Rattle.scan.specs.Scan.{foundOr, all, any}
 use Rattle.table.specs.Table.{keyAt, valueAt, entryOf}
 
--- "A net is P, T, K, then K keys, then K weights." A word that is missing counts as 0.
+-- §2.1; a word that is missing counts as 0
 module _ (net : List ℕ) where
   unfoldable pub placeCount : ℕ
   placeCount = getD net 0 0
@@ -24,15 +24,15 @@ module _ (net : List ℕ) where
   unfoldable pub entryWeight : ℕ → ℕ
   entryWeight i = valueAt net 3 entryCount i
 
-  -- "K at most (2 × T + 1) × P", "Keys .. lie below (2 × T + 1) × P"
+  -- the bound of K (§2.2) and of the keys (§2.3)
   unfoldable pub keyLimit : ℕ
   keyLimit = (2 * transitionCount + 1) * placeCount
 
-  -- the weight of a key, 0 where it is absent: §2.5
+  -- the weight of a key, 0 where it is absent: §2.8
   unfoldable pub weightAt : ℕ → ℕ
   weightAt key = foundOr 0 entryWeight (entryOf net 3 entryCount key)
 
-  -- T rows of P keys for what transitions take, T rows for what they put, one for what places start with; 0 for what is no transition or no place
+  -- T rows of P keys for what transitions take (§2.5), T rows for what they put (§2.6), one for what places start with (§2.7); 0 for what is no transition or place
   unfoldable pub taken : ℕ → ℕ → ℕ
   taken t p = cond (ltb t transitionCount && ltb p placeCount) (weightAt (t * placeCount + p)) 0
 
@@ -42,7 +42,7 @@ module _ (net : List ℕ) where
   unfoldable pub start : ℕ → ℕ
   start p = cond (ltb p placeCount) (weightAt (2 * transitionCount * placeCount + p)) 0
 
-  -- "A source transition takes nothing."
+  -- §2.9
   unfoldable pub takesNothing : ℕ → ℕ → Bool
   takesNothing t p = eqb (taken t p) 0
 

@@ -1,4 +1,4 @@
--- Checks in an order, as statements: all pass, or one is the first to fail.
+-- Checks in an order, as statements: all pass, or one is the first to fail (§7.54).
 use Prim.Native.Nat.{ℕ, _<_}
 use mathlib.Core.Path.{_≡_}
 use mathlib.Core.Logic.{_⊎_}
@@ -32,7 +32,7 @@ abbrev pub FailAt : (ℕ → Position) → List Clause → ℕ → Refusal → T
 FailAt at [] i r = ⊥
 FailAt at (c ∷ cs) i r = ((c .holds i → ⊥) × (r ≡ refusal (c .number) (at i))) ⊎ (c .holds i × FailAt at cs i r)
 
--- clauses fail at an index, and at none below
+-- clauses fail at an index, and at none below: §7.59
 pub record FailFirst (size : ℕ) (at : ℕ → Position) (clauses : List Clause) (r : Refusal) : Type 0 where
   pub index : ℕ
   pub within : index < size
@@ -53,7 +53,7 @@ abbrev pub AllPass : List Check → Type 0
 AllPass [] = Unit
 AllPass (c ∷ cs) = Passes c × AllPass cs
 
--- those before it pass
+-- those before it pass: §7.54
 abbrev pub FirstFails : List Check → Refusal → Type 0
 FirstFails [] r = ⊥
 FirstFails (c ∷ cs) r = Fails c r ⊎ (Passes c × FirstFails cs r)

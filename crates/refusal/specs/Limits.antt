@@ -1,4 +1,4 @@
--- The limits, each named once: how many places, transitions, nodes and entries there may be, how large a weight or a count, and the scratch that a call asks for.
+-- The limits, each named once: how many places, transitions, nodes and entries there may be, how large a weight or a count, and the scratch that a call asks for: §1.3 to §1.6.
 use Prim.Native.Nat.{ℕ}
 
 abbrev pub mostPlaces : ℕ

@@ -1,4 +1,4 @@
--- A refusal: its number, and what its position counts; what a check answers; and both as plain numbers.
+-- A refusal (§7.51): its number, and what its position counts; what a check answers; and both as plain numbers.
 use Prim.Native.Nat.{ℕ}
 use mathlib.Core.List.{List, [], _∷_, _++_}
 use lib.ListN.{getD, replicate}
@@ -11,9 +11,9 @@ use Rattle.refusal.specs.declared.Verdict.the-variants.{Accepted, Refuse
 abbrev pub refusal : ℕ → Position → Refusal
 refusal number position = record { number = number; at = position }
 
--- ---- plain numbers
+-- ---- plain numbers: §8.1, case by case (§13.9)
 
--- the kind of a position, and its index
+-- the kind of a position (§8.2), and its index, 0 where nothing is counted (§7.52)
 abbrev pub positionTold : Position → List ℕ
 positionTold Nothing = 0 ∷ 0 ∷ []
 positionTold (Entry i) = 1 ∷ i ∷ []
@@ -21,7 +21,7 @@ positionTold (Place i) = 2 ∷ i ∷ []
 positionTold (Node i) = 3 ∷ i ∷ []
 positionTold (Record i) = 4 ∷ i ∷ []
 
--- a refusal, of a call that has so many numbers of its own
+-- a refusal, of a call that has so many numbers of its own, which are 0: §8.3
 abbrev pub told : Refusal → ℕ → List ℕ
 told r own = r .number ∷ (positionTold (r .at) ++ replicate own 0)
 

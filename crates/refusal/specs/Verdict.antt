@@ -8,7 +8,7 @@ abbrev pub verdictOf : Option Refusal → Verdict
 verdictOf none = Accepted
 verdictOf (some r) = Refused r
 
--- what comes after is asked where nothing was refused before
+-- what comes after is asked where nothing was refused before: §7.54
 abbrev pub andThen : Verdict → Verdict → Verdict
 andThen Accepted v = v
 andThen (Refused r) v = Refused r

@@ -1,8 +1,8 @@
-// Refusals: by number, at a position; what a check answers; and both as plain numbers.
+// Refusals (§7.51): by number, at a position; what a check answers; and both as plain numbers.
 ghost use mathlib.Core.Path.{_≡_};
 ghost use Rattle.refusal.specs.Refusal.{refusal, numberOf, positionOf, kindOf, indexOf};
 
-// What a refusal's position counts, from 0.
+// What a refusal's position counts, from 0: §7.52, and §7.53 for which number counts what.
 pub enum Position {
     Nothing,
     Entry(usize),
@@ -12,7 +12,7 @@ pub enum Position {
 }
 
 impl Position {
-    // The kind as a plain number.
+    // The kind as a plain number: §8.2.
     pub fn kind(self) -> u32
         ensures { λ r. ⌜ r ≡ kindOf self ⌝ }
     {
@@ -25,7 +25,7 @@ impl Position {
         }
     }
 
-    // The index as a plain number, 0 where the position counts nothing.
+    // The index as a plain number, 0 where the position counts nothing: §7.52.
     pub fn index(self) -> usize
         ensures { λ r. ⌜ r ≡ indexOf self ⌝ }
     {
@@ -43,69 +43,70 @@ impl Position {
 pub struct Limits {}
 
 impl Limits {
-    pub const PLACES: u32 = 32;
+    pub const PLACES: u32 = 32; // §1.3
 
-    pub const TRANSITIONS: u32 = 32;
+    pub const TRANSITIONS: u32 = 32; // §1.3
 
-    pub const NODES: u32 = 128;
+    pub const NODES: u32 = 128; // §1.4
 
-    pub const ENTRIES: u32 = 4096;
+    pub const ENTRIES: u32 = 4096; // §1.4
 
-    pub const COUNT: u32 = 1000000000;
+    pub const COUNT: u32 = 1000000000; // §1.5
 
-    pub const SCRATCH: usize = 8192;
+    pub const SCRATCH: usize = 8192; // §1.6
 }
 
+// It holds an enum of kinds, each with its index: §13.8.
 pub struct Refusal {
     pub number: u32,
     pub at: Position,
 }
 
-// The refusals by number, each with document 01's word for it.
+// The refusals by number, each with its clause and the trade's word for it.
 impl Refusal {
-    pub const NET_LENGTH: u32 = 1; // ragged net
+    pub const NET_LENGTH: u32 = 1; // §7.1, ragged net
 
-    pub const NET_SIZE: u32 = 2; // net size
+    pub const NET_SIZE: u32 = 2; // §7.2, net size
 
-    pub const NET_ORDER: u32 = 3; // net order
+    pub const NET_ORDER: u32 = 3; // §7.3, net order
 
-    pub const NET_WEIGHT: u32 = 4; // net weight
+    pub const NET_WEIGHT: u32 = 4; // §7.4, net weight
 
-    pub const NO_SOURCE: u32 = 5; // no source
+    pub const NO_SOURCE: u32 = 5; // §7.5, no source
 
-    pub const SCHEDULE_LENGTH: u32 = 6; // ragged sheet
+    pub const SCHEDULE_LENGTH: u32 = 6; // §7.6, ragged sheet
 
-    pub const SCHEDULE_SIZE: u32 = 7; // sheet size
+    pub const SCHEDULE_SIZE: u32 = 7; // §7.7, sheet size
 
-    pub const SCHEDULE_ORDER: u32 = 8; // sheet order
+    pub const SCHEDULE_ORDER: u32 = 8; // §7.8, sheet order
 
-    pub const SCHEDULE_VALUE: u32 = 9; // sheet value
+    pub const SCHEDULE_VALUE: u32 = 9; // §7.9, sheet value
 
-    pub const WRONG_START: u32 = 10; // wrong start
+    pub const WRONG_START: u32 = 10; // §7.10, wrong start
 
-    pub const NO_ARC: u32 = 11; // dead end
+    pub const NO_ARC: u32 = 11; // §7.11, dead end
 
-    pub const NOT_ONE_CHOICE_SET: u32 = 12; // torn choice
+    pub const NOT_ONE_CHOICE_SET: u32 = 12; // §7.12, torn choice
 
-    pub const ROOT_NOT_AWAIT: u32 = 13; // busy root
+    pub const ROOT_NOT_AWAIT: u32 = 13; // §7.13, busy root
 
-    pub const NOT_ENABLED: u32 = 14; // starved arc
+    pub const NOT_ENABLED: u32 = 14; // §7.14, starved arc
 
-    pub const WRONG_TARGET: u32 = 15; // wrong landing
+    pub const WRONG_TARGET: u32 = 15; // §7.15, wrong landing
 
-    pub const NOT_REACHED: u32 = 16; // stray node
+    pub const NOT_REACHED: u32 = 16; // §7.16, stray node
 
-    pub const NO_PATH_TO_AWAIT: u32 = 17; // no way home
+    pub const NO_PATH_TO_AWAIT: u32 = 17; // §7.17, no way home
 
-    pub const NO_SUCH_NODE: u32 = 18; // no such node
+    pub const NO_SUCH_NODE: u32 = 18; // §7.18, no such node
 
-    pub const WRONG_COUNTS: u32 = 19; // walker astray
+    pub const WRONG_COUNTS: u32 = 19; // §7.19, walker astray
 
-    pub const NOT_OFFERED: u32 = 20; // not offered
+    pub const NOT_OFFERED: u32 = 20; // §7.20, not offered
 
-    pub const SMALL_SCRATCH: u32 = 21; // small scratch
+    pub const SMALL_SCRATCH: u32 = 21; // §7.21, small scratch
 
-    pub const SMALL_OUTPUT: u32 = 22; // small out
+    pub const SMALL_OUTPUT: u32 = 22; // §7.22, small out
 }
 
 // What a check answers that has no numbers of its own.
@@ -115,7 +116,7 @@ pub enum Verdict {
 }
 
 impl Verdict {
-    // The refusal's number, or 0.
+    // The refusal's number, or 0: §7.51.
     pub fn number(self) -> u32
         ensures { λ r. ⌜ r ≡ numberOf self ⌝ }
     {
@@ -125,7 +126,7 @@ impl Verdict {
         }
     }
 
-    // The refusal's position, or that of nothing.
+    // The refusal's position, or that of nothing: §7.51.
     pub fn at(self) -> Position
         ensures { λ r. ⌜ r ≡ positionOf self ⌝ }
     {

@@ -20,7 +20,7 @@ use Rattle.schedule.specs.declared.Walker.{Walker}
 use Rattle.schedule.specs.declared.RunAnswer.{RunAnswer}
 use Rattle.schedule.specs.declared.RunAnswer.the-variants.{Done, Stopped}
 
--- ---- the schedule check
+-- ---- the schedule check: §10.3
 
 abbrev pub checkCore : List ℕ → List ℕ → Core CheckAnswer
 checkCore net sheet = record { verdict = scheduleReply net sheet; accepted = Passed (countsOf net sheet); refused = Failed; results = [] }
@@ -28,7 +28,7 @@ checkCore net sheet = record { verdict = scheduleReply net sheet; accepted = Pas
 abbrev pub CheckDone : List ℕ → List ℕ → List ℕ → CheckAnswer → List ℕ → Type 0
 CheckDone net sheet scratch r scratch′ = CallDone scratchLimit (checkCore net sheet) [] scratch r [] scratch′
 
--- ---- place bounds
+-- ---- place bounds: §10.4
 
 abbrev pub boundsCore : List ℕ → List ℕ → Core Verdict
 boundsCore net sheet = record { verdict = scheduleReply net sheet; accepted = Accepted; refused = Refused; results = bounds (petriNet net) sheet ∷ [] }
@@ -40,13 +40,13 @@ BoundsWritten net sheet out r out′ = WordsDone (boundsCore net sheet) (out ∷
 abbrev pub BoundsDone : List ℕ → List ℕ → List ℕ → List ℕ → Verdict → List ℕ → List ℕ → Type 0
 BoundsDone net sheet out scratch r out′ scratch′ = CallDone scratchLimit (boundsCore net sheet) (out ∷ []) scratch r (out′ ∷ []) scratch′
 
--- ---- making a walker
+-- ---- making a walker: §10.6, without scratch (§9.1)
 
 pub record FreshDone (net : List ℕ) (r : Verdict) (w : Walker) : Type 0 where
   pub reply : r ≡ netReply net
   pub made : w ≡ freshWalker r net
 
--- ---- a single firing: a refused one hands back the walker that it was given
+-- ---- a single firing: §10.7
 
 abbrev pub fireCore : List ℕ → List ℕ → Walker → ℕ → Core (Verdict × Walker)
 fireCore net sheet w t = record {
@@ -63,7 +63,7 @@ StepDone net sheet w t r next = WordsDone (fireCore net sheet w t) [] (r, next) 
 abbrev pub FireDone : List ℕ → List ℕ → List ℕ → Walker → ℕ → Verdict → Walker → List ℕ → Type 0
 FireDone net sheet scratch w t r next scratch′ = CallDone scratchLimit (fireCore net sheet w t) [] scratch (r, next) [] scratch′
 
--- ---- a run
+-- ---- a run: §10.8
 
 abbrev pub runCore : List ℕ → List ℕ → List ℕ → Core RunAnswer
 runCore net sheet firings = record {

@@ -20,38 +20,38 @@ use Rattle.sequential.specs.Words.{nodeCount, arc, count}
 use Rattle.schedule.specs.Walker.{walker, standChecks, walkerChecks}
 use Rattle.schedule.specs.declared.Walker.{Walker}
 
--- ---- a fresh walker
+-- ---- a fresh walker: §10.6
 
 abbrev pub freshWalker : Verdict → List ℕ → Walker
 freshWalker Accepted net = walker 0 (tabulate (petriNet net .start) mostPlaces)
 freshWalker (Refused r) net = walker 0 (replicate mostPlaces 0)
 
--- ---- a single firing
+-- ---- a single firing: §10.7
 
 module _ (N : PetriNet) (sheet : List ℕ) (w : Walker) where
   abbrev pub standTests : List Tests
   standTests = asked (leb (nodeCount sheet) (w .node)) ∷ ((λ p. not (eqb (getD (w .counts) p 0) (count N sheet (w .node) p))) ∷ []) ∷ []
 
-  -- 19 at one place
+  -- §7.19 at one place
   unfoldable pub countFault : ℕ → Option Refusal
   countFault p = lineFinds (standChecks N sheet w) standTests 1 p
 
-  -- 18 and 19
+  -- §7.18 and §7.19
   unfoldable pub walkerFault : Option Refusal
   walkerFault = finding (standChecks N sheet w) standTests
 
   abbrev pub walkerTests : ℕ → List Tests
   walkerTests t = standTests ++ (asked (not (found (arc N sheet (w .node) t))) ∷ [])
 
-  -- 18 to 20
+  -- §7.18 to §7.20, in the order of §7.58
   unfoldable pub stepFault : ℕ → Option Refusal
   stepFault t = finding (walkerChecks N sheet w t) (walkerTests t)
 
-  -- the arc's target, with the counts that firing gives
+  -- the arc's target, with the counts that firing gives: §4.3
   unfoldable pub follows : ℕ → Walker
   follows t = walker (foundOr (w .node) (λ m. m) (arc N sheet (w .node) t)) (tabulate (firedCount N (w .counts) t) mostPlaces)
 
--- ---- a run
+-- ---- a run: §10.8
 
 module _ (N : PetriNet) (sheet firings : List ℕ) where
   -- the node after so many firings; it stays where there is no arc
@@ -59,7 +59,7 @@ module _ (N : PetriNet) (sheet firings : List ℕ) where
   nodeAfter zero = 0
   nodeAfter (suc i) = foundOr (nodeAfter i) (λ m. m) (arc N sheet (nodeAfter i) (getD firings i 0))
 
-  -- 20 at one index: there is no arc at the node that the firings before it lead to
+  -- §7.20 at one index, at the node that the firings before it lead to (§7.58)
   unfoldable pub firingFault : ℕ → Option Refusal
   firingFault i = when (not (found (arc N sheet (nodeAfter i) (getD firings i 0)))) (refusal 20 (Record i))
 

@@ -16,23 +16,24 @@ use Rattle.schedule.specs.declared.Walker.{Walker}
 abbrev pub walker : ℕ → List ℕ → Walker
 walker n counts = record { node = n; counts = counts }
 
--- at a node, with as many counts as there can be places, those from P on being 0
+-- at a node, with as many counts as there can be places, those from P on being 0: §10.5
 pub record Stands (N : PetriNet) (w : Walker) (n : ℕ) (held : ℕ → ℕ) : Type 0 where
   pub node : w .node ≡ n
   pub counts : length (w .counts) ≡ mostPlaces
   pub holds : (p : ℕ) → p < N .places → getD (w .counts) p 0 ≡ held p
   pub zeros : (p : ℕ) → N .places ≤ p → p < mostPlaces → getD (w .counts) p 0 ≡ 0
 
--- what a node holds is 0 at places from P on
+-- §7.18, §7.19; what a node holds is 0 at places from P on
 abbrev pub standChecks : PetriNet → List ℕ → Walker → List Check
 standChecks N sheet w =
     once (w .node < nodeCount sheet) 18
     ∷ each mostPlaces Place ((λ p. getD (w .counts) p 0 ≡ count N sheet (w .node) p) else 19 ∷ [])
     ∷ []
 
+-- §7.18 to §7.20, in the order of §7.58; 20 counts nothing here (§7.53)
 abbrev pub walkerChecks : PetriNet → List ℕ → Walker → ℕ → List Check
 walkerChecks N sheet w t = standChecks N sheet w ++ (once (Offers N (graph N sheet) (w .node) t) 20 ∷ [])
 
--- each firing of a record, after those before it
+-- §7.20 at each firing of a record, after those before it (§7.58)
 abbrev pub runChecks : PetriNet → List ℕ → List ℕ → List Check
 runChecks N sheet firings = each (length firings) Record ((λ i. allows (graph N sheet) 0 (take (suc i) firings) ≡ true) else 20 ∷ []) ∷ []

@@ -26,7 +26,7 @@ fn arc_entry(net: &[u32], sheet: &[u32], n: u32, t: u32) -> Found
     ensures { λ r. ⌜ r ≡ foundOf (arcEntry (petriNet (now (net .entry))) (now (sheet .entry)) n t) ⌝ }
 {
     let transitions = net::transitions(net);
-    // n × T + t would be another node's key
+    // n × T + t would be another node's key: §3.7
     if transitions <= t {
         return Found::Nothing;
     }
@@ -64,7 +64,7 @@ fn walker_fault(walker: Walker, net: &[u32], sheet: &[u32]) -> Verdict
     Verdict::Accepted
 }
 
-// A single firing: refusals 18 to 20, or the walker that follows. The target's counts are what firing gives.
+// A single firing: refusals 18 to 20 (§7.58), or the walker that follows. The target's counts are what firing gives (§6.6).
 pub(crate) fn step(walker: Walker, net: &[u32], sheet: &[u32], t: u32) -> Fired
     requires { ⌜ scheduleReply (now net) (now sheet) ≡ Accepted ⌝ }
     ensures { λ r. ⌜ StepDone (now (net .entry)) (now (sheet .entry)) walker t (r .verdict) (r .next) ⌝ }
@@ -93,7 +93,7 @@ pub(crate) fn step(walker: Walker, net: &[u32], sheet: &[u32], t: u32) -> Fired
     }
 }
 
-// Where a list of transitions leads from node 0, or the first that is not offered.
+// Where a list of transitions leads from node 0, or the first that is not offered: §7.58.
 pub(crate) struct Followed {
     pub verdict: Verdict,
     pub node: u32,

@@ -1,4 +1,4 @@
--- The published definition and the clauses: a schedule is one in the published sense, and one of those whose states are all reached is a schedule.
+-- The published definition and §6.1: a schedule is one in the published sense (§6.12), and one of those whose states are all reached is a schedule.
 use Prim.Native.Nat.{ℕ, _<_}
 use mathlib.Core.Path.{_≡_}
 use mathlib.Core.Logic.{_↔_}

@@ -1,4 +1,4 @@
--- Document 01, "Place bounds": "for each place the greatest count over all nodes".
+-- Place bounds: §10.4.
 use Prim.Native.Nat.{ℕ}
 use mathlib.Core.List.{List}
 use Rattle.scan.specs.Scan.{greatest, tabulate}

@@ -24,6 +24,7 @@ use Rattle.sequential.specs.Checks.{ValuePasses, shapeChecks, wordChecks
 
 -- ---- the words
 
+-- §3.2, with the limits of §1.4
 unfoldable pub sizesPass : ℕ → ℕ → Bool
 sizesPass v k = leb 1 v && (leb v mostNodes && leb k mostEntries)
 
@@ -34,12 +35,15 @@ shapeTests sheet =
     ∷ asked (not (eqb (length sheet) (2 + 2 * entryCount sheet)))
     ∷ []
 
+-- §3.5
 unfoldable pub targetFails : ℕ → ℕ → Bool
 targetFails nodes value = leb nodes value
 
+-- §3.6, with the limit of §1.5
 unfoldable pub countFails : ℕ → Bool
 countFails value = eqb value 0 || ltb mostCount value
 
+-- 0 is right for an arc alone: §3.8
 unfoldable pub valueFails : List ℕ → ℕ → ℕ → Bool
 valueFails sheet arcs i = cond (ltb (entryKey sheet i) arcs) (targetFails (nodeCount sheet) (entryValue sheet i)) (countFails (entryValue sheet i))
 
@@ -58,29 +62,31 @@ module _ (N : PetriNet) (sheet : List ℕ) where
   abbrev pub wordTests : List Tests
   wordTests = shapeTests sheet ++ (entryTests sheet (arcKeys N sheet) (keyLimit N sheet) ∷ [])
 
-  -- 6 to 9
+  -- 6 to 9, in the order of §7.56
   unfoldable pub wordsFault : Option Refusal
   wordsFault = finding (wordChecks N sheet) wordTests
 
   -- ---- the graph
 
+  -- §6.5
   unfoldable pub arcEnabled : ℕ → Bool
   arcEnabled i = enabled N (marking N sheet (arcNode N sheet i)) (arcTransition N sheet i)
 
-  -- the target holds what firing gives
+  -- the target holds what firing gives: §6.6
   unfoldable pub landsAt : ℕ → ℕ → Bool
   landsAt i p = eqb (countAt N sheet (entryValue sheet i) p) (firedCount N (marking N sheet (arcNode N sheet i)) (arcTransition N sheet i) p)
 
   unfoldable pub arcLands : ℕ → Bool
   arcLands i = all (landsAt i) (N .places)
 
+  -- §7.10 to §7.17, in the order of §7.57
   abbrev pub graphTests : List Tests
   graphTests =
       ((λ p. not (eqb (countAt N sheet 0 p) (N .start p))) ∷ [])
       ∷ ((λ n. not (offersSome N (graph N sheet) n)) ∷ (λ n. not (offersOneChoiceSet N (graph N sheet) n)) ∷ [])
       ∷ ((λ n. not (isAwait N (graph N sheet) n)) ∷ [])
       ∷ ((λ i. isArc N sheet i && not (arcEnabled i)) ∷ (λ i. isArc N sheet i && not (arcLands i)) ∷ [])
-      -- at most V - 1 arcs lead to a node that is reached, or from a node to an await node
+      -- V - 1 arcs are enough for both: §6.9
       ∷ ((λ n. not (reachedIn (graph N sheet) (nodeCount sheet - 1) n)) ∷ [])
       ∷ ((λ n. not (leadsIn (graph N sheet) (isAwait N (graph N sheet)) (nodeCount sheet - 1) n)) ∷ [])
       ∷ []
@@ -112,7 +118,7 @@ module _ (N : PetriNet) (sheet : List ℕ) where
   unfoldable pub scheduleFault : Option Refusal
   scheduleFault = orElse wordsFault graphFault
 
-  -- ---- the numbers of an accepted schedule
+  -- ---- the numbers of an accepted schedule: §10.3
 
   unfoldable pub arcCount : ℕ
   arcCount = count (isArc N sheet) (entryCount sheet)
@@ -120,6 +126,6 @@ module _ (N : PetriNet) (sheet : List ℕ) where
   unfoldable pub awaitCount : ℕ
   awaitCount = count (isAwait N (graph N sheet)) (nodeCount sheet)
 
--- 1 to 17: the net, and then the schedule
+-- 1 to 17: the net, and then the schedule (§7.54)
 unfoldable pub scheduleReply : List ℕ → List ℕ → Verdict
 scheduleReply net sheet = andThen (netReply net) (verdictOf (scheduleFault (petriNet net) sheet))

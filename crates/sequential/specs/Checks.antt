@@ -14,15 +14,17 @@ use Rattle.sequential.specs.Schedule.{Offers, Await, OneChoiceSet, ToAwa
 
 -- ---- the words
 
+-- §3.2, with the limits of §1.4
 abbrev pub SizesPass : List ℕ → Type 0
 SizesPass sheet = (1 ≤ nodeCount sheet) × (nodeCount sheet ≤ mostNodes) × (entryCount sheet ≤ mostEntries)
 
--- an arc's value is a node, a count's 1 to 1,000,000,000; keys below `arcs` are those of arcs
+-- §3.5 for an arc, §3.6 for a count, with the limit of §1.5; keys below `arcs` are those of arcs
 pub record ValuePasses (sheet : List ℕ) (arcs i : ℕ) : Type 0 where
   pub target : entryKey sheet i < arcs → entryValue sheet i < nodeCount sheet
   pub some : arcs ≤ entryKey sheet i → 1 ≤ entryValue sheet i
   pub most : arcs ≤ entryKey sheet i → entryValue sheet i ≤ mostCount
 
+-- §7.6 and §7.7
 abbrev pub shapeChecks : List ℕ → List Check
 shapeChecks sheet =
     once (2 ≤ length sheet) 6
@@ -31,21 +33,24 @@ shapeChecks sheet =
     ∷ []
 
 module _ (N : PetriNet) (sheet : List ℕ) where
+  -- then §7.8 and §7.9 at each entry, in the order of §7.56; positions are those of §7.53
   abbrev pub wordChecks : List Check
   wordChecks = shapeChecks sheet ++ (each (entryCount sheet) Entry (KeyPasses sheet 2 (keyLimit N sheet) else 8 ∷ ValuePasses sheet (arcKeys N sheet) else 9 ∷ []) ∷ [])
 
+  -- the words are right: §3.1 to §3.6
   abbrev pub WordsPass : Type 0
   WordsPass = AllPass wordChecks
 
   -- ---- the graph
 
-  -- the arc of an entry is enabled at its node, and lands on a node with the resulting counts
+  -- §6.5 and §6.6 of the arc of an entry
   abbrev pub ArcEnabled : ℕ → Type 0
   ArcEnabled i = entryKey sheet i < arcKeys N sheet → Enabled N (marking N sheet (arcNode N sheet i)) (arcTransition N sheet i)
 
   abbrev pub ArcLands : ℕ → Type 0
   ArcLands i = entryKey sheet i < arcKeys N sheet → marking N sheet (entryValue sheet i) ≡ fire N (marking N sheet (arcNode N sheet i)) (arcTransition N sheet i)
 
+  -- §7.10 to §7.17, in the order of §7.57: each line has the number of its clause. The first is §6.2
   abbrev pub graphChecks : List Check
   graphChecks =
       each (N .places) Place ((λ p. count N sheet 0 p ≡ N .start p) else 10 ∷ [])
@@ -56,5 +61,6 @@ module _ (N : PetriNet) (sheet : List ℕ) where
       ∷ each (nodeCount sheet) Node (ToAwait N (graph N sheet) else 17 ∷ [])
       ∷ []
 
+  -- the words before the graph: §7.54
   abbrev pub sheetChecks : List Check
   sheetChecks = wordChecks ++ graphChecks

@@ -1,4 +1,4 @@
--- The published definition of a sequential schedule: source document 001, Definition 5, property by property.
+-- The published definition of a sequential schedule (source document 001, Definition 5), property by property: §6.12.
 use Prim.Native.Nat.{ℕ, _<_}
 use mathlib.Core.Path.{_≡_}
 use mathlib.Core.Logic.{_↔_}

@@ -11,19 +11,19 @@ use Rattle.automaton.specs.Reach.{Reachable}
 use Rattle.sequential.specs.Petri.{PetriNet, initial, fireAll, FiresEnabled, SameChoice}
 use Rattle.sequential.specs.Schedule.{Offers, Await, ToAwait}
 
--- place p holds at most b after every allowed list, and b after some allowed list: no lower number would do
+-- place p holds at most b after every allowed list, and b after some allowed list: no lower number would do: §13.3
 pub record LeastBound (N : PetriNet) (A : Automaton) (p b : ℕ) : Type 0 where
   pub kept : (σ : List ℕ) → allows A 0 σ ≡ true → getD (fireAll N (initial N) σ) p 0 ≤ b
   pub attained : (σ : List ℕ) × (allows A 0 σ ≡ true) × (getD (fireAll N (initial N) σ) p 0 ≡ b)
 
--- a list from the root fires from the initial marking, and gives the counts of the node where it ends
+-- a list from the root fires from the initial marking, and gives the counts of the node where it ends: §13.3
 pub record Runs (N : PetriNet) (A : Automaton) (σ : List ℕ) : Type 0 where
   pub end : ℕ
   pub leads : follow A 0 σ ≡ some end
   pub enabled : FiresEnabled N (initial N) σ
   pub holds : fireAll N (initial N) σ ≡ A .label end
 
--- a list goes on by the members of the choice set that is offered where it ends, and by nothing else
+-- a list goes on by the members of the choice set that is offered where it ends, and by nothing else: §13.3
 pub record GoesOn (N : PetriNet) (A : Automaton) (σ : List ℕ) : Type 0 where
   pub end : ℕ
   pub leads : follow A 0 σ ≡ some end
@@ -32,7 +32,7 @@ pub record GoesOn (N : PetriNet) (A : Automaton) (σ : List ℕ) : Type 0 where
   pub extended : (t : ℕ) → (allows A 0 (σ ++ (t ∷ [])) ≡ true) ↔ ((t < N .transitions) × SameChoice N member t)
   pub goes : allows A 0 (σ ++ (member ∷ [])) ≡ true
 
--- where any list leads to a node, or from it to an await node, one of fewer firings than there are nodes does
+-- where any list leads to a node, or from it to an await node, one of fewer firings than there are nodes does: §6.9
 pub record ShortWhereAny (N : PetriNet) (A : Automaton) (n : ℕ) : Type 0 where
   pub reached : Reachable A n → (σ : List ℕ) × (length σ ≤ A .nodes - 1) × (follow A 0 σ ≡ some n)
   pub returns : ToAwait N A n → (σ : List ℕ) × (m : ℕ) × (length σ ≤ A .nodes - 1) × (follow A n σ ≡ some m) × Await N A m

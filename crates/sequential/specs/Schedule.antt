@@ -9,21 +9,23 @@ use Rattle.automaton.specs.Reach.{Reachable}
 use Rattle.sequential.specs.Petri.{PetriNet, initial, fire, Enabled, Source, SameChoice}
 
 module _ (N : PetriNet) (A : Automaton) where
+  -- §3.7
   abbrev pub Offers : ℕ → ℕ → Type 0
   Offers n t = (m : ℕ) × (A .arc n t ≡ some m)
 
-  -- a node offers exactly the sources
+  -- §5.4
   abbrev pub Await : ℕ → Type 0
   Await n = (t : ℕ) → t < N .transitions → Offers n t ↔ Source N t
 
-  -- a node offers exactly one whole choice set
+  -- §5.3
   abbrev pub OneChoiceSet : ℕ → Type 0
   OneChoiceSet n = (t : ℕ) × (t < N .transitions) × ((u : ℕ) → u < N .transitions → Offers n u ↔ SameChoice N t u)
 
-  -- a path to an await node, of any length
+  -- some path to an await node, of any length: not every one (§6.10), and none to the root (§6.11)
   abbrev pub ToAwait : ℕ → Type 0
   ToAwait n = (σ : List ℕ) × (m : ℕ) × (follow A n σ ≡ some m) × Await m
 
+  -- §6.1; the fields are §6.2 to §6.8, in their order
   pub record IsSchedule : Type 0 where
     pub starts : A .label 0 ≡ initial N
     pub choices : (n : ℕ) → n < A .nodes → OneChoiceSet n

@@ -10,31 +10,37 @@ use Rattle.automaton.specs.Automaton.{Automaton}
 use Rattle.sequential.specs.Petri.{PetriNet}
 
 module _ (N : PetriNet) where
+  -- what is put does not help: §4.4
   unfoldable pub holdsEnough : List ℕ → ℕ → ℕ → Bool
   holdsEnough marking t p = leb (N .taken t p) (getD marking p 0)
 
+  -- §4.2
   unfoldable pub enabled : List ℕ → ℕ → Bool
   enabled marking t = all (holdsEnough marking t) (N .places)
 
   unfoldable pub takesNothing : ℕ → ℕ → Bool
   takesNothing t p = eqb (N .taken t p) 0
 
+  -- §2.9
   unfoldable pub isSource : ℕ → Bool
   isSource t = all (takesNothing t) (N .places)
 
   unfoldable pub takesAlike : ℕ → ℕ → ℕ → Bool
   takesAlike t u p = eqb (N .taken t p) (N .taken u p)
 
+  -- §5.1
   unfoldable pub sameChoice : ℕ → ℕ → Bool
   sameChoice t u = all (takesAlike t u) (N .places)
 
 module _ (N : PetriNet) (A : Automaton) where
+  -- §3.7
   unfoldable pub offers : ℕ → ℕ → Bool
   offers n t = found (A .arc n t)
 
   unfoldable pub offersAsSource : ℕ → ℕ → Bool
   offersAsSource n t = Bool·beq (offers n t) (isSource N t)
 
+  -- §5.4
   unfoldable pub isAwait : ℕ → Bool
   isAwait n = all (offersAsSource n) (N .transitions)
 
@@ -48,6 +54,6 @@ module _ (N : PetriNet) (A : Automaton) where
   unfoldable pub offersAsChoice : ℕ → ℕ → Bool
   offersAsChoice n t = Bool·beq (offers n t) (sameChoice N (firstOffered n) t)
 
-  -- of a node that offers some transition: it offers one whole choice set, and nothing else
+  -- §5.3, of a node that offers some transition
   unfoldable pub offersOneChoiceSet : ℕ → Bool
   offersOneChoiceSet n = all (offersAsChoice n) (N .transitions)

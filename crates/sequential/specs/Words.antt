@@ -1,4 +1,4 @@
--- Document 01, "The sheet as words": a schedule (its word is sheet) is V, K, then K keys, then K values. A missing word counts as 0.
+-- The schedule's words, §3.1 to §3.8: V, K, then K keys, then K values. A missing word counts as 0.
 use Prim.Native.Nat.{ℕ, _+_, _*_, _/_, _%_}
 use mathlib.Core.List.{List, []}
 use mathlib.Core.Bool.{Bool, cond, _&&_}
@@ -27,24 +27,26 @@ module _ (sheet : List ℕ) where
   entryWithKey key = entryOf sheet 2 entryCount key
 
 module _ (N : PetriNet) (sheet : List ℕ) where
-  -- the keys of arcs lie below this, those of counts from here on
+  -- the keys of arcs lie below this (§3.5), those of counts from here on (§3.6)
   unfoldable pub arcKeys : ℕ
   arcKeys = nodeCount sheet * N .transitions
 
-  -- "Keys .. lie below V × (T + P)."
+  -- §3.4
   unfoldable pub keyLimit : ℕ
   keyLimit = nodeCount sheet * (N .transitions + N .places)
 
-  -- V rows of T keys for the arcs of nodes, then V rows of P keys for what their places hold
+  -- V rows of T keys for the arcs of nodes, then V rows of P keys for what their places hold; none where the key is missing, and for what is no node or transition: §3.7
   unfoldable pub arcEntry : ℕ → ℕ → Option ℕ
   arcEntry n t = cond (ltb n (nodeCount sheet) && ltb t (N .transitions)) (entryWithKey sheet (n * N .transitions + t)) none
 
   unfoldable pub arc : ℕ → ℕ → Option ℕ
   arc n t = Option·map (entryValue sheet) (arcEntry n t)
 
+  -- 0 where the key is missing: §3.8
   unfoldable pub count : ℕ → ℕ → ℕ
   count n p = cond (ltb n (nodeCount sheet) && ltb p (N .places)) (foundOr 0 (entryValue sheet) (entryWithKey sheet (arcKeys + n * N .places + p))) 0
 
+  -- §4.1
   unfoldable pub marking : ℕ → List ℕ
   marking n = cond (ltb n (nodeCount sheet)) (tabulate (count n) (N .places)) []
 

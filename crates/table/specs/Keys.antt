@@ -1,4 +1,4 @@
--- The test of a key: too large, or not above the one before it.
+-- The test of a key (§2.3, §3.4): too large, or not above the one before it.
 use Prim.Native.Nat.{ℕ, _-_}
 use mathlib.Core.List.{List}
 use mathlib.Core.Bool.{Bool, _&&_, _||_}

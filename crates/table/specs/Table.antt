@@ -1,4 +1,4 @@
--- Keyed words: from an offset on, as many keys as there are entries, then as many values.
+-- Keyed words (§2.1, §3.1): from an offset on, as many keys as there are entries, then as many values.
 use Prim.Native.Nat.{ℕ, _+_, _-_, _<_}
 use mathlib.Core.List.{List}
 use mathlib.Core.Option.{Option}
@@ -24,7 +24,7 @@ module _ (words : List ℕ) (offset : ℕ) where
   pub record Rising (entries : ℕ) : Type 0 where
     pub above : (i : ℕ) → i + 1 < entries → keyAt i < keyAt (i + 1)
 
-  -- a key lies below the limit, and above the one before it
+  -- a key lies below the limit, and above the one before it: §2.3, §3.4
   pub record KeyPasses (limit i : ℕ) : Type 0 where
     pub low : keyAt i < limit
     pub above : 0 < i → keyAt (i - 1) < keyAt i

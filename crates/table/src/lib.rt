@@ -1,4 +1,4 @@
-// Keyed words: from an offset on, as many keys as there are entries and then as many values. The look-up of a key by bisection,
+// Keyed words (§2.1, §3.1): from an offset on, as many keys as there are entries and then as many values. The look-up of a key by bisection,
 // and of a run of keys by one walk.
 ghost use mathlib.Core.Path.{_≡_};
 ghost use Prim.Native.Nat.{_+_, _≤_, _<_};

@@ -46,7 +46,7 @@ impl Kind {
         }
     }
 
-    /// Each call but the net check and the making of a walker reads a sheet and borrows scratch.
+    /// Whether it reads a sheet and borrows scratch: §9.1.
     pub fn reads_sheet(self) -> bool {
         !matches!(self, NetCheck | FreshWalker)
     }

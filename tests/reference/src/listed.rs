@@ -1,4 +1,4 @@
-//! The sheets of document 01, "Sheets to try" and the nine nodes, with the answers given there.
+//! The worked examples, §14.2 to §14.6, with their answers.
 
 use crate::generate::rng::Rng;
 use crate::generate::schedules::{crowded, nine_nodes, ring};
@@ -8,7 +8,7 @@ use crate::tally::Tally;
 
 const A: &str = "1 2 2 1 2 1 1";
 
-/// The starred table: net, sheet, the sheet check's plain numbers.
+/// The table of §14.3: net, sheet, the sheet check's plain numbers.
 const STARRED: [(&str, &str, [u64; 6]); 13] = [
     ("1 1 0", "1 1 0 0", [0, 0, 0, 1, 1, 1]),
     (A, "2 3 0 3 5 1 0 1", [0, 0, 0, 2, 2, 1]),
@@ -43,7 +43,7 @@ fn sheet_check(net: &[u32], sheet: &[u32], scratch: usize) -> [u64; 6] {
     model::sheet_check(net, sheet, &mut vec![7; scratch])
 }
 
-/// The four nodes become two; the nine stay nine.
+/// The four nodes become two (§14.4); the nine stay nine (§14.5).
 fn short_forms(tally: &mut Tally) {
     let form = |net: &[u32], sheet: &[u32]| {
         let mut out = vec![0; FORM];
@@ -59,7 +59,7 @@ fn short_forms(tally: &mut Tally) {
     tally.same("short form of nine nodes", form(&net, &sheet).1[0], 9);
 }
 
-/// Each limit is allowed; one more, for scratch one less, is refused by the number given.
+/// The limits: §14.6.
 fn limits(tally: &mut Tally) {
     let lone = text_words("1 1 0 0");
     let wide = |p: u32, t: u32| sheet_check(&[p, t, 0], &all_home(t), SCRATCH)[0];

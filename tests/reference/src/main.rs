@@ -1,4 +1,4 @@
-//! The reference: document 01 in ordinary Rust, and comparisons with it.
+//! The reference: the calls and the program in ordinary Rust, and comparisons with it.
 //!
 //! `selftest` and `program` end with the line `N passed, M failed`; the exit status is 0 only where M is
 //! 0, and elsewhere where nothing went wrong.

@@ -1,6 +1,6 @@
-//! Document 01 from its text, the plainest way: tables are dense and numbers are 64 bits wide, so
-//! that no sum of the document's limits comes near their end. `net`, `sheet` and `form` follow the
-//! document's sections; here are its refusals and its calls.
+//! The calls from the customer's scope, the plainest way: tables are dense and numbers are 64 bits
+//! wide, so that no sum of the limits comes near their end. `net`, `sheet` and `form` are what their
+//! names say; here are the refusals and the calls. Clauses are those of `docs/SPEC.md`.
 
 mod form;
 mod net;
@@ -9,22 +9,22 @@ mod sheet;
 pub use net::{Net, Shape};
 pub use sheet::Sheet;
 
-/// P and T are at most 32; a walker has 32 counts whatever P is.
+/// P and T are at most 32 (§1.3); a walker has 32 counts whatever P is (§10.5).
 pub const LINES: usize = 32;
 pub const MAX_NODES: u64 = 128;
 pub const MAX_ENTRIES: u64 = 4_096;
 pub const MAX_WEIGHT: u64 = 1_000_000_000;
-/// Words of scratch below which a call is refused by 21.
+/// Words of scratch below which a call is refused by 21: §1.6.
 pub const SCRATCH: usize = 8_192;
-/// Words that every short form fits in.
+/// Words that every short form fits in: §11.7.
 pub const FORM: usize = 8_194;
 
-/// A node, then 32 counts.
+/// A node, then 32 counts: §10.5.
 pub type Walker = [u32; 1 + LINES];
 
 // ---- Refusals by number ----
 
-/// What a refusal's position counts.
+/// What a refusal's position counts: §7.52.
 #[derive(Clone, Copy)]
 pub enum Position {
     Nothing,
@@ -37,7 +37,7 @@ pub enum Position {
 use Position::{Nothing, Place, Record};
 
 impl Position {
-    /// The kind (none 0, entry 1, place 2, node 3, record 4), then the position.
+    /// The kind as a number (§8.2), then the index.
     fn plain(self) -> [u64; 2] {
         match self {
             Position::Nothing => [0, 0],
@@ -58,8 +58,8 @@ fn refuse<T>(number: u64, at: Position) -> Result<T, Refusal> {
     Err(Refusal { number, at })
 }
 
-/// The plain numbers of an answer: number, kind, position, then the call's own. "All other numbers
-/// of a refused answer are 0"; an accepted one has no position.
+/// The plain numbers of an answer: number, kind, position, then the call's own (§8.1), which are 0
+/// where it is refused (§8.3); an accepted one has no position.
 fn plain<const N: usize>(answer: Result<Vec<u64>, Refusal>) -> [u64; N] {
     let mut reply = [0; N];
     match answer {
@@ -74,8 +74,8 @@ fn plain<const N: usize>(answer: Result<Vec<u64>, Refusal>) -> [u64; N] {
 
 // ---- What the calls share ----
 
-/// The checks that begin every call on a sheet: "21 first; then the net", then the sheet. Scratch
-/// that passes 21 ends as 0 in its first 8,192 words, whatever the answer.
+/// The checks that begin every call on a sheet: scratch, the net, the sheet (§7.54). Scratch that
+/// passes 21 is cleared whatever the answer (§9.3).
 fn accept(net: &[u32], sheet: &[u32], scratch: &mut [u32]) -> Result<(Net, Sheet), Refusal> {
     if scratch.len() < SCRATCH {
         return refuse(21, Nothing);
@@ -87,7 +87,7 @@ fn accept(net: &[u32], sheet: &[u32], scratch: &mut [u32]) -> Result<(Net, Sheet
     Ok((net, sheet))
 }
 
-/// "22 last"; otherwise writes the result and leaves the rest of the buffer as it was.
+/// 22 where the result does not fit (§9.6); otherwise writes it and leaves the rest (§9.4).
 fn write(out: &mut [u32], result: &[u32]) -> Result<(), Refusal> {
     if out.len() < result.len() {
         return refuse(22, Nothing);
@@ -111,14 +111,13 @@ fn walker_at(node: usize, marking: &[u64]) -> Walker {
 
 // ---- The calls ----
 
-/// Net check: "the number and position alone".
+/// Net check: §10.1.
 pub fn net_check(net: &[u32]) -> [u64; 3] {
     plain(Net::read(net).map(|_| vec![]))
 }
 
-/// What a transition takes and puts at a place, and what the place starts with: "an absent key means
-/// 0", and so does a transition or a place that there is not. The document says nothing of a net that
-/// is refused, and `docs/DECISIONS.md` decides: one that 1 or 2 refuses has none, one that 3 or 4
+/// What a transition takes and puts at a place, and what the place starts with: §10.2, §2.8. Of a
+/// refused net `docs/DECISIONS.md` decides: one that 1 or 2 refuses has none, one that 3 or 4
 /// refuses what is found by halving, one without a source its weights.
 pub fn weights(net: &[u32], transition: u32, place: u32) -> [u64; 3] {
     let Ok(shape) = Shape::read(net) else {
@@ -132,7 +131,7 @@ pub fn weights(net: &[u32], transition: u32, place: u32) -> [u64; 3] {
     [at(net.taken.get(t)), at(net.put.get(t)), at(Some(&net.start))]
 }
 
-/// Sheet check: "on acceptance the numbers of nodes, arcs and await nodes".
+/// Schedule check: §10.3.
 pub fn sheet_check(net: &[u32], sheet: &[u32], scratch: &mut [u32]) -> [u64; 6] {
     let answer = accept(net, sheet, scratch).map(|(net, sheet)| {
         let awaits = (0..sheet.nodes()).filter(|&node| sheet.is_await(&net, node)).count();
@@ -141,7 +140,7 @@ pub fn sheet_check(net: &[u32], sheet: &[u32], scratch: &mut [u32]) -> [u64; 6] 
     plain(answer)
 }
 
-/// Place bounds: writes "for each place the greatest count over all nodes".
+/// Place bounds: §10.4.
 pub fn place_bounds(net: &[u32], sheet: &[u32], out: &mut [u32], scratch: &mut [u32]) -> [u64; 3] {
     let answer = accept(net, sheet, scratch).and_then(|(net, sheet)| {
         let mut bounds = vec![0; net.places()];
@@ -156,14 +155,14 @@ pub fn place_bounds(net: &[u32], sheet: &[u32], out: &mut [u32], scratch: &mut [
     plain(answer)
 }
 
-/// Fresh walker: "stands at node 0 with the initial marking"; all zero where the net is refused.
+/// Fresh walker, all zero where the net is refused: §10.6.
 pub fn fresh_walker(net: &[u32], walker: &mut Walker) -> [u64; 3] {
     let net = Net::read(net);
     *walker = net.as_ref().map_or([0; 1 + LINES], |net| walker_at(0, &net.start));
     plain(net.map(|_| vec![]))
 }
 
-/// Single firing: hands back the walker that follows, where refused "the walker it was given".
+/// Single firing: hands back the walker that follows, where refused the same one (§10.7).
 pub fn single_firing(
     net: &[u32],
     sheet: &[u32],
@@ -190,7 +189,7 @@ pub fn single_firing(
     plain(answer)
 }
 
-/// Run: the number fired and the end node; writes the P end counts.
+/// Run: §10.8.
 pub fn run(
     net: &[u32],
     sheet: &[u32],
@@ -212,7 +211,7 @@ pub fn run(
     plain(answer)
 }
 
-/// Short form: "the length and writes that many words".
+/// Short form: §10.9.
 pub fn short_form(net: &[u32], sheet: &[u32], out: &mut [u32], scratch: &mut [u32]) -> [u64; 4] {
     let answer = accept(net, sheet, scratch).and_then(|(_, sheet)| {
         let words = sheet.minimal_form().words();

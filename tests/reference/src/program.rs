@@ -1,5 +1,5 @@
-//! The program of document 01: how it reads `net.bin` and `sheet.bin`, what it prints, and a
-//! comparison of a program with that.
+//! The program: how it reads `net.bin` and `sheet.bin` (§12.1), what it prints (§12.6, §12.7), and
+//! a comparison of a program with that.
 
 use crate::generate::schedules::Schedule;
 use crate::generate::{self, rng::Rng};
@@ -10,12 +10,12 @@ use crate::{second, selftest};
 use std::path::{Path, PathBuf};
 use std::process::Command;
 
-/// Words handed on of a longer file, "one more than fits".
+/// Words handed on of a longer file: §1.7.
 const NET_WORDS: usize = 4_164;
 const SHEET_WORDS: usize = 8_195;
 
-/// The words of a file, least significant byte first; nothing where it has a tail of one to three
-/// bytes. Of a longer file only the first words are taken, "and no tail is looked for".
+/// The words of a file (§12.1); nothing where it has a tail (§12.4). Of a longer file only the
+/// first words are taken, and it has no tail (§12.3).
 fn words(bytes: &[u8], most: usize) -> Option<Vec<u32>> {
     let bytes = &bytes[..bytes.len().min(4 * most)];
     let whole = bytes.chunks_exact(4);
@@ -57,7 +57,7 @@ pub fn printed(net: &[u8], sheet: &[u8]) -> String {
     text + &format!("short {}\n", listed(&out[..length]))
 }
 
-/// What the program should print in the folder. "A missing file is empty."
+/// What the program should print in the folder. A file that is not there is empty (§12.2).
 pub fn printed_in(folder: &Path) -> String {
     let bytes = |name: &str| std::fs::read(folder.join(name)).unwrap_or_default();
     printed(&bytes("net.bin"), &bytes("sheet.bin"))

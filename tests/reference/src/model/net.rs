@@ -1,4 +1,4 @@
-//! "The net as words", and of "Firing and what a schedule is" what a net alone decides.
+//! The net's words (§2.1), and what a net alone decides: firing, sources and choice sets.
 
 use super::{
     refuse,
@@ -17,7 +17,7 @@ pub struct Net {
     pub start: Vec<u64>,
 }
 
-/// "Keys rise strictly and lie below" an end.
+/// Whether keys rise and stay below an end: §2.3, §3.4.
 pub(super) fn key_fits(keys: &[u32], i: usize, end: u64) -> bool {
     (i == 0 || keys[i] > keys[i - 1]) && u64::from(keys[i]) < end
 }
@@ -40,7 +40,7 @@ pub struct Shape<'a> {
 }
 
 impl Shape<'_> {
-    /// The checks before the entries: "under 3 words, sizes, length".
+    /// The checks before the entries: §7.1, §7.2.
     pub fn read(words: &[u32]) -> Result<Shape<'_>, Refusal> {
         if words.len() < 3 {
             return refuse(1, Nothing);
@@ -93,7 +93,7 @@ impl Shape<'_> {
 }
 
 impl Net {
-    /// The net's checks in their order: "under 3 words, sizes, length, entries, 5".
+    /// The net's checks in their order: §7.55.
     pub fn read(words: &[u32]) -> Result<Net, Refusal> {
         let net = Net::entries(words)?;
         if net.sources().is_empty() {
@@ -123,8 +123,8 @@ impl Net {
         Ok(Net::from_table(&table, shape.places as usize, shape.transitions as usize))
     }
 
-    /// The keys are rows of P places: what each transition takes, what each puts, the start. "An
-    /// absent key means 0."
+    /// The keys are rows of P places: what each transition takes, what each puts, the start; what
+    /// has no key is 0 (§2.8).
     fn from_table(table: &[Option<u64>], p: usize, t: usize) -> Net {
         let row = |r: usize| -> Vec<u64> {
             table[r * p..(r + 1) * p].iter().map(|weight| weight.unwrap_or(0)).collect()
@@ -144,17 +144,17 @@ impl Net {
         self.taken.len()
     }
 
-    /// "t is enabled where every place holds at least what t takes."
+    /// §4.2
     pub fn enabled(&self, marking: &[u64], t: usize) -> bool {
         (0..self.places()).all(|p| marking[p] >= self.taken[t][p])
     }
 
-    /// "Firing gives, at each place, count − taken + put", for an enabled t.
+    /// §4.3, for an enabled t.
     pub fn fire(&self, marking: &[u64], t: usize) -> Vec<u64> {
         (0..self.places()).map(|p| marking[p] - self.taken[t][p] + self.put[t][p]).collect()
     }
 
-    /// "A source transition takes nothing."
+    /// §2.9
     pub fn is_source(&self, t: usize) -> bool {
         self.taken[t].iter().all(|&weight| weight == 0)
     }
@@ -163,7 +163,7 @@ impl Net {
         (0..self.transitions()).filter(|&t| self.is_source(t)).collect()
     }
 
-    /// The choice set of t: all that "take the same weight from every place".
+    /// The choice set of t: §5.1.
     pub fn choice_set(&self, t: usize) -> Vec<usize> {
         (0..self.transitions()).filter(|&u| self.taken[u] == self.taken[t]).collect()
     }
