@@ -1,0 +1,9 @@
+"""Starts lineup from its folder: no path of the environment is searched for modules."""
+import os
+import sys
+
+sys.path.insert(0, os.path.dirname(os.path.dirname(os.path.abspath(__file__))))
+
+from lineup.cli import main  # noqa: E402 (the path has to be set first)
+
+sys.exit(main(sys.argv[1:]))

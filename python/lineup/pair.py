@@ -1,0 +1,66 @@
+"""A net and a sheet, what the core answers for them, and that this agrees with what can be seen in them."""
+from lineup import core, explain, inputs
+from lineup.explain import Disagreement
+from lineup.report import refused
+from lineup.trouble import Trouble
+from lineup.wordfile import packed
+
+
+class Pair:
+    def __init__(self, net, sheet):
+        self.net, self.sheet = net, sheet
+
+    def ask(self, *calls):
+        """The core's answers to calls on these words. Bytes that are not whole words are the file program's to refuse."""
+        if not self.net.tail and not (self.sheet and self.sheet.tail):
+            return core.ask(*(call(self.net.words, *([self.sheet.words] if self.sheet else [])) for call in calls))
+        net, sheet = (s.data if s and s.tail else packed(s.words) if s else b"" for s in (self.net, self.sheet))
+        return [core.files(net, sheet)]
+
+    def refusal(self, answer, record=None):
+        """The report of a refusal by the core."""
+        return refused(explain.explain(answer, self.net, self.sheet, record), answer, self.swapped(answer))
+
+    def swapped(self, answer):
+        """The likely cause of words that make no sense."""
+        if answer.number > 9 or not self.sheet or not (self.net.is_words() and self.sheet.is_words()):
+            return []
+        other = core.ask(core.check(self.sheet.words, self.net.words))[0]
+        if other.number:
+            return []
+        return [f"likely: net and sheet are swapped; the other way round the core accepts them: {other.line}"]
+
+    def agree(self, checked, bounds):
+        """Holds the numbers of an accepted sheet to what the sheet says."""
+        explain.agree(checked, self.net, self.sheet)
+        net, sheet = self.net.model, self.sheet.model
+        seen = {"nodes": len(sheet.nodes), "arcs": sum(map(len, sheet.arcs)), "awaits": len(sheet.awaits(net))}
+        if checked.own != seen:
+            raise Disagreement(f"the core answers {checked.line!r}, and the sheet shows {seen}")
+        greatest = [max(counts.get(p, 0) for counts in sheet.counts) for p in range(len(net.places))]
+        if bounds.out != greatest:
+            raise Disagreement(f"the core answers {bounds.whole!r}, and the sheet shows {greatest}")
+
+
+def readable(net_path, sheet_path):
+    """A net and, where there is one, a sheet that need not be accepted; and the report of the core's refusal where words cannot be read."""
+    if sheet_path is None and inputs.has_sheet(net_path):
+        sheet_path = net_path
+    net = inputs.net(net_path)
+    both = Pair(net, None if sheet_path is None else inputs.sheet(sheet_path, net))
+    if net.model and (not both.sheet or both.sheet.model):
+        return both, None
+    answer = both.ask(core.check if both.sheet else core.net_check)[0]
+    if not answer.number:
+        raise Disagreement(f"the core answers {answer.line!r} for words that cannot be read")
+    return both, both.refusal(answer)
+
+
+def load(net_path, sheet_path):
+    """The pair that arguments name. A folder brings net and sheet."""
+    if sheet_path is None:
+        if not inputs.has_sheet(net_path):
+            raise Trouble("a sheet is missing: NET SHEET, or a folder with both as words, is expected", net_path)
+        sheet_path = net_path
+    net = inputs.net(net_path)
+    return Pair(net, inputs.sheet(sheet_path, net))
