@@ -31,17 +31,17 @@ def names_of(net):
 def differences(own, other):
     """What tells two nets apart, by name: a sentence each."""
     found = missing(own.places, other.places, "place") + missing(own.transitions, other.transitions, "transition")
+    if found:
+        return found
     for p, name in enumerate(own.places):
-        if name in other.places:
-            here, there = own.start.get(p, 0), other.start.get(other.places.index(name), 0)
-            if here != there:
-                found.append(f"place {quoted(name)} starts with {here} here and {there} there")
+        here, there = own.start.get(p, 0), other.start.get(other.places.index(name), 0)
+        if here != there:
+            found.append(f"place {quoted(name)} starts with {here} here and {there} there")
     for t, name in enumerate(own.transitions):
-        if name in other.transitions:
-            u = other.transitions.index(name)
-            for verb, here, there in (("takes", own.taken[t], other.taken[u]), ("puts", own.put[t], other.put[u])):
-                if by_name(own, here) != by_name(other, there):
-                    found.append(f"transition {quoted(name)} {verb} {own.held(here)} here and {other.held(there)} there")
+        u = other.transitions.index(name)
+        for verb, here, there in (("takes", own.taken[t], other.taken[u]), ("puts", own.put[t], other.put[u])):
+            if by_name(own, here) != by_name(other, there):
+                found.append(f"transition {quoted(name)} {verb} {own.held(here)} here and {other.held(there)} there")
     return found
 
 
