@@ -10,10 +10,16 @@ class Pair:
     def __init__(self, net, sheet):
         self.net, self.sheet = net, sheet
 
+    def words(self):
+        return [source.words for source in (self.net, self.sheet) if source]
+
+    def tail(self):
+        return self.net.tail or self.sheet and self.sheet.tail
+
     def ask(self, *calls):
         """The core's answers to calls on these words. Bytes that are not whole words are the file program's to refuse."""
-        if not self.net.tail and not (self.sheet and self.sheet.tail):
-            return core.ask(*(call(self.net.words, *([self.sheet.words] if self.sheet else [])) for call in calls))
+        if not self.tail():
+            return core.ask(*(call(*self.words()) for call in calls))
         net, sheet = (s.data if s and s.tail else packed(s.words) if s else b"" for s in (self.net, self.sheet))
         return [core.files(net, sheet)]
 
@@ -40,6 +46,13 @@ class Pair:
         greatest = [max(counts.get(p, 0) for counts in sheet.counts) for p in range(len(net.places))]
         if bounds.out != greatest:
             raise Disagreement(f"the core answers {bounds.whole!r}, and the sheet shows {greatest}")
+
+
+def ask_each(pairs, call):
+    """The core's answers to one call on several pairs."""
+    if any(both.tail() for both in pairs):
+        return [both.ask(call)[0] for both in pairs]
+    return core.ask(*(call(*both.words()) for both in pairs))
 
 
 def readable(net_path, sheet_path):

@@ -61,7 +61,7 @@ class Reader:
             if child.tag not in LAYOUT | MEANING[kind]:
                 said = child.attributes.get("value") or child.text.strip() or next((part.text.strip() for part in child.children if part.text.strip()), "")
                 what = quoted(child.tag) + (f" ({quoted(said)})" if said else "")
-                self.fail(child, f"{what} at a {element.tag} is not part of a place/transition net")
+                self.fail(child, f"{what} at {'an' if kind == 'arc' else 'a'} {element.tag} is not part of a place/transition net")
 
     def label(self, element, tag):
         """The text of a label, nothing where there is none."""

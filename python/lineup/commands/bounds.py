@@ -4,7 +4,7 @@ from lineup.report import Report
 from lineup.visible import inline
 
 SUMMARY = "tell the most that each place ever holds"
-EXAMPLE = "lineup bounds samples/jetty/jetty.net samples/jetty/jetty.sheet"
+EXAMPLE = "lineup bounds samples/jetty/jetty.net samples/jetty/may.sheet"
 
 
 def arguments(parser):

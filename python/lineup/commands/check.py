@@ -4,7 +4,7 @@ from lineup.report import Report, plural
 from lineup.visible import inline
 
 SUMMARY = "have the core check a sheet against its net, or a net alone, and explain a refusal"
-EXAMPLE = "lineup check samples/jetty/jetty.net samples/jetty/jetty.sheet"
+EXAMPLE = "lineup check samples/jetty/jetty.net samples/jetty/may.sheet"
 
 
 def arguments(parser):

@@ -17,15 +17,24 @@ def arguments(parser):
 
 def main(args):
     net = inputs.net(args.net)
-    pairs = [pair.Pair(net, inputs.sheet(path, net)) for path in (args.one, args.other)]
-    forms = [both.ask(core.short)[0] for both in pairs]
+    return compared([pair.Pair(net, inputs.sheet(path, net)) for path in (args.one, args.other)])
+
+
+def compared(pairs):
+    """The report on two sheets of one net."""
+    forms = pair.ask_each(pairs, core.short)
     for both, form in zip(pairs, forms):
         if form.number:
             return not_compared(both, form)
     found = parting(*(both.sheet.model for both in pairs))
-    if (forms[0].out[: forms[0].own["length"]] == forms[1].out[: forms[1].own["length"]]) != (found is None):
-        raise Disagreement(f"the short forms are {'equal' if found else 'unlike'}, and firings that tell the sheets apart are {found}")
+    equal = written(forms[0]) == written(forms[1])
+    if equal != (found is None):
+        raise Disagreement(f"the short forms are {'equal' if equal else 'unlike'}, and the firings that tell the sheets apart are {found}")
     return different(pairs, *found) if found else same(pairs, forms)
+
+
+def written(form):
+    return form.out[: form.own["length"]]
 
 
 def not_compared(both, form):

@@ -11,7 +11,7 @@ from lineup.trouble import Trouble
 from lineup.visible import inline
 
 SUMMARY = "draw a schedule, or a net, as dot or SVG; with graphviz also as PNG or PDF"
-EXAMPLE = "lineup draw samples/jetty/jetty.net samples/jetty/jetty.sheet -o jetty.svg"
+EXAMPLE = "lineup draw samples/jetty/jetty.net samples/jetty/may.sheet -o jetty.svg"
 OUTPUT = "write to FILE, by its suffix: .dot, .svg, or with graphviz .png and .pdf; without -o, dot on standard output"
 
 

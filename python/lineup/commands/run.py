@@ -8,7 +8,7 @@ from lineup.trouble import Trouble, suggestion
 from lineup.visible import inline, quoted
 
 SUMMARY = "fire a list of transitions from the first node"
-EXAMPLE = "lineup run samples/jetty/jetty.net samples/jetty/jetty.sheet berth 'line up' fails rework"
+EXAMPLE = "lineup run samples/jetty/jetty.net samples/jetty/may.sheet berth line-up fails rework"
 
 
 def arguments(parser):

@@ -1,4 +1,4 @@
-"""lineup short: the short form of a sheet, the smallest that allows the same firings, as a sheet again."""
+"""lineup short: the short form of a sheet, in which nodes that hold the same and allow the same firings are one, as a sheet again."""
 from lineup import core, files, names, pair, sheetfile, words
 from lineup.compare import merged
 from lineup.explain import Disagreement
@@ -23,7 +23,7 @@ def main(args):
     net, sheet = both.net.model, both.sheet.model
     form, classes = named(net, sheet, answer)
     remarks = [f"the short form of {inline(both.sheet.path)}: {plural(len(sheet.nodes), 'node')} became {len(form.nodes)}"]
-    remarks += [f"{form.nodes[c]}: {', '.join(sheet.nodes[n] for n in nodes)}" for c, nodes in enumerate(classes) if len(nodes) > 1]
+    remarks += [f"{', '.join(sheet.nodes[n] for n in nodes)} became {form.nodes[c]}" for c, nodes in enumerate(classes) if len(nodes) > 1]
     report = Report(accepted=True, nodes=len(form.nodes), merged=[[sheet.nodes[n] for n in nodes] for nodes in classes])
     report.data.update(words=answer.out[: answer.own["length"]], sheet=sheetfile.write(net, form))
     report.quote(answer)

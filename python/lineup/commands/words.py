@@ -9,7 +9,7 @@ from lineup.visible import inline
 from lineup.wordfile import packed
 
 SUMMARY = "write a net, and a sheet, as words for ./run and the core"
-EXAMPLE = "lineup words samples/jetty/jetty.net samples/jetty/jetty.sheet -o jetty-words"
+EXAMPLE = "lineup words samples/jetty/jetty.net samples/jetty/may.sheet -o jetty-words"
 OUTPUT = "write net.txt, sheet.txt and names.txt into the folder FILE, which is made if it is missing"
 
 

@@ -1,6 +1,6 @@
 //! The reference: document 01 in ordinary Rust, and comparisons with it.
 //!
-//! Every run but those of `play` and `cases` ends with the line `N passed, M failed`; the exit status
+//! Every run but those of `play`, `cases` and `pairs` ends with the line `N passed, M failed`; the exit status
 //! is 0 only where M is 0.
 
 mod call;
@@ -13,7 +13,9 @@ mod selftest;
 mod tally;
 mod text;
 
+use call::{Call, Kind};
 use generate::rng::Rng;
+use generate::schedules::Schedule;
 use std::io::{Read, Write};
 use std::path::Path;
 use std::process::ExitCode;
@@ -24,6 +26,7 @@ const USAGE: &str = "usage: reference selftest
        reference program CHECKER SEED COUNT
        reference file DIR
        reference cases SEED COUNT
+       reference pairs SEED COUNT
        reference play < CASES";
 
 fn main() -> ExitCode {
@@ -35,6 +38,12 @@ fn main() -> ExitCode {
         ["cases", seed, count] => {
             if let (Ok(seed), Ok(count)) = (seed.parse(), count.parse()) {
                 return written(|| Ok(cases(seed, count)));
+            }
+            tally.check(false, || USAGE.to_string());
+        }
+        ["pairs", seed, count] => {
+            if let (Ok(seed), Ok(count)) = (seed.parse(), count.parse()) {
+                return written(|| Ok(pairs(seed, count)));
             }
             tally.check(false, || USAGE.to_string());
         }
@@ -84,4 +93,20 @@ fn play() -> std::io::Result<String> {
 fn cases(seed: u64, count: u64) -> String {
     let case = |index| generate::case(&mut Rng::for_case(seed, index)).text() + "\n";
     (0..count).map(case).collect()
+}
+
+/// Accepted sheets two by two, each pair of one net, as sheet checks on two lines. Where no second
+/// sheet is found, there is no pair.
+fn pairs(seed: u64, count: u64) -> String {
+    let pair = |index| {
+        let rng = &mut Rng::for_case(seed, index);
+        let schedule = generate::schedule(rng);
+        let other = selftest::sibling(rng, &schedule)?;
+        let line = |made: &Schedule| {
+            let (net, sheet) = made.words();
+            Call::new(Kind::SheetCheck, &net, &sheet).text() + "\n"
+        };
+        Some(line(&schedule) + &line(&other))
+    };
+    (0..count).filter_map(pair).collect()
 }
