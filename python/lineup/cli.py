@@ -79,7 +79,7 @@ def told(trouble, argv):
     """A trouble as text, and as JSON too where that was asked for."""
     out(f"lineup: {trouble}\n", sys.stderr)
     if "--json" in argv and isinstance(trouble, Trouble):
-        known = {"file": trouble.path and inline(trouble.path), "line": trouble.line, "column": trouble.column}
+        known = {"file": trouble.path, "line": trouble.line, "column": trouble.column}
         out(as_json({"trouble": {"message": trouble.message, **known}}))
     return TROUBLE
 

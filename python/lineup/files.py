@@ -52,12 +52,13 @@ def write(path, data):
             with open(path, "wb") as file:
                 file.write(data)
             return
-        handle, beside = tempfile.mkstemp(dir=os.path.dirname(path) or ".")
+        target = os.path.realpath(path)
+        handle, beside = tempfile.mkstemp(dir=os.path.dirname(target))
         try:
             with os.fdopen(handle, "wb") as file:
                 file.write(data)
             os.chmod(beside, 0o666 & ~umask())
-            os.replace(beside, os.path.realpath(path))
+            os.replace(beside, target)
         except BaseException:
             os.unlink(beside)
             raise

@@ -6,7 +6,8 @@ from lineup import faults, files, names, netfile, sheetfile, wordfile, words
 from lineup.match import mapped
 from lineup.trouble import Trouble
 
-REMARKS = re.compile(rb"\s*(?:#[^\n]*\n\s*)*")
+FORMS = {".bin": "bytes", ".txt": "decimal words", ".pnml": "PNML", ".net": "text", ".sheet": "text"}
+REMARKS = re.compile(rb"(?:\xef\xbb\xbf)?\s*(?:#[^\n]*\n\s*)*")
 
 
 class Source:
@@ -34,14 +35,15 @@ class Source:
 def form_of(path, data):
     """By the file's suffix if that tells, or else by how it begins."""
     suffix = os.path.splitext(path)[1].lower()
-    if suffix == ".bin" or b"\0" in data[:64]:
+    if suffix in FORMS:
+        return FORMS[suffix]
+    if b"\0" in data[:64]:
         return "bytes"
-    if suffix == ".txt":
-        return "decimal words"
-    rest = data[REMARKS.match(data.removeprefix(b"\xef\xbb\xbf")).end() :]
-    if rest.startswith(b"<") or suffix == ".pnml":
+    rest = data[REMARKS.match(data).end() :]
+    if rest.startswith(b"<"):
         return "PNML"
-    return "decimal words" if re.fullmatch(rb"(?:\s|\d|#[^\n]*)*\d(?:\s|\d|#[^\n]*)*", rest) else "text"
+    plain = re.sub(rb"#[^\n]*", b"", rest)
+    return "decimal words" if plain.strip() and not plain.strip(b"0123456789 \t\r\n") else "text"
 
 
 def in_folder(folder, name):

@@ -1,5 +1,5 @@
 """A net and a sheet, what the core answers for them, and that this agrees with what can be seen in them."""
-from lineup import core, explain, inputs
+from lineup import causes, core, explain, inputs
 from lineup.explain import Disagreement
 from lineup.report import refused
 from lineup.trouble import Trouble
@@ -25,16 +25,8 @@ class Pair:
 
     def refusal(self, answer, record=None):
         """The report of a refusal by the core."""
-        return refused(explain.explain(answer, self.net, self.sheet, record), answer, self.swapped(answer))
-
-    def swapped(self, answer):
-        """The likely cause of words that make no sense."""
-        if answer.number > 9 or not self.sheet or not (self.net.is_words() and self.sheet.is_words()):
-            return []
-        other = core.ask(core.check(self.sheet.words, self.net.words))[0]
-        if other.number:
-            return []
-        return [f"likely: net and sheet are swapped; the other way round the core accepts them: {other.line}"]
+        likely = causes.likely(self.net, self.sheet) if answer.number <= 9 else []
+        return refused(explain.explain(answer, self.net, self.sheet, record), answer, likely)
 
     def agree(self, checked, bounds):
         """Holds the numbers of an accepted sheet to what the sheet says."""

@@ -1,6 +1,5 @@
 """What a command has to say: an exit status, lines for people and data for programs; and the parts that several commands share."""
 from lineup.trouble import place
-from lineup.visible import inline
 
 ACCEPTED, REFUSED, TROUBLE = 0, 1, 2
 
@@ -30,7 +29,7 @@ def refused(explanation, answer, likely=()):
         "number": answer.number,
         "word": explanation.word,
         "position": {"kind": answer.kind, "index": answer.index},
-        "file": inline(explanation.source.path),
+        "file": explanation.source.path,
         "line": where[0],
         "column": where[1],
         "why": explanation.lines + list(likely),

@@ -42,12 +42,11 @@ def clean(tally, what, folder, *arguments, status=2):
 def names(tally, folder, i, nasty):
     """In every form that has names."""
     save(folder, f"{i}.net", f"pl {{a{nasty}b}}\ntr s -> a\n")
-    status = 1 if nasty == "\x00" else 2  # with a zero byte it is a word file, and no text
-    clean(tally, f"{nasty!r} in a net", folder, "check", f"{i}.net", "good.sheet", status=status)
+    clean(tally, f"{nasty!r} in a net", folder, "check", f"{i}.net", "good.sheet")
     save(folder, f"{i}.sheet", f"n:\n  s -> {{m{nasty}}}\n")
-    clean(tally, f"{nasty!r} in a sheet", folder, "check", "good.net", f"{i}.sheet", status=status)
+    clean(tally, f"{nasty!r} in a sheet", folder, "check", "good.net", f"{i}.sheet")
     save(folder, f"bare{i}.sheet", f"n:\n  s -> m{nasty}\n")
-    clean(tally, f"{nasty!r} in a plain name", folder, "check", "--json", "good.net", f"bare{i}.sheet", status=status)
+    clean(tally, f"{nasty!r} in a plain name", folder, "check", "--json", "good.net", f"bare{i}.sheet")
     for name, text in (("net.txt", "1 1 0"), ("sheet.txt", "1 1 0 0"), ("names.txt", f"place 0 a{nasty}b\n")):
         save(folder, f"words{i}/{name}", text)
     clean(tally, f"{nasty!r} in names.txt", folder, "draw", f"words{i}")

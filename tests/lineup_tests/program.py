@@ -136,7 +136,9 @@ def word_files(tally, folder):
     cases = {
         "tail of a net": (net + b"\1", sheet, ["net.bin: refused, 1 ragged net", "29 bytes are 7 words of four bytes and 1 over", "core: answer 1 none 0"]),
         "tail of a sheet": (net, sheet + b"\1\2", ["sheet.bin: refused, 6 ragged sheet", "34 bytes are 8 words of four bytes and 2 over", "core: answer 6 none 0"]),
-        "swapped": (sheet, net, ["refused, 1", "likely: net and sheet are swapped", "answer 0 none 0 nodes 2 arcs 2 awaits 1"]),
+        "swapped": (sheet, net, ["refused, 1", "likely: net and sheet are swapped; that way the core accepts them", "answer 0 none 0 nodes 2 arcs 2 awaits 1"]),
+        "the wrong way round": (turned(net), turned(sheet), ["refused, 2", "likely: the bytes of each word stand the wrong way round", "answer 0 none 0 nodes 2"]),
+        "text called .bin": (b"1 2 2 # sizes\n1 2 1 1", b"2 3 0 3 5 1 0 1", ["likely: a file of decimal words is called .bin", "answer 0 none 0 nodes 2"]),
         "one word less": (net, sheet[:-4], ["K, the second word, says 3 entries, which makes 2 + 2 * 3 = 8 words; there are 7, 1 too few", "likely: the 3 keys are there, and 1 of the 3 values missing"]),
         "another K": (net, struct.pack("<8I", 2, 4, 0, 3, 5, 1, 0, 1), ["likely: K should be 3"]),
         "something over": (net, sheet + struct.pack("<2I", 0, 0), ["2 too many", "something follows them"]),
@@ -159,6 +161,10 @@ def word_files(tally, folder):
         for command in ("short", "bounds", "run", "words", "names", "draw"):
             tally.same(f"{what}: {command}", lineup(folder, command, what)[0], 1)
     mixed(tally, folder, net, sheet)
+
+
+def turned(data):
+    return b"".join(data[i : i + 4][::-1] for i in range(0, len(data), 4))
 
 
 def mixed(tally, folder, net, sheet):

@@ -36,6 +36,8 @@ def numbers(both, firings):
     found = []
     for i, name in enumerate(firings, 1):
         name = unicodedata.normalize("NFC", name)
+        if name not in known and name[:1] + name[-1:] == "{}":
+            name = name[1:-1]  # as a sheet writes it
         if name not in known and known:
             raise Trouble(f"firing {i}: no transition {quoted(name)}" + suggestion(name, known), both.net.path)
         found.append(known.get(name, 0))
