@@ -1,5 +1,6 @@
 """Likely causes of words that make no sense. Each is a guess that the core has confirmed: read in the other way, it accepts the files."""
-from lineup import core, wordfile
+from lineup import core
+from lineup.tokens import LARGEST_WORD
 from lineup.words import NET_WORDS, SHEET_WORDS
 
 
@@ -31,6 +32,6 @@ def as_decimal(source):
         return source.words
     text = source.data.decode("ascii", "replace")
     parts = [part for line in text.split("\n") for part in line.split("#")[0].split()]
-    if not all(part.isascii() and part.isdigit() and len(part) <= 10 and int(part) <= wordfile.LARGEST_WORD for part in parts):
+    if not all(part.isascii() and part.isdigit() and len(part) <= 10 and int(part) <= LARGEST_WORD for part in parts):
         return None
     return [int(part) for part in parts][: NET_WORDS + SHEET_WORDS]

@@ -1,6 +1,7 @@
 """The command line: which command, with what; its report as text or JSON; the exit status."""
 import argparse
 import importlib
+import os
 import sys
 
 from lineup import commands, files
@@ -20,20 +21,16 @@ class Parser(argparse.ArgumentParser):
 
 def parser():
     """The parser and the modules of the commands."""
-    top = Parser(prog="lineup", description=DESCRIPTION, epilog=STATUS, formatter_class=argparse.RawDescriptionHelpFormatter, allow_abbrev=False)
+    modules = {name: importlib.import_module(f"lineup.commands.{name}") for name in commands.NAMES}
+    plain = {"formatter_class": argparse.RawDescriptionHelpFormatter, "allow_abbrev": False}
+    examples = "".join(f"  {module.EXAMPLE}\n" for module in modules.values())
+    top = Parser(prog="lineup", description=DESCRIPTION, epilog=f"examples:\n{examples}\n{STATUS}", **plain)
     top.add_argument("--version", action="store_true", help="tell the commit and the kit, and end")
     parts = top.add_subparsers(dest="command", metavar="COMMAND")
-    modules = {}
-    for name in commands.NAMES:
-        module = modules[name] = importlib.import_module(f"lineup.commands.{name}")
-        part = parts.add_parser(
-            name,
-            help=module.SUMMARY,
-            description=module.__doc__.split(": ", 1)[1],
-            epilog=f"example:\n  {module.EXAMPLE}\n\n{STATUS}",
-            formatter_class=argparse.RawDescriptionHelpFormatter,
-            allow_abbrev=False,
-        )
+    for name, module in modules.items():
+        about = module.__doc__.split(": ", 1)[1]
+        epilog = f"example:\n  {module.EXAMPLE}\n\n{STATUS}"
+        part = parts.add_parser(name, help=module.SUMMARY, description=about[0].upper() + about[1:], epilog=epilog, **plain)
         module.arguments(part)
         part.add_argument("-o", dest="output", metavar="FILE", help=getattr(module, "OUTPUT", "write to FILE instead of standard output"))
         part.add_argument("--json", action="store_true", help="write the result as JSON")
@@ -78,9 +75,9 @@ def out(text, stream=None):
 def told(trouble, argv):
     """A trouble as text, and as JSON too where that was asked for."""
     out(f"lineup: {trouble}\n", sys.stderr)
-    if "--json" in argv and isinstance(trouble, Trouble):
-        known = {"file": trouble.path, "line": trouble.line, "column": trouble.column}
-        out(as_json({"trouble": {"message": trouble.message, **known}}))
+    if "--json" in argv:
+        known = ("message", "path", "line", "column")
+        out(as_json({"trouble": {name: getattr(trouble, name) for name in known} if isinstance(trouble, Trouble) else {"message": trouble}}))
     return TROUBLE
 
 
@@ -94,7 +91,7 @@ def main(argv):
     except Disagreement as found:
         return told(f"DISAGREEMENT: {found}. The core's answer stands; lineup has misread something and says no more. Please report this.", argv)
     except BrokenPipeError:
-        sys.stderr.close()  # else Python tells of the pipe again when it ends
+        os.dup2(os.open(os.devnull, os.O_WRONLY), sys.stdout.fileno())  # else Python tells of the pipe again when it ends
         return TROUBLE
     except KeyboardInterrupt:
         return TROUBLE

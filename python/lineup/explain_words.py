@@ -50,10 +50,11 @@ def ragged(source, head, what, sizes, values):
         return [f"{len(source.data)} bytes are {len(words)} words of four bytes and {source.tail} over: the file is cut short, or is no word file"]
     if len(words) < head:
         return [f"there are {len(words)} words, and a {what} begins with {head}: {sizes}"]
-    size, given = words[head - 1], len(words)
+    size, given = words[head - 1], max(len(words), len(source.data) // 4 if source.form == "bytes" else 0)
     needed = head + 2 * size
     off = f"{needed - given} too few" if given < needed else f"{given - needed} too many"
-    found = [f"K, the {'third' if head == 3 else 'second'} word, says {size} entries, which makes {head} + 2 * {size} = {needed} words; there are {given}, {off}"]
+    which = "third" if head == NET_HEAD else "second"
+    found = [f"K, the {which} word, says {size} entries, which makes {head} + 2 * {size} = {needed} words; there are {given}, {off}"]
     return found + [f"likely: {cause}" for cause in ragged_causes(words, head, size, values)]
 
 
@@ -64,7 +65,8 @@ def ragged_causes(words, head, size, values):
     if len(rest) % 2 == 0 and rising == len(rest) // 2 != size:
         return [f"K should be {rising}: {rising} words rise as keys do, and as many follow"]
     if rising == size and len(rest) < 2 * size:
-        return [f"the {size} keys are there, and {2 * size - len(rest)} of the {size} {values} missing"]
+        lacking = 2 * size - len(rest)
+        return [f"the {size} keys are there, and {lacking} of the {size} {values} {'is' if lacking == 1 else 'are'} missing"]
     if rising == size - 1 and len(rest) == 2 * size - 1:
         return ["a key is missing"]
     if len(rest) > 2 * size and rising == size:
@@ -118,15 +120,15 @@ def sheet_about(net, sheet, index):
     return sheet_entry(net.words[0], net.words[1], sheet.words[0], sheet.words[SHEET_HEAD + index])
 
 
-def net_said(net, index, weight=""):
+def net_said(net, index, weight=None):
     """What an entry of the net says."""
     what = net_about(net, index)
     place = net.model.places[what[-1]] if net.model else net.names.one("place", what[-1])
+    many = "" if weight is None else f" {weight}"
     if what[0] == "start":
-        return f"{place} starts with {weight}".rstrip()
+        return f"{place} starts with{many}"
     transition = net.model.transitions[what[1]] if net.model else net.names.one("transition", what[1])
-    verb, way = ("takes", "from") if what[0] == "taken" else ("puts", "into")
-    return " ".join(f"{transition} {verb} {weight} {way} {place}".split())
+    return f"{transition} takes{many} from {place}" if what[0] == "taken" else f"{transition} puts{many} into {place}"
 
 
 def sheet_said(net, sheet, index, value=None):

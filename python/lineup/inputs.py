@@ -22,6 +22,10 @@ class Source:
     def is_words(self):
         return self.form in ("decimal words", "bytes")
 
+    def has_names(self):
+        """Whether places and transitions are called by names of their own."""
+        return self.model and (not self.is_words() or self.names.found["place"] or self.names.found["transition"])
+
     def locate(self, *whats):
         """The line and column of the first of these that has one."""
         found = [self.model.where[what] for what in whats if self.model and what in self.model.where]
@@ -92,8 +96,7 @@ def net(path):
     elif not source.tail and faults.net_readable(source.words):
         places, transitions = source.words[:2]
         source.model = words.net_of(source.words, source.names.of("place", places), source.names.of("transition", transitions))
-        at = word_locations(source, words.NET_HEAD, lambda key: words.net_entry(places, transitions, key))
-        source.model.where = at
+        source.model.where = word_locations(source, words.NET_HEAD, lambda key: words.net_entry(places, transitions, key))
     if source.model and not source.words:
         source.words = words.net_words(source.model)
     return source

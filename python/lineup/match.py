@@ -9,7 +9,7 @@ from lineup.visible import inline, quoted
 
 def mapped(source, own, onto):
     """The sheet of a folder, over the folder's own net, as one over the net given."""
-    if own.words == onto.words and (not own.names.path or not own.model or names_of(own.model) == names_of(onto.model)):
+    if own.words == onto.words and not (own.has_names() and onto.has_names() and names_of(own.model) != names_of(onto.model)):
         return source
     if not (own.model and source.model and onto.model):
         message = f"its words cannot be laid over {inline(onto.path)}: lineup check tells what is wrong with them"

@@ -14,8 +14,8 @@ def width(text, size=FONT):
     return size * sum(0.36 if c in NARROW else 0.95 if c in WIDE or ord(c) > 0x2E7F else 0.7 if c.isupper() else 0.6 for c in text)
 
 
-def cut(text):
-    return text if len(text) <= LONGEST else text[: LONGEST - 1] + "\u2026"
+def cut(text, most=LONGEST):
+    return text if len(text) <= most else text[: most - 1] + "\u2026"
 
 
 def rows(parts):

@@ -3,7 +3,7 @@ from xml.sax.saxutils import escape
 
 from lineup import layout
 from lineup.layout import GAP, span
-from lineup.shapes import FONT, LEADING, LOOP, RADIUS, SMALL, Shape, cut, ends, label_piece, width
+from lineup.shapes import FONT, LEADING, LONGEST, LOOP, RADIUS, SMALL, Shape, cut, ends, label_piece, width
 
 MARGIN, HEAD = 20, 8
 INK, LINE, BORDER, FAULT = "#1d2733", "#445566", "#2b4a6f", "#b00020"
@@ -33,7 +33,7 @@ class Drawing:
             self.shape(i, shape)
         left, top, right, bottom = self.borders()
         for text, fault in self.picture.caption:
-            self.write(left + MARGIN, bottom, text, SMALL, FAULT if fault else INK, 'text-anchor="start"')
+            self.write(left + MARGIN, bottom, text, SMALL, FAULT if fault else INK, ' text-anchor="start"', most=len(text))
             right = max(right, left + 2 * MARGIN + width(text, SMALL))
             bottom += LEADING
         at = f'x="{left:.0f}" y="{top:.0f}" width="{right - left:.0f}" height="{bottom - top:.0f}"'
@@ -112,7 +112,7 @@ class Drawing:
             at = f'x="{x - wide:.1f}" y="{y - half:.1f}" width="{2 * wide:.1f}" height="{2 * half:.1f}"'
             self.parts.append(f'<rect {at} rx="{8 if box.kind == "node" else 2}" {look}/>')
         top = y - LEADING * len(shape.rows) / 2 + 4
-        self.write(x, top, box.title, FONT, INK, 'font-weight="bold"')
+        self.write(x, top, box.title, FONT, INK, ' font-weight="bold"')
         self.rows(shape.rows, x, top + LEADING)
         if shape.loops:
             self.loop(shape)
@@ -125,9 +125,9 @@ class Drawing:
             texts = [f'<tspan fill="{FAULT}" font-weight="bold">{escape(text)}</tspan>' if fault else escape(text) for text, fault in row]
             self.parts.append(f'<text x="{x:.1f}" y="{y + LEADING * i:.1f}" font-size="{SMALL}" fill="{INK}">{", ".join(texts)}</text>')
 
-    def write(self, x, y, text, size, colour, style=""):
-        """A text at its middle; a long name is cut, and whole where the pointer rests on it."""
-        short = text if "start" in style else cut(text)
+    def write(self, x, y, text, size, colour, style="", most=LONGEST):
+        """A text; a long name is cut, and whole where the pointer rests on it."""
+        short = cut(text, most)
         whole = f"<title>{escape(text)}</title>" if short != text else ""
         if text:
-            self.parts.append(f'<text x="{x:.1f}" y="{y:.1f}" font-size="{size}" fill="{colour}" {style}>{whole}{escape(short)}</text>'.replace(" >", ">", 1))
+            self.parts.append(f'<text x="{x:.1f}" y="{y:.1f}" font-size="{size}" fill="{colour}"{style}>{whole}{escape(short)}</text>')

@@ -45,8 +45,8 @@ class Cursor:
 
     def __init__(self, path, number, text):
         self.path, self.number, self.at = path, number, 0
+        self.end = 1  # the column after the last token
         self.tokens = list(self.split(text))
-        self.end = len(text.rstrip()) + 1
 
     def split(self, text):
         here = 0
@@ -55,12 +55,13 @@ class Cursor:
             if not found:
                 self.fail(ELSEWHERE.get(text[here], f"{quoted(text[here])} has no meaning here"), here + 1)
             kind, column, here = found.lastgroup, here + 1, found.end()
-            if kind == "braced":
-                name = re.sub(r"\\(.)", r"\1", found.group(kind))
+            if kind == "blank":
+                continue
+            self.end = here + 1
+            if kind in ("braced", "bare"):
+                name = re.sub(r"\\(.)", r"\1", found[kind]) if kind == "braced" else found[kind]
                 yield "name", named(name, lambda what, column=column: self.fail(what, column)), column
-            elif kind == "bare":
-                yield "name", named(found.group(), lambda what, column=column: self.fail(what, column)), column
-            elif kind != "blank":
+            else:
                 yield found.group(), found.group(), column
 
     def fail(self, message, column=None):

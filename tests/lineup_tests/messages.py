@@ -28,6 +28,7 @@ NETS = [
     ("tr t [0,4] a -> b\n", "1:6", ["intervals", "no clocks"]),
     ("tr t ]0,4] a -> b\n", "1:6", ["intervals"]),
     ("net\n", "1:4", ["the net's name is expected, not the end of the line"]),
+    ("net   # a remark\n", "1:4", ["the net's name is expected, not the end of the line"]),
     ("net a b\n", "1:7", ["'b' after the net's name"]),
     ("sheet jetty\n", "1:1", ["a line of a sheet", "swapped"]),
     ("idle: header\n", "1:1", ["a line of a sheet", "swapped"]),

@@ -127,7 +127,7 @@ def as_json(tally, folder):
     tally.same("a refusal in JSON", told, should)
     tally.holds("the core in JSON", refusal["core"][0], "answer 11 node 1")
     found = lineup(folder, "check", "x.nett", "x.sheet", "--json")
-    tally.same("trouble in JSON", (found[0], json.loads(found[1])["trouble"]["file"]), (2, "x.nett"))
+    tally.same("trouble in JSON", (found[0], json.loads(found[1])["trouble"]["path"]), (2, "x.nett"))
 
 
 def word_files(tally, folder):
@@ -139,10 +139,10 @@ def word_files(tally, folder):
         "swapped": (sheet, net, ["refused, 1", "likely: net and sheet are swapped; that way the core accepts them", "answer 0 none 0 nodes 2 arcs 2 awaits 1"]),
         "the wrong way round": (turned(net), turned(sheet), ["refused, 2", "likely: the bytes of each word stand the wrong way round", "answer 0 none 0 nodes 2"]),
         "text called .bin": (b"1 2 2 # sizes\n1 2 1 1", b"2 3 0 3 5 1 0 1", ["likely: a file of decimal words is called .bin", "answer 0 none 0 nodes 2"]),
-        "one word less": (net, sheet[:-4], ["K, the second word, says 3 entries, which makes 2 + 2 * 3 = 8 words; there are 7, 1 too few", "likely: the 3 keys are there, and 1 of the 3 values missing"]),
+        "one word less": (net, sheet[:-4], ["K, the second word, says 3 entries, which makes 2 + 2 * 3 = 8 words; there are 7, 1 too few", "likely: the 3 keys are there, and 1 of the 3 values is missing"]),
         "another K": (net, struct.pack("<8I", 2, 4, 0, 3, 5, 1, 0, 1), ["likely: K should be 3"]),
         "something over": (net, sheet + struct.pack("<2I", 0, 0), ["2 too many", "something follows them"]),
-        "cut short": (net, sheet[:20], ["likely: the 3 keys are there, and 3 of the 3 values missing"]),
+        "cut short": (net, sheet[:20], ["likely: the 3 keys are there, and 3 of the 3 values are missing"]),
         "a key less": (struct.pack("<6I", 1, 2, 2, 1, 1, 1), sheet, ["likely: a key is missing"]),
         "hardly a net": (net[:8], sheet, ["there are 2 words, and a net begins with 3"]),
         "empty": (b"", b"", ["there are 0 words"]),

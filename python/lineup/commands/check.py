@@ -32,7 +32,8 @@ def net_alone(net):
     model = net.model
     report = Report(accepted=True, places=model.places, transitions=model.transitions, sources=[model.transitions[t] for t in model.sources()])
     report.say(f"{inline(net.path)}: accepted, as a net")
-    report.say(f"  {plural(len(model.places), 'place')}, {plural(len(model.transitions), 'transition')}; sources: {model.listed(model.sources())}")
+    report.say(f"  {plural(len(model.places), 'place')}: {', '.join(model.places)}")
+    report.say(f"  {plural(len(model.transitions), 'transition')}: {', '.join(model.transitions)}; sources: {model.listed(model.sources())}")
     return report.quote(answer)
 
 

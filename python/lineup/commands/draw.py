@@ -2,6 +2,7 @@
 import os
 import shutil
 import subprocess
+from textwrap import wrap
 
 from lineup import core, dot, files, picture, svg
 from lineup.explain import explain
@@ -13,6 +14,8 @@ from lineup.visible import inline
 SUMMARY = "draw a schedule, or a net, as dot or SVG; with graphviz also as PNG or PDF"
 EXAMPLE = "lineup draw samples/jetty/jetty.net samples/jetty/may.sheet -o jetty.svg"
 OUTPUT = "write to FILE, by its suffix: .dot, .svg, or with graphviz .png and .pdf; without -o, dot on standard output"
+
+WIDE = 120  # characters of a line below a picture
 
 
 def arguments(parser):
@@ -53,9 +56,10 @@ def painted(both, of_net, bounds, refused):
     else:
         drawn = picture.of_sheet(net, sheet, marks)
         if bounds:
-            drawn.caption.append(("bounds: " + ", ".join(f"{name} <= {bound}" for name, bound in zip(net.places, bounds)), False))
+            told = "bounds: " + ", ".join(f"{name} <= {bound}" for name, bound in zip(net.places, bounds))
+            drawn.caption += [(line, False) for line in wrap(told, WIDE)]
     if refused:
-        drawn.caption += [(line, True) for line in [refused.title(), *refused.lines]]
+        drawn.caption += [(line, True) for told in [refused.title(), *refused.lines] for line in wrap(told, WIDE)]
     return drawn
 
 

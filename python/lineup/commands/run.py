@@ -1,4 +1,4 @@
-"""lineup run: fires a list of transitions from the first node, as far as the sheet allows it."""
+"""lineup run: fires a list of transitions from the first node, or tells the first that the sheet does not allow."""
 import unicodedata
 
 from lineup import core, explain, inputs, pair
