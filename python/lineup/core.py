@@ -76,7 +76,7 @@ def ask(*calls):
     text = "\n".join(calls) + "\n0\n"
     lines = played(home.program("calls"), text, None).splitlines()
     if lines and lines[-1] == "too long":
-        raise Trouble("more words in one call than the core's program takes: a list of firings may have about 7,000")
+        raise Trouble("more words than the core's program takes in one call: net, sheet and firings may have 20,000 together")
     if len(lines) != len(calls):
         raise Trouble(f"the core gave {len(lines)} answers to {len(calls)} calls")
     return [Answer(line) for line in lines]

@@ -43,6 +43,9 @@ def arrange(boxes, arrows, column):
 
 def columns_of(count, arrows, roots):
     """The column of each box: one after all boxes that were found before it, breadth first from the roots, and that an arrow joins to it."""
+    follow = [[] for _ in range(count)]
+    for a, b in arrows:
+        follow[a].append(b)
     found, seen = [], set()
     for root in [*roots, *range(count)]:
         queue = deque([root] if root not in seen else [])
@@ -50,9 +53,8 @@ def columns_of(count, arrows, roots):
         while queue:
             here = queue.popleft()
             found.append(here)
-            follow = [b for a, b in arrows if a == here and b not in seen]
-            queue.extend(dict.fromkeys(follow))
-            seen.update(follow)
+            queue.extend(dict.fromkeys(b for b in follow[here] if b not in seen))
+            seen.update(follow[here])
     turn = {box: i for i, box in enumerate(found)}
     column = [0] * count
     joined = sorted({(turn[a], turn[b]) if turn[a] < turn[b] else (turn[b], turn[a]) for a, b in arrows if a != b})

@@ -67,6 +67,7 @@ class Reader:
             line.take(")", "')'")
             if count:
                 self.net.start[p] = count
+        self.no_label(line)
         if line.kind() in ("name", "->"):
             line.fail("arcs stand on the lines of transitions: tr NAME places -> places")
         line.finish(f"place {quoted(name)}")
@@ -79,11 +80,18 @@ class Reader:
         t = self.transition_numbers[name] = len(self.net.transitions)
         self.net.transitions.append(name)
         self.net.where["transition", t] = (line.number, column)
+        self.no_label(line)
+        if line.kind() == "[0,w[":
+            line.at += 1  # any time from now on: no clock
         self.net.taken.append(self.bag(line, "taken", t))
         if line.left() or self.net.taken[t]:
             line.take("->", "'->' between what is taken and what is put")
         self.net.put.append(self.bag(line, "put", t))
         line.finish("what is put")
+
+    def no_label(self, line):
+        if line.kind() == ":":
+            line.fail("labels (':') are not part of a place/transition net")
 
     def bag(self, line, what, t):
         found = line.bag(lambda name, column: self.place(name, line, column), self.net.places)

@@ -37,23 +37,27 @@ class Reader:
         if kind.rpartition("/")[2] != "ptnet":
             self.fail(nets[0], f"the net's type is {quoted(kind)}, and only place/transition nets ('ptnet') are read")
         self.net.name = self.label(nets[0], "name") and self.name(nets[0]) or ""
-        self.page(nets[0])
+        self.pages(nets[0])
         for arc in self.arcs:
             self.arc(arc)
         return self.net
 
-    def page(self, page):
-        self.only(page, "net")
-        for child in page.children:
-            if child.tag == "page":
-                self.page(child)
-            elif child.tag == "place":
-                self.place(child)
-            elif child.tag == "transition":
-                self.transition(child)
-            elif child.tag == "arc":
-                self.only(child, "arc")
-                self.arcs.append(child)  # its ends may stand further down
+    def pages(self, net):
+        """The places, transitions and arcs of the net and its pages, one within the other to any depth."""
+        todo = [net]
+        while todo:
+            page = todo.pop(0)
+            self.only(page, "net")
+            for child in page.children:
+                if child.tag == "page":
+                    todo.append(child)
+                elif child.tag == "place":
+                    self.place(child)
+                elif child.tag == "transition":
+                    self.transition(child)
+                elif child.tag == "arc":
+                    self.only(child, "arc")
+                    self.arcs.append(child)  # its ends may stand further down
 
     def only(self, element, kind):
         """Refuses what no place/transition net has, by its name."""

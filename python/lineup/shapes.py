@@ -68,11 +68,14 @@ class Shape:
         return self.piece.x + side * dx, self.piece.y + dy
 
 
-def ends(arrows, i, column):
-    """How many arrows come to the fuller side of a box."""
-    others = [arrow.target if arrow.source == i else arrow.source for arrow in arrows if i in (arrow.source, arrow.target)]
-    right = sum(column[other] > column[i] for other in others)
-    return max(right, len(others) - right)
+def ends(arrows, column):
+    """For each box how many arrows come to its fuller side."""
+    left, right = [0] * len(column), [0] * len(column)
+    for arrow in arrows:
+        first, last = sorted((arrow.source, arrow.target), key=lambda box: column[box])
+        right[first] += 1
+        left[last] += 1
+    return [max(both) for both in zip(left, right)]
 
 
 def label_piece(arrow):

@@ -21,7 +21,8 @@ class Drawing:
         loops = {arrow.source: arrow.labels for arrow in picture.arrows if arrow.source == arrow.target}
         self.arrows = [arrow for arrow in picture.arrows if arrow.source != arrow.target]
         column = layout.columns_of(len(picture.boxes), [(arrow.source, arrow.target) for arrow in self.arrows], picture.roots)
-        self.shapes = [Shape(box, loops.get(i, []), ends(self.arrows, i, column)) for i, box in enumerate(picture.boxes)]
+        sides = ends(self.arrows, column)
+        self.shapes = [Shape(box, loops.get(i, []), sides[i]) for i, box in enumerate(picture.boxes)]
         lines = [(arrow.source, arrow.target, label_piece(arrow)) for arrow in self.arrows]
         self.columns, self.ways = layout.arrange([shape.piece for shape in self.shapes], lines, column)
 
@@ -52,12 +53,15 @@ class Drawing:
 
     def ports(self):
         """Where each way touches its boxes: on a side its ends stand below each other, in the order of where they lead."""
+        touching = {}
+        for way in self.ways:
+            touching.setdefault((way.left, 1), []).append((way.pieces[0].y, way))
+            touching.setdefault((way.right, -1), []).append((way.pieces[-1].y, way))
         found = {}
         for shape in self.shapes:
             for side in (-1, 1):
-                ways = [way for way in self.ways if (way.right if side < 0 else way.left) is shape.piece]
-                ways.sort(key=lambda way: way.pieces[-1 if side < 0 else 0].y)
-                for i, way in enumerate(ways, 1):
+                ways = sorted(touching.get((shape.piece, side), []), key=lambda end: end[0])
+                for i, (_, way) in enumerate(ways, 1):
                     found[way, side] = shape.port(i / (len(ways) + 1), side)
         return found
 

@@ -11,7 +11,8 @@ def told():
     if os.path.exists(path):
         with open(path, encoding="utf-8") as file:
             return file.read().strip()
-    commit = output(["git", "-C", HOME, "rev-parse", "--short=12", "HEAD"]) or "unknown"
+    own = output(["git", "-C", HOME, "rev-parse", "--show-toplevel"]) == os.path.realpath(HOME)  # and not a repository around it
+    commit = own and output(["git", "-C", HOME, "rev-parse", "--short=12", "HEAD"]) or "unknown"
     changed = ", with changes" if output(["git", "-C", HOME, "status", "--porcelain", "--untracked-files=no"]) else ""
     return f"lineup of Wulthrein\ncommit {commit}{changed}\nkit {output(['rt', 'version']) or 'unknown: rt is not on the path'}"
 

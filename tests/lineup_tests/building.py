@@ -24,7 +24,8 @@ def run(tally):
             stages(tally, folder)
         finally:
             home.HOME, os.environ["PATH"] = before
-            os.environ.pop("RT_STATUS", None)
+            for name in ("RT_STATUS", "CALLED"):
+                os.environ.pop(name, None)
 
 
 def stages(tally, folder):

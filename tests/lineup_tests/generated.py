@@ -1,4 +1,5 @@
 """Nets and sheets from the independent implementation, and the sources that lineup would read for them."""
+import functools
 import os
 import subprocess
 
@@ -8,7 +9,9 @@ from lineup.home import HOME
 REFERENCE = os.path.join(HOME, "target", "reference", "release", "reference")
 
 
+@functools.cache
 def build():
+    """Builds the independent implementation, once; where nothing has changed that takes no time."""
     environment = {**os.environ, "CARGO_TARGET_DIR": os.path.join(HOME, "target", "reference")}
     folder = os.path.join(HOME, "tests", "reference")
     subprocess.run(["cargo", "build", "--quiet", "--release", "--offline"], cwd=folder, env=environment, check=True)
@@ -16,8 +19,7 @@ def build():
 
 def lines(command, seed, count):
     """The operation and the numbers of each part of generated cases."""
-    if not os.path.exists(REFERENCE):
-        build()
+    build()
     done = subprocess.run([REFERENCE, command, str(seed), str(count)], capture_output=True, text=True, check=True)
     for line in done.stdout.splitlines():
         parts = {}

@@ -1,9 +1,12 @@
 """What a terminal would obey never comes through: not from names, not from file names, not from arguments, in no form of output."""
 import os
+import random
 import re
 import tempfile
 
 from called import lineup, program
+from lineup import netfile, pnml
+from lineup.home import HOME
 
 RED, CLEAR, TITLE, TURN = "\x1b[31m", "\x1b[2J", "\x1b]0;owned\x07", "\u202e"
 NASTY = [RED, CLEAR, TITLE, TURN, "\x9b31m", "\r", "\x08", "\u2066", "\u200b", "\x7f", "\x00"]
@@ -20,13 +23,14 @@ def run(tally):
         by_program(tally, folder)
         file_names(tally, folder)
         plain_terminals(tally, folder)
+    any_bytes(tally)
 
 
 def save(folder, name, text):
     path = os.path.join(folder, name)
     os.makedirs(os.path.dirname(path), exist_ok=True)
     with open(path, "wb") as file:
-        file.write(text.encode("utf-8", "surrogateescape"))
+        file.write(text if isinstance(text, bytes) else text.encode("utf-8", "surrogateescape"))
 
 
 def clean(tally, what, folder, *arguments, status=2):
@@ -93,3 +97,50 @@ def plain_terminals(tally, folder):
     tally.same("names beyond ASCII", (status, errors), (0, ""))
     status, output, _ = lineup(folder, "names", "far.net")
     tally.same("names beyond ASCII are kept", (status, output.split("\n")[0]), (0, "pl {船 1}"))
+
+
+# ---- files with anything in them
+
+JETTY = os.path.join(HOME, "samples", "jetty")
+BITS = [b"->", b"*", b":", b"{", b"}", b"(", b")", b"pl ", b"tr ", b"net ", b"sheet ", b"0", b"4294967295", b"4294967296", b"33", b"\x1b", b"\xff", b"\n", b"#", b"tank1", b"<", b"\\"]
+COMMANDS = [
+    "check jetty.net may.sheet", "check w", "check w may.sheet", "check jetty.net w", "check jetty.pnml may.sheet", "diff jetty.net may.sheet june.sheet",
+    "diff jetty.net may.sheet w", "short w", "bounds w", "run w berth line-up", "words jetty.net may.sheet", "names w", "names jetty.pnml",
+    "draw w -o x.svg", "draw --net w -o x.svg", "draw jetty.net may.sheet",
+]
+
+
+def any_bytes(tally):
+    """Whatever stands in the files, a command ends with one of its three statuses, and not in a defect or a disagreement."""
+    random.seed(2026)
+    files = {name: read(name) for name in ("jetty.net", "may.sheet", "june.sheet", "net.txt", "sheet.txt", "names.txt")}
+    files["jetty.pnml"] = pnml.write(netfile.read("", files["jetty.net"].decode())).encode()
+    with tempfile.TemporaryDirectory() as folder:
+        for turn in range(240):
+            for name, data in files.items():
+                save(folder, f"w/{name}" if name.endswith(".txt") else name, damaged(data) if random.random() < 0.4 else data)
+            command = random.choice(COMMANDS)
+            status, output, errors = lineup(folder, *command.split())
+            well = status in (0, 1, 2) and not re.search("defect|DISAGREEMENT", errors) and not OBEYED.search(output + errors)
+            tally.check(f"turn {turn}: {command}", well, ascii(errors[-600:]))
+
+
+def read(name):
+    with open(os.path.join(JETTY, name), "rb") as file:
+        return file.read()
+
+
+def damaged(data):
+    data = bytearray(data)
+    for _ in range(random.choice([1, 1, 2, 4])):
+        at, from_ = random.randrange(len(data) + 1), random.randrange(len(data) + 1)
+        kind = random.randrange(4)
+        if kind == 0:
+            data[at:at] = random.choice(BITS)
+        elif kind == 1:
+            del data[at : at + random.choice([1, 2, 5, 20])]
+        elif kind == 2:
+            data[at:at] = data[from_ : from_ + random.choice([3, 10, 40])]
+        else:
+            data[at : at + 1] = bytes([random.randrange(256)])
+    return bytes(data)

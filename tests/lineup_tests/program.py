@@ -202,7 +202,7 @@ def trouble(tally, folder):
         tally.holds(f"{command!r}: errors", found[2], errors)
         tally.holds(f"{command!r}: output", found[1], output)
     long = lineup(folder, "run", "x.net", "x.sheet", *["s", "u"] * 11_000)
-    tally.same("a list that is too long", (long[0], "about 7,000" in long[2]), (2, True))
+    tally.same("a list that is too long", (long[0], "20,000 together" in long[2]), (2, True))
     hundreds = lineup(folder, "run", "x.net", "x.sheet", *["s", "u"] * 3_000)
     tally.holds("a long list", hundreds[1], "fired 6000 node 0")
 

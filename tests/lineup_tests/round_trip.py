@@ -6,7 +6,8 @@ import tempfile
 import generated
 from lineup import files, inputs, names, netfile, pnml, sheetfile, wordfile, words, wordtext
 
-ODD = ["tank 1", "a{b}", "back\\slash", "{", "}", "->", "-", "#1", "p*2", "(x)", "a:b", "net", "pl", "tr", "sheet", "nt", "'", "1", "007", "ä", "Ωmega", "船", '"q"', "a&b<c>", "x->y", "a.b-c", "é"]
+ODD = ["tank 1", "a{b}", "back\\slash", "{", "}", "->", "-", "#1", "p*2", "(x)", "a:b", "net", "pl", "tr", "sheet", "nt", "[0,w["]
+ODD += ["'", "1", "007", "ä", "Ωmega", "船", '"q"', "a&b<c>", "x->y", "a.b-c", "é"]
 
 
 def run(tally):
