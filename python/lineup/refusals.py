@@ -26,7 +26,7 @@ REFUSALS = {
     ),
     5: Refusal(
         "no source",
-        "Every transition takes something, so nothing comes from outside: no ship, no order, no lab result that one could wait for.",
+        "Every transition takes something, so nothing can come from outside that one could wait for: no ship, no order.",
         "Give the net the event that starts the work, as a transition that takes nothing.",
     ),
     6: Refusal(
@@ -86,7 +86,7 @@ REFUSALS = {
     ),
     17: Refusal(
         "no way home",
-        "From this node the plant can go on for ever and never again wait for what comes from outside.",
+        "Whatever happens from this node on, the plant never again waits for what comes from outside.",
         "Lead some arrow from here, or from a node that follows, to a node that waits.",
     ),
     18: Refusal(
