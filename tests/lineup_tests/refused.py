@@ -16,7 +16,8 @@ def run(tally):
     for i, ((net, sheet, record), answer) in enumerate(zip(cases, checked)):
         met[answer.number] += 1
         told(tally, f"case {i}", net, sheet, answer)
-        if answer.number and net.model and sheet.model:
+        small = len(sheet.words) < 1500 or i % 5 == 0  # the largest take most of the time
+        if answer.number and net.model and sheet.model and small:
             as_text(tally, f"case {i} as text", net, sheet, answer)
     runs(tally, [(net, sheet, record) for (net, sheet, record), answer in zip(cases, checked) if record is not None and not answer.number], met)
     tally.same("numbers met", sorted(met), [*range(18), 20])
