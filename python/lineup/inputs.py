@@ -5,6 +5,7 @@ import re
 from lineup import faults, files, names, netfile, sheetfile, wordfile, words
 from lineup.match import mapped
 from lineup.trouble import Trouble
+from lineup.visible import quoted
 
 FORMS = {".bin": "bytes", ".txt": "decimal words", ".pnml": "PNML", ".net": "text", ".sheet": "text"}
 REMARKS = re.compile(rb"(?:\xef\xbb\xbf)?\s*(?:#[^\n]*\n\s*)*")
@@ -56,7 +57,9 @@ def in_folder(folder, name):
         path = os.path.join(folder, name + suffix)
         if os.path.exists(path):
             return path
-    raise Trouble(f"the folder has no {name}.bin and no {name}.txt", folder)
+    texts = sorted(other for other in os.listdir(folder) if other.endswith(f".{name}"))
+    instead = f"; {quoted(texts[0])} is a text, and is named itself" if texts else ""
+    raise Trouble(f"the folder has no {name}.bin and no {name}.txt{instead}", folder)
 
 
 def has_sheet(path):

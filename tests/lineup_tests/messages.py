@@ -162,6 +162,8 @@ def in_files(tally, folder):
     expect(tally, "a file below a file", lambda: inputs.net(path("jetty.net/x")), "", ["not a directory"])
     os.makedirs(path("bare"))
     expect(tally, "no words", lambda: inputs.net(path("bare")), "", ["the folder has no net.bin and no net.txt"])
+    path("bare/jetty.net", NET)
+    expect(tally, "a text in a folder", lambda: inputs.net(path("bare")), "", ["no net.txt; 'jetty.net' is a text, and is named itself"])
     expect(tally, "PNML for a sheet", lambda: inputs.sheet(path("a.pnml", "<pnml/>"), inputs.net(path("jetty.net"))), "", ["PNML is for nets", "swapped"])
     expect(tally, "a place to write", lambda: files.write(path("no/such/file"), "x"), "", ["cannot be written: no such file or directory"])
     for i, (text, where, parts) in enumerate(NAMES):

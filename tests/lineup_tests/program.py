@@ -221,6 +221,8 @@ def disagreements(tally, folder):
             ("run x.net x.sheet s", "node 1", "node 0"),
             ("run x.net x.sheet s s", "record 1", "record 0"),
             ("diff x.net x.sheet greedy.sheet", "answer 20", "answer 0"),
+            ("diff x.net torn.sheet x.sheet", "answer 11 node 1 length 0", "answer 0 none 0 length 0"),
+            ("short x.net torn.sheet", "answer 11 node 1 length 0", "answer 0 none 0 length 0"),
             ("diff x.net x.sheet longer.sheet", "0 3 5 1 0 1", "0 3 5 1 0 2"),
             ("short x.net longer.sheet", "0 3 5 1 0 1 ", "0 3 5 0 1 1 "),
         ):

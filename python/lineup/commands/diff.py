@@ -1,5 +1,5 @@
 """lineup diff: whether two sheets of a net allow the same firings, and if not, a shortest list that only one allows."""
-from lineup import core, inputs, pair
+from lineup import core, explain, inputs, pair
 from lineup.compare import parting
 from lineup.explain import Disagreement
 from lineup.report import REFUSED, TROUBLE, Report, plural
@@ -26,6 +26,7 @@ def compared(pairs):
     for both, form in zip(pairs, forms):
         if form.number:
             return not_compared(both, form)
+        explain.agree(form, both.net, both.sheet)
     found = parting(*(both.sheet.model for both in pairs))
     equal = written(forms[0]) == written(forms[1])
     if equal != (found is None):
@@ -61,8 +62,7 @@ def different(pairs, firings, nodes):
         mine, other = pairs[i].sheet.model, pairs[1 - i].sheet.model
         last = min(t for t in mine.arcs[nodes[i]] if t not in other.arcs[nodes[1 - i]])
         allowed, refused = confirmed(pairs[i], pairs[1 - i], [*firings, last])
-        name = inline(pairs[i].sheet.path)
-        side = {"sheet": name, "node": mine.nodes[nodes[i]], "only_here": [net.transitions[t] for t in [*firings, last]]}
+        side = {"sheet": pairs[i].sheet.path, "node": mine.nodes[nodes[i]], "only_here": [net.transitions[t] for t in [*firings, last]]}
         side.update(lands_on=mine.nodes[mine.arcs[nodes[i]][last]], offers=[net.transitions[t] for t in sorted(mine.arcs[nodes[i]])])
         side.update(core={"here": allowed.line, "there": refused.line})
         report.data["sides"].append(side)
@@ -80,13 +80,14 @@ def confirmed(mine, other, record):
 
 def told(report, held, firings):
     sides = report.data["sides"]
+    names = [inline(side["sheet"]) for side in sides]
     report.say(f"different: after {plural(len(firings), 'firing')} in common the sheets go on differently")
     if firings:
         report.say("  in common: " + ", ".join(report.data["before"]))
     report.say(f"  then the places hold: {held}")
-    for side in sides:
-        report.say(f"  {side['sheet']} stands at node {side['node']} and offers {', '.join(side['offers'])}")
+    for name, side in zip(names, sides):
+        report.say(f"  {name} stands at node {side['node']} and offers {', '.join(side['offers'])}")
     for i, side in enumerate(sides):
-        report.say(f"only {side['sheet']} allows: {', '.join(side['only_here'])}")
-        report.say(f"  core: {side['sheet']}: {side['core']['here']}", f"  core: {sides[1 - i]['sheet']}: {side['core']['there']}")
+        report.say(f"only {names[i]} allows: {', '.join(side['only_here'])}")
+        report.say(f"  core: {names[i]}: {side['core']['here']}", f"  core: {names[1 - i]}: {side['core']['there']}")
     return report

@@ -42,7 +42,7 @@ def main(args):
         remarks = [f"// {line}" for line, _ in drawn.caption] + [f"// core: {answers[0].line}"]
         return report.say(*remarks, *text.splitlines())
     write(args.output, drawn, text, args.graphviz)
-    report.data["written"] = inline(args.output)
+    report.data["written"] = args.output
     report.say(f"written: {inline(args.output)}")
     return report.say(*([f"  {refused.title()}: lineup check explains it"] if refused else [])).quote(answers[0])
 

@@ -30,7 +30,7 @@ def main(args):
     if not args.output:
         return report.say(*"\n".join(texts.values()).splitlines())
     stem = next((args.output[: -len(suffix)] for suffix in SUFFIXES if args.output.endswith(suffix)), args.output)
-    report.data["written"] = [inline(stem + suffix) for suffix in texts]
+    report.data["written"] = [stem + suffix for suffix in texts]
     for suffix, text in texts.items():
         files.write(stem + suffix, text)
         report.say(f"written: {inline(stem + suffix)}")

@@ -1,5 +1,5 @@
 """lineup short: the short form of a sheet, in which nodes that hold the same and allow the same firings are one, as a sheet again."""
-from lineup import core, files, names, pair, sheetfile, words
+from lineup import core, explain, files, names, pair, sheetfile, words
 from lineup.compare import merged
 from lineup.explain import Disagreement
 from lineup.report import Report, plural
@@ -20,6 +20,7 @@ def main(args):
     answer = both.ask(core.short)[0]
     if answer.number:
         return both.refusal(answer)
+    explain.agree(answer, both.net, both.sheet)
     net, sheet = both.net.model, both.sheet.model
     form, classes = named(net, sheet, answer)
     remarks = [f"the short form of {inline(both.sheet.path)}: {plural(len(sheet.nodes), 'node')} became {len(form.nodes)}"]

@@ -35,7 +35,7 @@ def main(args):
         path = os.path.join(args.output, name)
         files.write(path, data)
         report.say(f"written: {inline(path)}")
-    report.data["written"] = [inline(os.path.join(args.output, name)) for name in written]
+    report.data["written"] = [os.path.join(args.output, name) for name in written]
     return report
 
 
