@@ -1,6 +1,6 @@
 """A refusal in the words of the planner: what is wrong, where it stands, what to do. The number and the position are the core's."""
 from lineup import explain_schedule, explain_words, faults
-from lineup.refusals import REFUSALS
+from lineup.refusals import OF_NET, OF_RECORD, OF_WORDS, REFUSALS
 
 
 class Explanation:
@@ -41,10 +41,10 @@ def agree(answer, net, sheet, record=None):
 def explain(answer, net, sheet, record=None):
     """The explanation of a refusal."""
     agree(answer, net, sheet, record)
-    if answer.number <= 5:
+    if answer.number in OF_NET:
         return Explanation(answer, net, *explain_words.net_fault(answer, net))
-    if answer.number <= 9:
+    if answer.number in OF_WORDS:
         return Explanation(answer, sheet, *explain_words.sheet_fault(answer, net, sheet))
-    if answer.number == 20:
+    if answer.number in OF_RECORD:
         return Explanation(answer, sheet, *explain_schedule.record_fault(answer, net.model, sheet, record))
     return Explanation(answer, sheet, *explain_schedule.FAULTS[answer.number](answer.index, net.model, sheet))

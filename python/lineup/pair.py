@@ -1,6 +1,7 @@
 """A net and a sheet, what the core answers for them, and that this agrees with what can be seen in them."""
 from lineup import causes, core, explain, inputs
 from lineup.explain import Disagreement
+from lineup.refusals import OF_NET, OF_WORDS
 from lineup.report import refused
 from lineup.trouble import Trouble
 from lineup.wordfile import packed
@@ -25,7 +26,7 @@ class Pair:
 
     def refusal(self, answer, record=None):
         """The report of a refusal by the core."""
-        likely = causes.likely(self.net, self.sheet) if answer.number <= 9 else []
+        likely = causes.likely(self.net, self.sheet) if answer.number in OF_NET | OF_WORDS else []
         return refused(explain.explain(answer, self.net, self.sheet, record), answer, likely)
 
     def agree(self, checked, bounds):

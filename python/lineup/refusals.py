@@ -3,6 +3,9 @@ from collections import namedtuple
 
 Refusal = namedtuple("Refusal", "word meaning remedy")
 
+# which are about the net, about the words of a sheet, and about a list of firings; the others are about a sheet that can be read
+OF_NET, OF_WORDS, OF_RECORD = {1, 2, 3, 4, 5}, {6, 7, 8, 9}, {20}
+
 REFUSALS = {
     1: Refusal(
         "ragged net",

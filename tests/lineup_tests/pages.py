@@ -30,11 +30,11 @@ def replayed(page):
         with open(os.path.join(folder, "run"), "w", encoding="utf-8") as file:
             file.write(f'#!/bin/sh\nexec "{HOME}/run" "$@"\n')
         os.chmod(os.path.join(folder, "run"), 0o755)
-        session = Session(folder)
-        return re.sub(r"(?m)^    \$ (.*)\n((?:    (?!\$ ).*\n|\n(?=(?:\n)*    (?!\$ )))*)", session.command, page)
+        shell = Shell(folder)
+        return re.sub(r"(?m)^    \$ (.*)\n((?:    (?!\$ ).*\n|\n(?=(?:\n)*    (?!\$ )))*)", shell.command, page)
 
 
-class Session:
+class Shell:
     def __init__(self, folder):
         self.folder, self.status = folder, 0
 
