@@ -76,8 +76,8 @@ def told(trouble, argv):
     """A trouble as text, and as JSON too where that was asked for."""
     out(f"lineup: {trouble}\n", sys.stderr)
     if "--json" in argv:
-        known = ("message", "path", "line", "column")
-        out(as_json({"trouble": {name: getattr(trouble, name) for name in known} if isinstance(trouble, Trouble) else {"message": trouble}}))
+        found = trouble if isinstance(trouble, Trouble) else Trouble(trouble)
+        out(as_json({"trouble": {"message": found.message, "file": found.path, "line": found.line, "column": found.column}}))
     return TROUBLE
 
 

@@ -127,7 +127,7 @@ def as_json(tally, folder):
     tally.same("a refusal in JSON", told, should)
     tally.holds("the core in JSON", refusal["core"][0], "answer 11 node 1")
     found = lineup(folder, "check", "x.nett", "x.sheet", "--json")
-    tally.same("trouble in JSON", (found[0], json.loads(found[1])["trouble"]["path"]), (2, "x.nett"))
+    tally.same("trouble in JSON", (found[0], json.loads(found[1])["trouble"]["file"]), (2, "x.nett"))
 
 
 def word_files(tally, folder):
