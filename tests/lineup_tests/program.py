@@ -259,7 +259,7 @@ def usage(tally, folder):
 
 def largest(tally, folder):
     """Start-up under a third of a second, the largest sheet under one."""
-    best = [min(timed(folder, *command) for _ in range(3)) for command in (["--help"], ["check", "x.net", "x.sheet"])]
+    best = [min(timed(folder, *command) for _ in range(5)) for command in (["--help"], ["check", "x.net", "x.sheet"])]
     tally.check(f"start-up: {best[0]:.2f} s, a small check: {best[1]:.2f} s", max(best) < 0.33, best)
     found = max(((net, sheet) for net, sheet, _ in generated.siblings(5, 120)), key=lambda pair: len(pair[1].words))
     tally.same("words of the largest sheet", len(found[1].words), 8194)
