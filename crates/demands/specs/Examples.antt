@@ -64,10 +64,11 @@ Starred = AllHold starred
 
 -- ---- further rows
 
--- two places and two nodes, so that a count key is told from its like by place; and a key at the limit V × (T + P)
+-- §14.1, with two places, so that a count key is told from its like by place, and the same with a wrong last word; and a key at the limit of §3.4
 abbrev pub further : List Row
 further =
-    row (2 ∷ 2 ∷ 3 ∷ 2 ∷ 4 ∷ 9 ∷ 1 ∷ 1 ∷ 1 ∷ []) (2 ∷ 5 ∷ 0 ∷ 3 ∷ 5 ∷ 6 ∷ 7 ∷ 1 ∷ 0 ∷ 1 ∷ 1 ∷ 1 ∷ []) (0 ∷ 0 ∷ 0 ∷ 2 ∷ 2 ∷ 1 ∷ []) (2 ∷ 5 ∷ 0 ∷ 3 ∷ 5 ∷ 6 ∷ 7 ∷ 1 ∷ 0 ∷ 1 ∷ 1 ∷ 1 ∷ [])
+    row (2 ∷ 3 ∷ 4 ∷ 2 ∷ 5 ∷ 6 ∷ 9 ∷ 1 ∷ 2 ∷ 1 ∷ 2 ∷ []) (3 ∷ 5 ∷ 0 ∷ 4 ∷ 8 ∷ 11 ∷ 14 ∷ 1 ∷ 2 ∷ 0 ∷ 1 ∷ 2 ∷ []) (0 ∷ 0 ∷ 0 ∷ 3 ∷ 3 ∷ 1 ∷ []) (3 ∷ 5 ∷ 0 ∷ 4 ∷ 8 ∷ 11 ∷ 14 ∷ 1 ∷ 2 ∷ 0 ∷ 1 ∷ 2 ∷ [])
+    ∷ row (2 ∷ 3 ∷ 4 ∷ 2 ∷ 5 ∷ 6 ∷ 9 ∷ 1 ∷ 2 ∷ 1 ∷ 2 ∷ []) (3 ∷ 5 ∷ 0 ∷ 4 ∷ 8 ∷ 11 ∷ 14 ∷ 1 ∷ 2 ∷ 0 ∷ 1 ∷ 1 ∷ []) (15 ∷ 1 ∷ 1 ∷ 0 ∷ 0 ∷ 0 ∷ []) []
     ∷ row netA (2 ∷ 3 ∷ 0 ∷ 3 ∷ 6 ∷ 1 ∷ 0 ∷ 1 ∷ []) (8 ∷ 1 ∷ 2 ∷ 0 ∷ 0 ∷ 0 ∷ []) []
     ∷ []
 

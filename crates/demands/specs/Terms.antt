@@ -1,5 +1,5 @@
 -- Words that the three demands share: the graph that a schedule says, when a schedule is accepted, and all that a call checks.
-use Prim.Native.Nat.{ℕ}
+use Prim.Native.Nat.{ℕ, _≤_}
 use mathlib.Core.Path.{_≡_}
 use mathlib.Core.List.{List, _∷_, _++_}
 use lib.ListN.{length}

@@ -13,7 +13,9 @@ mod selftest;
 mod tally;
 mod text;
 
+use call::{Call, Kind};
 use generate::rng::Rng;
+use generate::schedules::Schedule;
 use std::io::{Read, Write};
 use std::path::Path;
 use std::process::ExitCode;
@@ -25,6 +27,7 @@ const USAGE: &str = "usage: reference selftest
        reference lay SEED INDEX DIR
        reference file DIR
        reference cases SEED COUNT
+       reference pairs SEED COUNT
        reference play < CASES";
 
 fn main() -> ExitCode {
@@ -44,6 +47,12 @@ fn main() -> ExitCode {
             if let (Ok(seed), Ok(index)) = (seed.parse(), index.parse()) {
                 let laid = program::lay(seed, index, Path::new(folder));
                 return written(|| laid.map(|()| String::new()));
+            }
+            tally.check(false, || USAGE.to_string());
+        }
+        ["pairs", seed, count] => {
+            if let (Ok(seed), Ok(count)) = (seed.parse(), count.parse()) {
+                return written(|| Ok(pairs(seed, count)));
             }
             tally.check(false, || USAGE.to_string());
         }
@@ -89,4 +98,20 @@ fn play() -> std::io::Result<String> {
 fn cases(seed: u64, count: u64) -> String {
     let case = |index| generate::case(&mut Rng::for_case(seed, index)).text() + "\n";
     (0..count).map(case).collect()
+}
+
+/// Accepted sheets two by two, each pair of one net, as sheet checks on two lines. Where no second
+/// sheet is found, there is no pair.
+fn pairs(seed: u64, count: u64) -> String {
+    let pair = |index| {
+        let rng = &mut Rng::for_case(seed, index);
+        let schedule = generate::schedule(rng);
+        let other = selftest::sibling(rng, &schedule)?;
+        let line = |made: &Schedule| {
+            let (net, sheet) = made.words();
+            Call::new(Kind::SheetCheck, &net, &sheet).text() + "\n"
+        };
+        Some(line(&schedule) + &line(&other))
+    };
+    (0..count).filter_map(pair).collect()
 }

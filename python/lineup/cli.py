@@ -1,0 +1,101 @@
+"""The command line: which command, with what; its report as text or JSON; the exit status."""
+import argparse
+import importlib
+import os
+import sys
+
+from lineup import commands, files
+from lineup.explain import Disagreement
+from lineup.report import TROUBLE
+from lineup.trouble import Trouble, suggestion
+from lineup.visible import inline, quoted, visible
+
+DESCRIPTION = "Names, explanations, comparison and pictures around the proved checker of line-up schedules."
+STATUS = "Exit status: 0 accepted or the same, 1 refused or different, 2 trouble, which is told on standard error."
+
+
+class Parser(argparse.ArgumentParser):
+    def error(self, message):
+        raise Trouble(f"{inline(message)} ({self.prog} --help tells the usage)")
+
+
+def parser():
+    """The parser and the modules of the commands."""
+    modules = {name: importlib.import_module(f"lineup.commands.{name}") for name in commands.NAMES}
+    plain = {"formatter_class": argparse.RawDescriptionHelpFormatter, "allow_abbrev": False}
+    examples = "".join(f"  {module.EXAMPLE}\n" for module in modules.values())
+    top = Parser(prog="lineup", description=DESCRIPTION, epilog=f"examples:\n{examples}\n{STATUS}", **plain)
+    top.add_argument("--version", action="store_true", help="tell the commit and the kit, and end")
+    parts = top.add_subparsers(dest="command", metavar="COMMAND")
+    for name, module in modules.items():
+        about = module.__doc__.split(": ", 1)[1]
+        epilog = f"example:\n  {module.EXAMPLE}\n\n{STATUS}"
+        part = parts.add_parser(name, help=module.SUMMARY, description=about[0].upper() + about[1:], epilog=epilog, **plain)
+        module.arguments(part)
+        part.add_argument("-o", dest="output", metavar="FILE", help=getattr(module, "OUTPUT", "write to FILE instead of standard output"))
+        part.add_argument("--json", action="store_true", help="write the result as JSON")
+    return top, modules
+
+
+def run(argv):
+    """Makes a command's report and writes it; answers the exit status."""
+    top, modules = parser()
+    if argv and not argv[0].startswith("-") and argv[0] not in modules:
+        raise Trouble(f"no command {quoted(argv[0])}" + suggestion(argv[0], modules) + " (lineup --help lists them)")
+    args = top.parse_args(argv)
+    if args.version:
+        from lineup import version
+
+        return out(version.told() + "\n")
+    if not args.command:
+        return out(top.format_help()) or TROUBLE
+    report = modules[args.command].main(args)
+    text = as_json(report.data) if args.json else "".join(f"{line}\n" for line in report.lines)
+    if args.output and not getattr(modules[args.command], "OUTPUT", None):
+        files.write(args.output, visible(text))
+    else:
+        out(text)
+    return report.status
+
+
+def as_json(data):
+    import json
+
+    return json.dumps(data, indent=2) + "\n"
+
+
+def out(text, stream=None):
+    """All that lineup prints goes out here."""
+    stream = stream or sys.stdout
+    stream.write(visible(text))
+    stream.flush()
+    return 0
+
+
+def told(trouble, argv):
+    """A trouble as text, and as JSON too where that was asked for."""
+    out(f"lineup: {trouble}\n", sys.stderr)
+    if "--json" in argv:
+        found = trouble if isinstance(trouble, Trouble) else Trouble(trouble)
+        out(as_json({"trouble": {"message": found.message, "file": found.path, "line": found.line, "column": found.column}}))
+    return TROUBLE
+
+
+def main(argv):
+    for stream in (sys.stdout, sys.stderr):
+        stream.reconfigure(errors="backslashreplace", newline="\n")
+    try:
+        return run(argv)
+    except Trouble as trouble:
+        return told(trouble, argv)
+    except Disagreement as found:
+        return told(f"DISAGREEMENT: {found}. The core's answer stands; lineup has misread something and says no more. Please report this.", argv)
+    except BrokenPipeError:
+        os.dup2(os.open(os.devnull, os.O_WRONLY), sys.stdout.fileno())  # else Python tells of the pipe again when it ends
+        return TROUBLE
+    except KeyboardInterrupt:
+        return TROUBLE
+    except Exception:  # a defect must not end as status 1, which says `refused`
+        import traceback
+
+        return told("a defect of lineup, please report it:\n" + traceback.format_exc(), argv)

@@ -1,0 +1,105 @@
+"""Asks the proved core. Its program `calls` plays calls from a text, and every verdict is one of its lines."""
+import os
+import re
+import subprocess
+import tempfile
+
+from lineup import home
+from lineup.trouble import Trouble
+from lineup.visible import quoted
+from lineup.words import NET_WORDS, SHEET_WORDS
+
+SCRATCH, OUT_BLANK = 8_192, 9  # the words of scratch lent, and what an output buffer holds before a call
+KINDS = ("none", "entry", "place", "node", "record")
+ANSWER = re.compile(
+    rf"answer (?P<number>\d+) (?P<kind>{'|'.join(KINDS)}) (?P<index>\d+)(?P<own>(?: (?:nodes|arcs|awaits|fired|node|length) \d+)*)"
+    r"(?: out(?P<out>(?: \d+)*) rest (?P<rest>\d+))?(?: scratch [\d ]+)?"
+)
+
+
+class Answer:
+    """A line of the core: number, kind and index of the position, the call's own numbers by name, and the words written. `line` and, with
+    the words written, `whole` are what is quoted of it."""
+
+    def __init__(self, line):
+        found = ANSWER.fullmatch(line)
+        if not found:
+            raise Trouble(f"the core's answer cannot be read: {quoted(line)}")
+        self.number, self.kind, self.index = int(found["number"]), found["kind"], int(found["index"])
+        own = found["own"].split()
+        self.own = dict(zip(own[::2], map(int, own[1::2])))
+        self.out = [int(word) for word in (found["out"] or "").split()] + [OUT_BLANK] * int(found["rest"] or 0)
+        self.whole = line.split(" scratch ")[0]
+        self.line = self.whole.split(" out ")[0]
+
+    def fault(self):
+        return self.number, self.kind, self.index
+
+
+# ---- calls as text
+
+
+def told(words):
+    return f"{len(words)}: {' '.join(map(str, words))}"
+
+
+def pair(net, sheet):
+    """Of longer words only the first are handed on, which changes no answer."""
+    return f"net {told(net[:NET_WORDS])} | sheet {told(sheet[:SHEET_WORDS])}"
+
+
+def net_check(net):
+    return f"1 net {told(net[:NET_WORDS])}"
+
+
+def check(net, sheet):
+    return f"2 {pair(net, sheet)} | scratch {SCRATCH}"
+
+
+def bounds(net, sheet):
+    return f"3 {pair(net, sheet)} | out {min(net[0], 32) if net else 0} | scratch {SCRATCH}"
+
+
+def run(net, sheet, record):
+    return f"6 {pair(net, sheet)} | record {told(record)} | out {min(net[0], 32) if net else 0} | scratch {SCRATCH}"
+
+
+def short(net, sheet):
+    return f"7 {pair(net, sheet)} | out {SHEET_WORDS - 1} | scratch {SCRATCH}"
+
+
+# ---- asking
+
+
+def ask(*calls):
+    """The core's answers to calls, all played by one run of its program."""
+    text = "\n".join(calls) + "\n0\n"
+    lines = played(home.program("calls"), text, None).splitlines()
+    if lines and lines[-1] == "too long":
+        raise Trouble("more words than the core's program takes in one call: net, sheet and firings may have 20,000 together")
+    if len(lines) != len(calls):
+        raise Trouble(f"the core gave {len(lines)} answers to {len(calls)} calls")
+    return [Answer(line) for line in lines]
+
+
+def files(net, sheet):
+    """The answer of the program over files, for bytes that are not whole words."""
+    with tempfile.TemporaryDirectory() as folder:
+        for name, data in (("net.bin", net), ("sheet.bin", sheet)):
+            with open(os.path.join(folder, name), "wb") as file:
+                file.write(data)
+        lines = played(home.program("checker"), "", folder).splitlines()
+    if not lines:
+        raise Trouble("the core gave no answer")
+    return Answer(lines[0])
+
+
+def played(program, text, folder):
+    """What a program of the core prints for a text."""
+    try:
+        done = subprocess.run([program], input=text, cwd=folder, capture_output=True, text=True, timeout=120, check=False)
+    except (OSError, subprocess.TimeoutExpired) as error:
+        raise Trouble(f"the core's program {program} failed: {error}") from None
+    if done.returncode != 0:
+        raise Trouble(f"the core's program {program} ended with status {done.returncode}")
+    return done.stdout

@@ -1,0 +1,45 @@
+"""A place/transition net with names: what each transition takes and puts, and what each place starts with."""
+
+
+class Net:
+    """Places and transitions are known by their numbers, which the order of their names gives. `taken[t]` and `put[t]` are {place: weight},
+    `start` is {place: count}. `where` tells the line and column of ("place", p), ("transition", t), ("taken", t, p), ("put", t, p) and
+    ("start", p), as far as they have one."""
+
+    def __init__(self, name=""):
+        self.name = name
+        self.places, self.transitions = [], []
+        self.taken, self.put, self.start = [], [], {}
+        self.where = {}
+
+    def sources(self):
+        """The transitions that take nothing."""
+        return [t for t, taken in enumerate(self.taken) if not taken]
+
+    def choice_set(self, t):
+        """The transitions that take the same as t."""
+        return [u for u, taken in enumerate(self.taken) if taken == self.taken[t]]
+
+    def starved(self, counts, t):
+        """The places that hold less than t takes."""
+        return [p for p, weight in sorted(self.taken[t].items()) if counts.get(p, 0) < weight]
+
+    def fired(self, counts, t):
+        """What the places hold after t."""
+        after = dict(counts)
+        for p, weight in self.taken[t].items():
+            after[p] = after.get(p, 0) - weight
+        for p, weight in self.put[t].items():
+            after[p] = after.get(p, 0) + weight
+        return {p: count for p, count in after.items() if count}
+
+    def held(self, counts):
+        """Counts as a sheet writes them; `nothing` where all are 0."""
+        from lineup.tokens import written
+
+        parts = [written(self.places[p]) + (f"*{count}" if count != 1 else "") for p, count in sorted(counts.items())]
+        return " ".join(parts) or "nothing"
+
+    def listed(self, transitions):
+        """Names of transitions for a sentence."""
+        return ", ".join(self.transitions[t] for t in transitions) or "nothing"

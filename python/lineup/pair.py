@@ -1,0 +1,72 @@
+"""A net and a sheet, what the core answers for them, and that this agrees with what can be seen in them."""
+from lineup import causes, core, explain, inputs
+from lineup.explain import Disagreement
+from lineup.refusals import OF_NET, OF_WORDS
+from lineup.report import refused
+from lineup.trouble import Trouble
+from lineup.wordfile import packed
+
+
+class Pair:
+    def __init__(self, net, sheet):
+        self.net, self.sheet = net, sheet
+
+    def words(self):
+        return [source.words for source in (self.net, self.sheet) if source]
+
+    def tail(self):
+        return self.net.tail or self.sheet and self.sheet.tail
+
+    def ask(self, *calls):
+        """The core's answers to calls on these words. Bytes that are not whole words are the file program's to refuse."""
+        if not self.tail():
+            return core.ask(*(call(*self.words()) for call in calls))
+        net, sheet = (s.data if s and s.tail else packed(s.words) if s else b"" for s in (self.net, self.sheet))
+        return [core.files(net, sheet)]
+
+    def refusal(self, answer, record=None):
+        """The report of a refusal by the core."""
+        likely = causes.likely(self.net, self.sheet) if answer.number in OF_NET | OF_WORDS else []
+        return refused(explain.explain(answer, self.net, self.sheet, record), answer, likely)
+
+    def agree(self, checked, bounds):
+        """Holds the numbers of an accepted sheet to what the sheet says."""
+        explain.agree(checked, self.net, self.sheet)
+        net, sheet = self.net.model, self.sheet.model
+        seen = {"nodes": len(sheet.nodes), "arcs": sum(map(len, sheet.arcs)), "awaits": len(sheet.awaits(net))}
+        if checked.own != seen:
+            raise Disagreement(f"the core answers {checked.line!r}, and the sheet shows {seen}")
+        greatest = [max(counts.get(p, 0) for counts in sheet.counts) for p in range(len(net.places))]
+        if bounds.out != greatest:
+            raise Disagreement(f"the core answers {bounds.whole!r}, and the sheet shows {greatest}")
+
+
+def ask_each(pairs, call):
+    """The core's answers to one call on several pairs."""
+    if any(both.tail() for both in pairs):
+        return [both.ask(call)[0] for both in pairs]
+    return core.ask(*(call(*both.words()) for both in pairs))
+
+
+def readable(net_path, sheet_path):
+    """A net and, where there is one, a sheet that need not be accepted; and the report of the core's refusal where words cannot be read."""
+    if sheet_path is None and inputs.has_sheet(net_path):
+        sheet_path = net_path
+    net = inputs.net(net_path)
+    both = Pair(net, None if sheet_path is None else inputs.sheet(sheet_path, net))
+    if net.model and (not both.sheet or both.sheet.model):
+        return both, None
+    answer = both.ask(core.check if both.sheet else core.net_check)[0]
+    if not answer.number:
+        raise Disagreement(f"the core answers {answer.line!r} for words that cannot be read")
+    return both, both.refusal(answer)
+
+
+def load(net_path, sheet_path):
+    """The pair that arguments name. A folder brings net and sheet."""
+    if sheet_path is None:
+        if not inputs.has_sheet(net_path):
+            raise Trouble("a sheet is missing: NET SHEET, or a folder with both as words, is expected", net_path)
+        sheet_path = net_path
+    net = inputs.net(net_path)
+    return Pair(net, inputs.sheet(sheet_path, net))

@@ -1,0 +1,26 @@
+"""The commit and the kit that a copy of lineup belongs to."""
+import os
+import subprocess
+
+from lineup.home import HOME
+
+
+def told():
+    """An installed copy has it in a file; in the repository git and rt know it."""
+    path = os.path.join(HOME, "VERSION")
+    if os.path.exists(path):
+        with open(path, encoding="utf-8") as file:
+            return file.read().strip()
+    own = output(["git", "-C", HOME, "rev-parse", "--show-toplevel"]) == os.path.realpath(HOME)  # and not a repository around it
+    commit = own and output(["git", "-C", HOME, "rev-parse", "--short=12", "HEAD"]) or "unknown"
+    changed = ", with changes" if output(["git", "-C", HOME, "status", "--porcelain", "--untracked-files=no"]) else ""
+    return f"lineup of Wulthrein\ncommit {commit}{changed}\nkit {output(['rt', 'version']) or 'unknown: rt is not on the path'}"
+
+
+def output(command):
+    """What a program prints, nothing where it fails."""
+    try:
+        done = subprocess.run(command, capture_output=True, text=True, timeout=20, check=False)
+    except (OSError, subprocess.TimeoutExpired):
+        return ""
+    return done.stdout.strip() if done.returncode == 0 else ""

@@ -1,0 +1,110 @@
+"""Nets and sheets as the words that the core reads, and back: the formulas of the keys stand here alone."""
+from lineup.net import Net
+from lineup.sheet import Sheet
+
+NET_HEAD, SHEET_HEAD = 3, 2  # words before the keys
+NET_WORDS, SHEET_WORDS = 4_164, 8_195  # handed on of a longer file, one more than fits
+
+
+def keyed(entries):
+    """Entries as words: how many, the rising keys, their values."""
+    keys = sorted(entries)
+    return [len(keys)] + keys + [entries[key] for key in keys]
+
+
+# ---- the net: t takes from p, t puts into p, p starts with
+
+
+def net_key(places, transitions, what):
+    kind, *at = what
+    if kind == "taken":
+        return at[0] * places + at[1]
+    if kind == "put":
+        return (transitions + at[0]) * places + at[1]
+    return 2 * transitions * places + at[0]
+
+
+def net_entry(places, transitions, key):
+    """What a key of the net is about, the other way round; nothing where it is about nothing."""
+    row, p = divmod(key, places)
+    if row < transitions:
+        return ("taken", row, p)
+    if row < 2 * transitions:
+        return ("put", row - transitions, p)
+    return ("start", p) if row == 2 * transitions else None
+
+
+def net_keys(places, transitions):
+    """All keys lie below this."""
+    return (2 * transitions + 1) * places
+
+
+def net_entries(net):
+    """{key: weight} of a net."""
+    weights = {("taken", t, p): weight for t, row in enumerate(net.taken) for p, weight in row.items()}
+    weights.update({("put", t, p): weight for t, row in enumerate(net.put) for p, weight in row.items()})
+    weights.update({("start", p): count for p, count in net.start.items()})
+    sizes = len(net.places), len(net.transitions)
+    return {net_key(*sizes, what): weight for what, weight in weights.items()}
+
+
+def net_words(net):
+    return [len(net.places), len(net.transitions)] + keyed(net_entries(net))
+
+
+def net_of(words, places, transitions):
+    """The net that words say, with the names given. The words have to be in order."""
+    net = Net()
+    net.places, net.transitions = places, transitions
+    net.taken, net.put = [{} for _ in transitions], [{} for _ in transitions]
+    for key, weight in pairs(words, NET_HEAD):
+        kind, *at = net_entry(len(places), len(transitions), key)
+        if kind == "start":
+            net.start[at[0]] = weight
+        else:
+            (net.taken if kind == "taken" else net.put)[at[0]][at[1]] = weight
+    return net
+
+
+# ---- the sheet: firing t at n leads to, p holds at n
+
+
+def sheet_key(places, transitions, nodes, what):
+    kind, n, at = what
+    return n * transitions + at if kind == "arc" else nodes * transitions + n * places + at
+
+
+def sheet_entry(places, transitions, nodes, key):
+    """What a key of the sheet is about."""
+    if key < nodes * transitions:
+        return ("arc", *divmod(key, transitions))
+    return ("count", *divmod(key - nodes * transitions, places))
+
+
+def sheet_entries(net, sheet):
+    """{key: value} of a sheet."""
+    values = {("arc", n, t): m for n, row in enumerate(sheet.arcs) for t, m in row.items()}
+    values.update({("count", n, p): count for n, row in enumerate(sheet.counts) for p, count in row.items()})
+    sizes = len(net.places), len(net.transitions), len(sheet.nodes)
+    return {sheet_key(*sizes, what): value for what, value in values.items()}
+
+
+def sheet_words(net, sheet):
+    return [len(sheet.nodes)] + keyed(sheet_entries(net, sheet))
+
+
+def sheet_of(words, net, nodes):
+    """The sheet that words say over a net, with the names given. The words have to be in order."""
+    sheet = Sheet()
+    for name in nodes:
+        sheet.add(name)
+    for key, value in pairs(words, SHEET_HEAD):
+        kind, n, at = sheet_entry(len(net.places), len(net.transitions), len(nodes), key)
+        (sheet.arcs if kind == "arc" else sheet.counts)[n][at] = value
+    return sheet
+
+
+def pairs(words, head):
+    """Each key with its value."""
+    size = words[head - 1]
+    return zip(words[head : head + size], words[head + size :])

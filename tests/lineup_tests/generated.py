@@ -1,0 +1,69 @@
+"""Nets and sheets from the independent implementation, and the sources that lineup would read for them."""
+import functools
+import os
+import subprocess
+
+from lineup import faults, inputs, names, words
+from lineup.home import HOME
+
+REFERENCE = os.path.join(HOME, "target", "reference", "release", "reference")
+
+
+@functools.cache
+def build():
+    """Builds the independent implementation, once; where nothing has changed that takes no time."""
+    environment = {**os.environ, "CARGO_TARGET_DIR": os.path.join(HOME, "target", "reference")}
+    folder = os.path.join(HOME, "tests", "reference")
+    subprocess.run(["cargo", "build", "--quiet", "--release", "--offline"], cwd=folder, env=environment, check=True)
+
+
+def lines(command, seed, count):
+    """The operation and the numbers of each part of generated cases."""
+    build()
+    done = subprocess.run([REFERENCE, command, str(seed), str(count)], capture_output=True, text=True, check=True)
+    for line in done.stdout.splitlines():
+        parts = {}
+        for part in line[2:].split(" | "):
+            name, _, rest = part.partition(" ")
+            parts[name] = [int(word) for word in rest.rpartition(":")[2].split()] if ":" in rest else rest
+        yield line[0], parts
+
+
+def net_source(found, path="generated/net.txt"):
+    """Words as the net of a folder without names."""
+    source = inputs.Source(path, "decimal words")
+    source.words = found
+    if faults.net_readable(found):
+        letters = names.Names()
+        source.model = words.net_of(found, letters.of("place", found[0]), letters.of("transition", found[1]))
+    return source
+
+
+def sheet_source(found, net, path="generated/sheet.txt"):
+    source = inputs.Source(path, "decimal words")
+    source.words = found
+    if net.model and faults.sheet_readable(net.words, found):
+        source.model = words.sheet_of(found, net.model, names.Names().of("node", found[0]))
+    return source
+
+
+def damaged(seed, count):
+    """Pairs of a net and a sheet, most of them damaged, with a record where there is one: (net, sheet, record)."""
+    for operation, parts in lines("cases", seed, count):
+        if operation in "23567":
+            net = net_source(parts["net"])
+            yield net, sheet_source(parts["sheet"], net), parts.get("record")
+
+
+def siblings(seed, count):
+    """Two accepted sheets of one net: (net, one, other)."""
+    found = [parts for _, parts in lines("pairs", seed, count)]
+    for one, other in zip(found[::2], found[1::2]):
+        net = net_source(one["net"])
+        yield net, sheet_source(one["sheet"], net, "generated/one.txt"), sheet_source(other["sheet"], net, "generated/other.txt")
+
+
+def samples():
+    """The folders of samples/."""
+    root = os.path.join(HOME, "samples")
+    return [os.path.join(root, name) for name in sorted(os.listdir(root)) if os.path.isdir(os.path.join(root, name))]

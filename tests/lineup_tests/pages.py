@@ -1,0 +1,52 @@
+"""The pages of docs/ that show commands: each is run again, and prints what the page says. The table of refusals is the program's own."""
+import os
+import re
+import subprocess
+import tempfile
+
+from lineup.home import HOME
+from lineup.refusals import REFUSALS
+
+PAGES = ["PLANNERS-DAY.md", "FORMAT.md"]
+
+
+def run(tally):
+    for name in PAGES:
+        with open(os.path.join(HOME, "docs", name), encoding="utf-8") as file:
+            page = file.read()
+        again = replayed(page)
+        for i, (is_, should) in enumerate(zip(again.split("\n"), page.split("\n")), 1):
+            tally.same(f"docs/{name}:{i}", is_, should)
+        tally.same(f"docs/{name}: lines", again.count("\n"), page.count("\n"))
+    told = re.findall(r"(?m)^\| (\d+) \| ([^|]*) \| ([^|]*) \| ([^|]*) \|$", page)
+    tally.same("the refusals of docs/FORMAT.md", {int(number): tuple(rest) for number, *rest in told}, {n: tuple(found) for n, found in REFUSALS.items()})
+
+
+def replayed(page):
+    """The page with what its commands print now. A command is a line `$ COMMAND` in a block that is set in; `$ cat FILE` of a file that is not
+    there yet makes the file from what the page shows."""
+    with tempfile.TemporaryDirectory() as folder:
+        os.symlink(os.path.join(HOME, "samples"), os.path.join(folder, "samples"))
+        with open(os.path.join(folder, "run"), "w", encoding="utf-8") as file:
+            file.write(f'#!/bin/sh\nexec "{HOME}/run" "$@"\n')
+        os.chmod(os.path.join(folder, "run"), 0o755)
+        shell = Shell(folder)
+        return re.sub(r"(?m)^    \$ (.*)\n((?:    (?!\$ ).*\n|\n(?=(?:\n)*    (?!\$ )))*)", shell.command, page)
+
+
+class Shell:
+    def __init__(self, folder):
+        self.folder, self.status = folder, 0
+
+    def command(self, found):
+        command, shown = found.groups()
+        name = command[4:] if command.startswith("cat ") else None
+        if name and not os.path.exists(os.path.join(self.folder, name)):
+            with open(os.path.join(self.folder, name), "w", encoding="utf-8") as file:
+                file.write(re.sub(r"(?m)^    ", "", shown))
+        environment = {**os.environ, "PATH": HOME + os.pathsep + os.environ["PATH"], "LC_ALL": "C.UTF-8"}
+        script = f"(exit {self.status})\n{command}"
+        done = subprocess.run(["sh", "-c", script], cwd=self.folder, env=environment, stdout=subprocess.PIPE, stderr=subprocess.STDOUT, text=True, check=False)
+        self.status = done.returncode
+        output = re.sub(r"(?m)^(?=.)", "    ", done.stdout)
+        return f"    $ {command}\n{output}"

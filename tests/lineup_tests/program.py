@@ -1,0 +1,293 @@
+"""The commands as they are called: exit statuses, JSON, outputs, help, version, installation, start-up."""
+import json
+import os
+import re
+import shutil
+import struct
+import subprocess
+import tempfile
+import time
+
+import generated
+from called import lineup, program
+from lineup import cli, commands, core
+from lineup.explain import Disagreement
+from lineup.home import HOME
+
+NET = "pl a\ntr s -> a\ntr u a ->\n"
+SHEET = "n:\n  s -> m\nm: a\n  u -> n\n"
+LONGER = "n:\n  s -> m\nm: a\n  u -> o\no:\n  s -> p\np: a\n  u -> n\n"
+GREEDY = "n:\n  s -> m\nm: a\n  s -> o\no: a*2\n  u -> p\np: a\n  u -> n\n"
+TORN = "n:\n  s -> m\nm: a\n"
+
+
+def run(tally):
+    with tempfile.TemporaryDirectory() as folder:
+        for name, text in (("x.net", NET), ("x.sheet", SHEET), ("longer.sheet", LONGER), ("greedy.sheet", GREEDY), ("torn.sheet", TORN)):
+            save(folder, name, text)
+        statuses(tally, folder)
+        outputs(tally, folder)
+        as_json(tally, folder)
+        word_files(tally, folder)
+        trouble(tally, folder)
+        disagreements(tally, folder)
+        usage(tally, folder)
+        largest(tally, folder)
+    installed(tally)
+
+
+def save(folder, name, data):
+    path = os.path.join(folder, name)
+    os.makedirs(os.path.dirname(path), exist_ok=True)
+    with open(path, "wb") as file:
+        file.write(data if isinstance(data, bytes) else data.encode())
+
+
+def statuses(tally, folder):
+    """What each command answers, and that it quotes the core."""
+    cases = [
+        (0, "check x.net x.sheet", ["accepted", "core: answer 0 none 0 nodes 2 arcs 2 awaits 1", "bounds: a <= 1"]),
+        (0, "check x.net", ["accepted, as a net", "sources: s", "core: answer 0 none 0"]),
+        (1, "check x.net torn.sheet", ["torn.sheet:3:1: refused, 11 dead end", "core: answer 11 node 1"]),
+        (0, "diff x.net x.sheet longer.sheet", ["same: ", "core: x.sheet: answer 0 none 0 length 8"]),
+        (1, "diff x.net x.sheet greedy.sheet", ["different: after 1 firing", "only x.sheet allows: s, u", "only greedy.sheet allows: s, s", "answer 20 record 1"]),
+        (2, "diff x.net x.sheet torn.sheet", ["torn.sheet:3:1: refused, 11 dead end; it cannot be compared", "core: answer 11"]),
+        (0, "short x.net longer.sheet", ["4 nodes became 2", "# n, o became n", "# core: answer 0 none 0 length 8"]),
+        (1, "short x.net torn.sheet", ["11 dead end", "core: answer 11"]),
+        (0, "bounds x.net greedy.sheet", ["a 2  at o", "core: answer 0 none 0 out 2 rest 0"]),
+        (1, "bounds x.net torn.sheet", ["11 dead end"]),
+        (0, "run x.net x.sheet", ["0 firings from node n", "core: answer 0 none 0 fired 0 node 0"]),
+        (0, "run x.net x.sheet s u s", ["3 firings", "3  s -> m: a", "core: answer 0 none 0 fired 3 node 1 out 1 rest 0"]),
+        (1, "run x.net x.sheet s s", ["refused, 20 not offered", "firing 2 of 2, s: node m offers u", "core: answer 20 record 1"]),
+        (1, "run x.net torn.sheet s", ["11 dead end"]),
+        (0, "words x.net x.sheet", ["net 1 2 2 1 2 1 1", "sheet 2 3 0 3 5 1 0 1"]),
+        (0, "names x.net x.sheet", ["tr u  a ->", "m:  a"]),
+        (0, "names x.net --pnml", ['<place id="p0"><name><text>a</text></name></place>']),
+        (0, "draw x.net x.sheet", ["digraph lineup", "// core: answer 0 none 0", "peripheries=2"]),
+        (1, "draw x.net torn.sheet", ["digraph lineup", "// refused, 11 dead end"]),
+        (0, "draw x.net", ["digraph lineup", "shape=ellipse"]),
+    ]
+    for status, command, parts in cases:
+        found = lineup(folder, *command.split())
+        tally.same(f"{command}: status", (found[0], found[2]), (status, ""))
+        tally.holds(command, found[1], *parts)
+
+
+def outputs(tally, folder):
+    """-o writes what standard output would have had, or the command's own files."""
+    shown = lineup(folder, "check", "x.net", "x.sheet")
+    tally.same("check -o", lineup(folder, "check", "x.net", "x.sheet", "-o", "report.txt"), (0, "", ""))
+    tally.same("check -o, the file", read(folder, "report.txt"), shown[1])
+    lineup(folder, "short", "x.net", "longer.sheet", "-o", "short.sheet")
+    tally.same("short -o", read(folder, "short.sheet"), "n:\n  s -> m\nm:  a\n  u -> n\n")
+    tally.same("words -o", lineup(folder, "words", "x.net", "x.sheet", "-o", "w/x")[0], 0)
+    tally.same("words -o, the files", sorted(os.listdir(os.path.join(folder, "w", "x"))), ["names.txt", "net.txt", "sheet.txt"])
+    tally.same("words -o, read again", lineup(folder, "words", "w/x")[1], lineup(folder, "words", "x.net", "x.sheet")[1])
+    lineup(folder, "words", "x.net", "x.sheet", "--binary", "-o", "b")
+    tally.same("words --binary", read(folder, "b/sheet.bin", "rb"), struct.pack("<8I", 2, 3, 0, 3, 5, 1, 0, 1))
+    tally.same("words --binary, read again", lineup(folder, "check", "b")[1].replace("b/sheet.bin", "x.sheet"), shown[1])
+    lineup(folder, "names", "b", "-o", "again.net")
+    tally.same("names -o", (read(folder, "again.net"), read(folder, "again.sheet")), ("pl a\ntr s    -> a\ntr u  a ->\n", "n:\n  s -> m\nm:  a\n  u -> n\n"))
+    lineup(folder, "names", "x.net", "--pnml", "-o", "again")
+    tally.same("PNML, read again", lineup(folder, "words", "again.pnml")[1], lineup(folder, "words", "x.net")[1])
+    for name, first in (("a.svg", "<svg "), ("a.dot", "digraph")) + ((("a.png", "\x89PNG"), ("a.pdf", "%PDF")) if shutil.which("dot") else ()):
+        tally.same(f"draw -o {name}", lineup(folder, "draw", "x.net", "x.sheet", "-o", name)[0], 0)
+        tally.check(f"draw -o {name}, the file", read(folder, name, "rb").decode("latin-1").startswith(first))
+    if not shutil.which("dot"):
+        tally.holds("draw -o a.png without graphviz", lineup(folder, "draw", "x.net", "-o", "a.png")[2], "needs graphviz")
+    refused = lineup(folder, "draw", "x.net", "torn.sheet", "-o", "torn.svg")
+    tally.same("a refused sheet is drawn", (refused[0], "refused, 11 dead end" in read(folder, "torn.svg")), (1, True))
+
+
+def read(folder, name, mode="r"):
+    with open(os.path.join(folder, name), mode) as file:
+        return file.read()
+
+
+def as_json(tally, folder):
+    cases = {
+        "check x.net x.sheet": {"accepted": True, "nodes": 2, "arcs": 2, "awaits": 1, "bounds": {"a": 1}},
+        "check x.net": {"accepted": True, "sources": ["s"]},
+        "check x.net torn.sheet": {"accepted": False},
+        "diff x.net x.sheet longer.sheet": {"same": True},
+        "diff x.net x.sheet greedy.sheet": {"same": False, "before": ["s"]},
+        "short x.net longer.sheet": {"nodes": 2, "merged": [["n", "o"], ["m", "p"]], "words": [2, 3, 0, 3, 5, 1, 0, 1]},
+        "bounds x.net greedy.sheet": {"bounds": {"a": 2}, "attained": {"a": ["o"]}},
+        "run x.net x.sheet s": {"fired": 1, "node": "m", "counts": {"a": 1}},
+        "words x.net": {"net": [1, 2, 2, 1, 2, 1, 1]},
+        "names x.net": {"net": "pl a\ntr s    -> a\ntr u  a ->\n"},
+        "draw x.net x.sheet": {"accepted": True},
+    }
+    for command, should in cases.items():
+        found = json.loads(lineup(folder, *command.split(), "--json")[1])
+        tally.same(f"{command} --json", {key: found.get(key) for key in should}, should)
+    refusal = json.loads(lineup(folder, "check", "x.net", "torn.sheet", "--json")[1])
+    told = {key: refusal["refusal"][key] for key in ("number", "word", "position", "file", "line", "column")}
+    should = {"number": 11, "word": "dead end", "position": {"kind": "node", "index": 1}, "file": "torn.sheet", "line": 3, "column": 1}
+    tally.same("a refusal in JSON", told, should)
+    tally.holds("the core in JSON", refusal["core"][0], "answer 11 node 1")
+    found = lineup(folder, "check", "x.nett", "x.sheet", "--json")
+    tally.same("trouble in JSON", (found[0], json.loads(found[1])["trouble"]["file"]), (2, "x.nett"))
+
+
+def word_files(tally, folder):
+    """Tails, swapped files, lengths that do not fit, and files mixed with texts."""
+    net, sheet = struct.pack("<7I", 1, 2, 2, 1, 2, 1, 1), struct.pack("<8I", 2, 3, 0, 3, 5, 1, 0, 1)
+    cases = {
+        "tail of a net": (net + b"\1", sheet, ["net.bin: refused, 1 ragged net", "29 bytes are 7 words of four bytes and 1 over", "core: answer 1 none 0"]),
+        "tail of a sheet": (net, sheet + b"\1\2", ["sheet.bin: refused, 6 ragged sheet", "34 bytes are 8 words of four bytes and 2 over", "core: answer 6 none 0"]),
+        "swapped": (sheet, net, ["refused, 1", "likely: net and sheet are swapped; that way the core accepts them", "answer 0 none 0 nodes 2 arcs 2 awaits 1"]),
+        "the wrong way round": (turned(net), turned(sheet), ["refused, 2", "likely: the bytes of each word stand the wrong way round", "answer 0 none 0 nodes 2"]),
+        "text called .bin": (b"1 2 2 # sizes\n1 2 1 1", b"2 3 0 3 5 1 0 1", ["likely: a file of decimal words is called .bin", "answer 0 none 0 nodes 2"]),
+        "one word less": (net, sheet[:-4], ["K, the second word, says 3 entries, which makes 2 + 2 * 3 = 8 words; there are 7, 1 too few", "likely: the 3 keys are there, and 1 of the 3 values is missing"]),
+        "another K": (net, struct.pack("<8I", 2, 4, 0, 3, 5, 1, 0, 1), ["likely: K should be 3"]),
+        "something over": (net, sheet + struct.pack("<2I", 0, 0), ["2 too many", "something follows them"]),
+        "cut short": (net, sheet[:20], ["likely: the 3 keys are there, and 3 of the 3 values are missing"]),
+        "a key less": (struct.pack("<6I", 1, 2, 2, 1, 1, 1), sheet, ["likely: a key is missing"]),
+        "hardly a net": (net[:8], sheet, ["there are 2 words, and a net begins with 3"]),
+        "empty": (b"", b"", ["there are 0 words"]),
+        "a key twice": (struct.pack("<7I", 1, 2, 2, 2, 2, 1, 1), sheet, ["entry 1: key 2 (t0 puts into p0) is there twice", "key at byte 16, value at byte 24"]),
+        "a key too large": (struct.pack("<7I", 1, 2, 2, 1, 5, 1, 1), sheet, ["entry 1: key 5 is not below (2 * 2 + 1) * 1 = 5"]),
+        "a sheet's key too large": (net, struct.pack("<8I", 2, 3, 0, 3, 6, 1, 0, 1), ["entry 2: key 6 is not below 2 * (2 + 1) = 6"]),
+        "too many entries": (struct.pack("<3I", 1, 2, 6), sheet, ["K says 6 entries, and 1 places with 2 transitions have at most 5"]),
+        "a sheet's too many": (net, struct.pack("<2I", 2, 4097), ["the sheet has 4097 arcs and counts, and may have 4,096"]),
+    }
+    for what, (one, other, parts) in cases.items():
+        save(folder, f"{what}/net.bin", one)
+        save(folder, f"{what}/sheet.bin", other)
+        found = lineup(folder, "check", what)
+        tally.same(f"{what}: status", (found[0], found[2]), (1, ""))
+        tally.holds(what, found[1], *parts)
+        for command in ("short", "bounds", "run", "words", "names", "draw"):
+            tally.same(f"{what}: {command}", lineup(folder, command, what)[0], 1)
+    mixed(tally, folder, net, sheet)
+
+
+def turned(data):
+    return b"".join(data[i : i + 4][::-1] for i in range(0, len(data), 4))
+
+
+def mixed(tally, folder, net, sheet):
+    save(folder, "mixed/net.bin", net)
+    save(folder, "mixed/sheet.bin", sheet)
+    tally.holds("a text net and a binary sheet", lineup(folder, "check", "x.net", "mixed/sheet.bin")[1], "accepted")
+    tally.holds("a folder's net and a text sheet", lineup(folder, "check", "mixed", "torn2.sheet")[2], "no such file (did you mean 'torn.sheet'?)")
+    save(folder, "numbered.sheet", "n0:\n  t0 -> n1\nn1: p0\n  t1 -> n0\n")
+    tally.holds("a folder's net and a text sheet", lineup(folder, "check", "mixed", "numbered.sheet")[1], "accepted")
+    tally.holds("a folder without names is matched by its words", lineup(folder, "diff", "x.net", "x.sheet", "mixed")[1], "same: ")
+    save(folder, "tail.bin", sheet + b"\1")
+    tally.same("a tail in diff", lineup(folder, "diff", "x.net", "x.sheet", "tail.bin")[0], 2)
+    save(folder, "unnamed.words", "# no suffix tells\n1 2 2 1 2 1 1\n")
+    tally.holds("words told by what they are", lineup(folder, "check", "unnamed.words")[1], "accepted, as a net")
+
+
+def trouble(tally, folder):
+    cases = [
+        ("", 2, "", "usage: lineup"),
+        ("chek x.net", 2, "no command 'chek' (did you mean 'check'?)", ""),
+        ("check", 2, "the following arguments are required: NET", ""),
+        ("check x.net x.sheet more", 2, "unrecognized arguments: more", ""),
+        ("check --jsn x.net", 2, "--jsn", ""),
+        ("bounds x.net", 2, "a sheet is missing", ""),
+        ("check x.sheet x.net", 2, "swapped", ""),
+        ("check x.net x.net", 2, "swapped", ""),
+        ("run x.net x.sheet S", 2, "firing 1: no transition 'S' (did you mean 's'?)", ""),
+        ("draw x.net -o picture", 2, "the suffix tells the form", ""),
+        ("draw x.net -o no/where.svg", 2, "cannot be written", ""),
+        ("words x.net -o x.net/y", 2, "no folder can be made", ""),
+    ]
+    for command, status, errors, output in cases:
+        found = lineup(folder, *command.split())
+        tally.same(f"{command!r}: status", found[0], status)
+        tally.holds(f"{command!r}: errors", found[2], errors)
+        tally.holds(f"{command!r}: output", found[1], output)
+    long = lineup(folder, "run", "x.net", "x.sheet", *["s", "u"] * 11_000)
+    tally.same("a list that is too long", (long[0], "20,000 together" in long[2]), (2, True))
+    hundreds = lineup(folder, "run", "x.net", "x.sheet", *["s", "u"] * 3_000)
+    tally.holds("a long list", hundreds[1], "fired 6000 node 0")
+
+
+def disagreements(tally, folder):
+    """A core that answers otherwise than lineup sees is not explained away: loud, and status 2."""
+    played = core.played
+    try:
+        for command, is_, other in (
+            ("check x.net x.sheet", "answer 0 none 0 nodes 2", "answer 0 none 0 nodes 3"),
+            ("check x.net x.sheet", "out 1", "out 2"),
+            ("check x.net x.sheet", "answer 0 none 0 nodes 2 arcs 2 awaits 1", "answer 15 entry 1 nodes 0 arcs 0 awaits 0"),
+            ("check x.net torn.sheet", "answer 11 node 1", "answer 11 node 0"),
+            ("check x.net torn.sheet", "answer 11 node 1", "answer 0 none 0"),
+            ("bounds x.net x.sheet", "out 1", "out 2"),
+            ("run x.net x.sheet s", "node 1", "node 0"),
+            ("run x.net x.sheet s s", "record 1", "record 0"),
+            ("diff x.net x.sheet greedy.sheet", "answer 20", "answer 0"),
+            ("diff x.net torn.sheet x.sheet", "answer 11 node 1 length 0", "answer 0 none 0 length 0"),
+            ("short x.net torn.sheet", "answer 11 node 1 length 0", "answer 0 none 0 length 0"),
+            ("diff x.net x.sheet longer.sheet", "0 3 5 1 0 1", "0 3 5 1 0 2"),
+            ("short x.net longer.sheet", "0 3 5 1 0 1 ", "0 3 5 0 1 1 "),
+        ):
+            core.played = lambda *arguments, is_=is_, other=other: played(*arguments).replace(is_, other, 1)
+            found = lineup(folder, *command.split())
+            tally.check(f"{command} with {other!r}", found[0] == 2 and "DISAGREEMENT" in found[2] and "accepted" not in found[1], found)
+        for other, part in (("answr 0", "cannot be read"), ("", "0 answers to 2 calls")):
+            core.played = lambda *arguments, other=other: "\n".join([other] * 2) if other else ""
+            tally.holds(f"a core that says {other!r}", lineup(folder, "check", "x.net", "x.sheet")[2], part)
+    finally:
+        core.played = played
+    tally.check("a disagreement is no trouble with a file", not issubclass(Disagreement, cli.Trouble))
+
+
+def usage(tally, folder):
+    """Help with an example that works, for each command; the manual page has every command and option."""
+    os.symlink(os.path.join(HOME, "samples"), os.path.join(folder, "samples"))
+    with open(os.path.join(HOME, "docs", "lineup.1"), encoding="utf-8") as file:
+        page = file.read().replace("\\-", "-")
+    top, modules = cli.parser()
+    tally.holds("help", lineup(folder, "--help")[1], *commands.NAMES, "Exit status")
+    for name, module in modules.items():
+        help_ = lineup(folder, name, "--help")
+        tally.same(f"{name} --help: status", help_[0], 0)
+        tally.holds(f"{name} --help", help_[1], "example:\n  " + module.EXAMPLE, "Exit status", "--json", "-o FILE")
+        example = subprocess.run(module.EXAMPLE, shell=True, cwd=folder, env={**os.environ, "PATH": HOME + ":" + os.environ["PATH"]}, capture_output=True, text=True, check=False)
+        tally.check(f"{module.EXAMPLE}", example.returncode == (1 if name == "diff" else 0) and not example.stderr, (example.returncode, example.stderr))
+        for option in re.findall("--[a-z]+", help_[1]):
+            tally.check(f"the manual page has {option}", option in page)
+        tally.check(f"the manual page has {name}", f".B lineup {name}" in page)
+    version = lineup(folder, "--version")
+    tally.check("--version", version[0] == 0 and re.search("commit [0-9a-f]{12}", version[1]) and "kit " in version[1], version)
+
+
+def largest(tally, folder):
+    """Start-up under a third of a second, the largest sheet under one."""
+    best = [min(timed(folder, *command) for _ in range(5)) for command in (["--help"], ["check", "x.net", "x.sheet"])]
+    tally.check(f"start-up: {best[0]:.2f} s, a small check: {best[1]:.2f} s", max(best) < 0.33, best)
+    found = max(((net, sheet) for net, sheet, _ in generated.siblings(5, 120)), key=lambda pair: len(pair[1].words))
+    tally.same("words of the largest sheet", len(found[1].words), 8194)
+    save(folder, "large/net.txt", " ".join(map(str, found[0].words)))
+    save(folder, "large/sheet.txt", " ".join(map(str, found[1].words)))
+    lineup(folder, "names", "large", "-o", "large")
+    for arguments in (["large"], ["large.net", "large.sheet"]):
+        best = min(timed(folder, "check", *arguments) for _ in range(3))
+        tally.check(f"check of {len(found[1].words)} words as {arguments}: {best:.2f} s", best < 1, best)
+
+
+def timed(folder, *arguments):
+    start = time.monotonic()
+    program(folder, *arguments)
+    return time.monotonic() - start
+
+
+def installed(tally):
+    """An installed copy works without the repository."""
+    with tempfile.TemporaryDirectory() as prefix:
+        done = subprocess.run(["make", "-s", "install", f"PREFIX={prefix}"], cwd=HOME, capture_output=True, text=True, check=False)
+        tally.check("make install", done.returncode == 0, done.stdout[-300:] + done.stderr[-300:])
+        lineup_ = os.path.join(prefix, "bin", "lineup")
+        found = subprocess.run([lineup_, "check", os.path.join(HOME, "samples", "jetty")], cwd=prefix, capture_output=True, text=True, check=False)
+        tally.same("installed: check", (found.returncode, found.stderr), (0, ""))
+        found = subprocess.run([lineup_, "--version"], cwd=prefix, capture_output=True, text=True, check=False)
+        tally.holds("installed: version", found.stdout, "commit ", "kit ")
+        tally.check("installed: manual page", os.path.exists(os.path.join(prefix, "share", "man", "man1", "lineup.1")))
+        subprocess.run(["make", "-s", "uninstall", f"PREFIX={prefix}"], cwd=HOME, check=False)
+        left = [name for _, _, names in os.walk(prefix) for name in names]
+        tally.same("uninstalled", left, [])
