@@ -5,7 +5,6 @@ ghost use lib.ListN.{length, take};
 use judge::CheckAnswer;
 use libc::STDOUT_FILENO;
 use minimal::FormAnswer;
-use refusal::Position;
 use refusal::Verdict;
 use schedule::RunAnswer;
 use schedule::Walker;
@@ -21,65 +20,47 @@ fn named(name: &[u8], n: u64) {
     io::print_decimal(STDOUT_FILENO, n);
 }
 
-fn kind(at: Position) {
-    match at {
-        Position::Nothing => text(b" none"),
-        Position::Entry(_) => text(b" entry"),
-        Position::Place(_) => text(b" place"),
-        Position::Node(_) => text(b" node"),
-        Position::Record(_) => text(b" record"),
+fn kind(kind: usize) {
+    match kind {
+        0 => text(b" none"),
+        1 => text(b" entry"),
+        2 => text(b" place"),
+        3 => text(b" node"),
+        _ => text(b" record"),
     }
+}
+
+// The three numbers that every answer begins with: §8.1.
+fn told(number: usize, of: usize, position: usize) {
+    named(b"answer", number as u64);
+    kind(of);
+    named(b"", position as u64);
 }
 
 pub(crate) fn verdict(verdict: Verdict) {
-    let at = verdict.at();
-    named(b"answer", verdict.number() as u64);
-    kind(at);
-    named(b"", at.index() as u64);
-}
-
-// A sheet check's answer, with its own numbers.
-fn checked(found: Verdict, nodes: u32, arcs: u32, awaits: u32) {
-    verdict(found);
-    named(b" nodes", nodes as u64);
-    named(b" arcs", arcs as u64);
-    named(b" awaits", awaits as u64);
+    let plain = verdict.plain();
+    told(plain[0], plain[1], plain[2]);
 }
 
 pub(crate) fn check_answer(answer: CheckAnswer) {
-    match answer {
-        CheckAnswer::Passed(counts) => {
-            checked(Verdict::Accepted, counts.nodes, counts.arcs, counts.awaits)
-        }
-        CheckAnswer::Failed(refusal) => checked(Verdict::Refused(refusal), 0, 0, 0),
-    }
-}
-
-// A run's answer, with its own numbers.
-fn ran(found: Verdict, fired: usize, node: u32) {
-    verdict(found);
-    named(b" fired", fired as u64);
-    named(b" node", node as u64);
+    let plain = answer.plain();
+    told(plain[0], plain[1], plain[2]);
+    named(b" nodes", plain[3] as u64);
+    named(b" arcs", plain[4] as u64);
+    named(b" awaits", plain[5] as u64);
 }
 
 pub(crate) fn run_answer(answer: RunAnswer) {
-    match answer {
-        RunAnswer::Done(ran_to) => ran(Verdict::Accepted, ran_to.fired, ran_to.node),
-        RunAnswer::Stopped(refusal) => ran(Verdict::Refused(refusal), 0, 0),
-    }
-}
-
-// A minimal form's answer, with its length.
-fn wrote(found: Verdict, length: usize) {
-    verdict(found);
-    named(b" length", length as u64);
+    let plain = answer.plain();
+    told(plain[0], plain[1], plain[2]);
+    named(b" fired", plain[3] as u64);
+    named(b" node", plain[4] as u64);
 }
 
 pub(crate) fn form_answer(answer: FormAnswer) {
-    match answer {
-        FormAnswer::Written(length) => wrote(Verdict::Accepted, length),
-        FormAnswer::Refused(refusal) => wrote(Verdict::Refused(refusal), 0),
-    }
+    let plain = answer.plain();
+    told(plain[0], plain[1], plain[2]);
+    named(b" length", plain[3] as u64);
 }
 
 // What a transition takes and puts at a place, and what the place starts with.

@@ -1,32 +1,29 @@
 // The lines of the program's output: §12.6, and on acceptance §12.7.
 use super::output;
 use judge::CheckAnswer;
-use judge::Counts;
 use minimal::FormAnswer;
-use refusal::Position;
-use refusal::Refusal;
 
-fn kind(buf: &mut [u8], at: usize, position: Position) -> usize {
-    match position {
-        Position::Nothing => output::text(buf, at, b" none"),
-        Position::Entry(_) => output::text(buf, at, b" entry"),
-        Position::Place(_) => output::text(buf, at, b" place"),
-        Position::Node(_) => output::text(buf, at, b" node"),
-        Position::Record(_) => output::text(buf, at, b" record"),
+fn kind(buf: &mut [u8], at: usize, kind: usize) -> usize {
+    match kind {
+        0 => output::text(buf, at, b" none"),
+        1 => output::text(buf, at, b" entry"),
+        2 => output::text(buf, at, b" place"),
+        3 => output::text(buf, at, b" node"),
+        _ => output::text(buf, at, b" record"),
     }
 }
 
 // Line 1: §12.6.
-fn first(buf: &mut [u8], refusal: u32, position: Position) -> usize {
-    let at = output::field(buf, 0, b"answer ", refusal as u64);
-    let at = kind(buf, at, position);
-    output::last(buf, at, b" ", position.index() as u64)
+fn first(buf: &mut [u8], number: usize, of: usize, position: usize) -> usize {
+    let at = output::field(buf, 0, b"answer ", number as u64);
+    let at = kind(buf, at, of);
+    output::last(buf, at, b" ", position as u64)
 }
 
-fn counts(buf: &mut [u8], at: usize, counts: Counts) -> usize {
-    let at = output::field(buf, at, b"nodes ", counts.nodes as u64);
-    let at = output::field(buf, at, b" arcs ", counts.arcs as u64);
-    output::last(buf, at, b" awaits ", counts.awaits as u64)
+fn counts(buf: &mut [u8], at: usize, nodes: usize, arcs: usize, awaits: usize) -> usize {
+    let at = output::field(buf, at, b"nodes ", nodes as u64);
+    let at = output::field(buf, at, b" arcs ", arcs as u64);
+    output::last(buf, at, b" awaits ", awaits as u64)
 }
 
 fn bound(buf: &mut [u8], at: usize, place: usize, bound: u32) -> usize {
@@ -77,22 +74,6 @@ fn short(buf: &mut [u8], at: usize, net: &[u32], sheet: &[u32], form: &mut [u32]
     }
 }
 
-// §12.7
-fn accepted(buf: &mut [u8], numbers: Counts, net: &[u32], sheet: &[u32], form: &mut [u32]) {
-    let at = first(buf, 0, Position::Nothing);
-    let at = counts(buf, at, numbers);
-    let at = bounds(buf, at, net, sheet);
-    let at = short(buf, at, net, sheet, form);
-    let at = output::text(buf, at, b"\n");
-    output::finish(buf, at);
-}
-
-fn refused(buf: &mut [u8], refusal: Refusal) {
-    let position = refusal.at;
-    let at = first(buf, refusal.number, position);
-    output::finish(buf, at);
-}
-
 pub(crate) fn answer(
     answer: CheckAnswer,
     net: &[u32],
@@ -100,8 +81,16 @@ pub(crate) fn answer(
     form: &mut [u32],
     buf: &mut [u8],
 ) {
-    match answer {
-        CheckAnswer::Passed(numbers) => accepted(buf, numbers, net, sheet, form),
-        CheckAnswer::Failed(r) => refused(buf, r),
+    let plain = answer.plain();
+    let at = first(buf, plain[0], plain[1], plain[2]);
+    if plain[0] != 0 {
+        output::finish(buf, at);
+        return;
     }
+    // §12.7
+    let at = counts(buf, at, plain[3], plain[4], plain[5]);
+    let at = bounds(buf, at, net, sheet);
+    let at = short(buf, at, net, sheet, form);
+    let at = output::text(buf, at, b"\n");
+    output::finish(buf, at);
 }

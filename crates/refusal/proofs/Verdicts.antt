@@ -2,10 +2,15 @@
 use Prim.Native.Nat.{ℕ, _<_}
 use mathlib.Core.Path.{_≡_, refl, ap, sym, _∙_}
 use mathlib.Core.Logic.{_⊎_, inl, inr}
+use mathlib.Core.List.{[], _∷_, _++_}
 use mathlib.Core.Option.{Option, none, some}
+use lib.ListN.{replicate}
 use Rattle.scan.specs.Scan.{orElse, first}
 use Rattle.scan.proofs.First.{first-hit, orElse-hit, orElse-next}
+use Rattle.refusal.specs.Refusal.{positionTold, told, plainOf, numberOf, positionOf, kindOf, indexOf}
 use Rattle.refusal.specs.Verdict.{verdictOf, andThen}
+use Rattle.refusal.specs.declared.Position.{Position}
+use Rattle.refusal.specs.declared.Position.the-variants.{Nothing, Entry, Place, Node, Record}
 use Rattle.refusal.specs.declared.Refusal.{Refusal}
 use Rattle.refusal.specs.declared.Verdict.{Verdict}
 use Rattle.refusal.specs.declared.Verdict.the-variants.{Accepted, Refused}
@@ -47,3 +52,19 @@ then-accepted (Refused r) w h = (h, cc)
 pub then-cases : (v w : Verdict) (r : Refusal) → andThen v w ≡ Refused r → (v ≡ Refused r) ⊎ ((v ≡ Accepted) × (w ≡ Refused r))
 then-cases Accepted w r h = inr (refl, h)
 then-cases (Refused x) w r h = inl h
+
+-- ---- plain numbers by their parts
+
+pub told-parts : (r : Refusal) (k : ℕ) → r .number ∷ kindOf (r .at) ∷ indexOf (r .at) ∷ replicate k 0 ≡ told r k
+told-parts r k = go (r .at)
+  where
+    go : (p : Position) → r .number ∷ kindOf p ∷ indexOf p ∷ replicate k 0 ≡ r .number ∷ (positionTold p ++ replicate k 0)
+    go Nothing = refl
+    go (Entry i) = refl
+    go (Place i) = refl
+    go (Node i) = refl
+    go (Record i) = refl
+
+pub plain-parts : (v : Verdict) → numberOf v ∷ kindOf (positionOf v) ∷ indexOf (positionOf v) ∷ [] ≡ plainOf v
+plain-parts Accepted = refl
+plain-parts (Refused r) = told-parts r 0
