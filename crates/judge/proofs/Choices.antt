@@ -55,18 +55,14 @@ module _ (N : PetriNet) where
       let (t, l, e) = any-out (isSource N) (N .transitions) h in
       least-hit (isSource N) (N .transitions) (let z = least-of (isSource N) (N .transitions) t e in omega arith)
 
-  first-source-least : (t : ℕ) → isSource N t ≡ true → firstSource N ≤ t
-  unfolding firstSource
-  first-source-least t h = least-of (isSource N) (N .transitions) t h
-
   pub first-source-leads : any (isSource N) (N .transitions) ≡ true → choiceOf N (firstSource N) ≡ firstSource N
-  unfolding choiceOf
+  unfolding choiceOf firstSource
   first-source-leads h =
       let s = first-source-source h in
       let c = leaderBy (sameChoice N) (firstSource N) in
       let m : sameChoice N c (firstSource N) ≡ true = leader-member (sameChoice N) choice-equivalence (firstSource N) in
       let q : isSource N c ≡ true = sym (choice-source (firstSource N) c s) ∙ choice-equivalence .symmetric c (firstSource N) m in
-      omega (arith, first-source-least c q, leader-le (sameChoice N) (firstSource N))
+      omega (arith, least-of (isSource N) (N .transitions) c q, leader-le (sameChoice N) (firstSource N))
 
   -- ---- rows
 

@@ -9,14 +9,13 @@ use lib.Dec.{eqb}
 use Rattle.refusal.specs.Finding.{lineFinds, foundAt}
 use Rattle.scan.specs.Scan.{tabulate, when}
 use Rattle.scan.proofs.Tabulate.{tabulate-at}
-use Rattle.net.specs.Net.{placeCount, taken, start}
+use Rattle.net.specs.Net.{placeCount, taken, put, start}
 use Rattle.net.specs.Check.{netReply}
-use Rattle.net.specs.Accessors.{takenRowReply, startRowReply}
+use Rattle.net.specs.Accessors.{takenRowReply, putRowReply, startRowReply}
 use Rattle.refusal.specs.Refusal.{refusal}
 use Rattle.refusal.specs.declared.Position.the-variants.{Place}
 use Rattle.refusal.specs.declared.Verdict.the-variants.{Accepted}
-use Rattle.net.proofs.Laws.{accessors}
-use Rattle.net.proofs.Laws.{sizes}
+use Rattle.net.proofs.Laws.{accessors, sizes}
 use Rattle.sequential.specs.Petri.{petriNet}
 use Rattle.sequential.specs.Tests.{takesNothing, takesAlike}
 use Rattle.sequential.specs.Words.{count}
@@ -26,8 +25,14 @@ module _ (net : List ℕ) (accepted : netReply net ≡ Accepted) (p : ℕ) (with
   in-row : p < 32
   in-row = let s = sizes net accepted in omega arith
 
-  taken-at : (t : ℕ) (row : List ℕ) → row ≡ takenRowReply net t → getD row p 0 ≡ taken net t p
+  pub taken-at : (t : ℕ) (row : List ℕ) → row ≡ takenRowReply net t → getD row p 0 ≡ taken net t p
   taken-at t row e = ap (λ (l : List ℕ). getD l p 0) (e ∙ accessors net accepted .takes-row t) ∙ tabulate-at (taken net t) 0 32 p in-row
+
+  pub put-at : (t : ℕ) (row : List ℕ) → row ≡ putRowReply net t → getD row p 0 ≡ put net t p
+  put-at t row e = ap (λ (l : List ℕ). getD l p 0) (e ∙ accessors net accepted .puts-row t) ∙ tabulate-at (put net t) 0 32 p in-row
+
+  pub count-at : (sheet row : List ℕ) (n : ℕ) → row ≡ tabulate (count (petriNet net) sheet n) 32 → getD row p 0 ≡ count (petriNet net) sheet n p
+  count-at sheet row n e = ap (λ (l : List ℕ). getD l p 0) e ∙ tabulate-at (count (petriNet net) sheet n) 0 32 p in-row
 
   start-at : (row : List ℕ) → row ≡ startRowReply net → getD row p 0 ≡ start net p
   start-at row e = ap (λ (l : List ℕ). getD l p 0) (e ∙ accessors net accepted .starts-row) ∙ tabulate-at (start net) 0 32 p in-row
@@ -42,6 +47,4 @@ module _ (net : List ℕ) (accepted : netReply net ≡ Accepted) (p : ℕ) (with
 
   pub start-told : (sheet held starts : List ℕ) → held ≡ tabulate (count (petriNet net) sheet 0) 32 → starts ≡ startRowReply net → startFault (petriNet net) sheet p ≡ when (not (eqb (getD held p 0) (getD starts p 0))) (refusal 10 (Place p))
   unfolding startFault lineFinds foundAt
-  start-told sheet held starts e f =
-      let h : getD held p 0 ≡ count (petriNet net) sheet 0 p = ap (λ (l : List ℕ). getD l p 0) e ∙ tabulate-at (count (petriNet net) sheet 0) 0 32 p in-row in
-      rw (h, start-at starts f)
+  start-told sheet held starts e f = rw (count-at sheet held 0 e, start-at starts f)

@@ -26,12 +26,6 @@ mul-if1 c = search needs
 array-read-if1 : tie.Need-array-read-if1 Inv-loop μ-loop
 array-read-if1 c = search needs
 
-mul-if1-2 : tie.Need-mul-if1-2 Inv-loop μ-loop
-mul-if1-2 c = search needs
-
-array-read-if1-2 : tie.Need-array-read-if1-2 Inv-loop μ-loop
-array-read-if1-2 c = search needs
-
 returns : tie.Need-returns Inv-loop μ-loop
 unfolding presentAsChoice present
 returns c = sym (all-fails _ _ _ (c .before .loop-test .taken) (not-true _ (c .if1 .taken)))
@@ -58,8 +52,8 @@ are-choice-spec =
     loop-holds
     mul-if1
     array-read-if1
-    mul-if1-2
-    array-read-if1-2
+    mul-if1
+    array-read-if1
     returns
     add-t
     loop-less

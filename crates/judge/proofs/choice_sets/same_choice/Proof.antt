@@ -42,12 +42,6 @@ mul-if1 c = search needs
 array-read-if1 : tie.Need-array-read-if1 Inv-loop μ-loop
 array-read-if1 c = let s = sizes _ (c .before .before .before .before .before .before .pre) in omega (arith, (c .before .before .places .ensures))
 
-mul-if1-2 : tie.Need-mul-if1-2 Inv-loop μ-loop
-mul-if1-2 c = search needs
-
-array-read-if1-2 : tie.Need-array-read-if1-2 Inv-loop μ-loop
-array-read-if1-2 c = let s = sizes _ (c .before .before .before .before .before .before .pre) in omega (arith, (c .before .before .places .ensures))
-
 returns : tie.Need-returns Inv-loop μ-loop
 unfolding sameChoice
 returns c = let l : (c .before .before .loop .p) < placeCount (c .before .before .before .before .before .before .before .args .net .now) = omega (arith, (c .before .before .before .places .ensures)) in sym (all-fails _ _ _ l (alike-told _ (c .before .before .before .before .before .before .before .pre) _ l _ _ _ _ (c .before .before .before .before .before .taken-row .ensures) (c .before .before .before .before .taken-row2 .ensures) ∙ ne-eqb _ _ (c .if1 .taken)))
@@ -78,8 +72,8 @@ same-choice-spec =
     loop-holds
     mul-if1
     array-read-if1
-    mul-if1-2
-    array-read-if1-2
+    mul-if1
+    array-read-if1
     returns
     add-p
     loop-less
