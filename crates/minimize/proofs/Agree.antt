@@ -15,18 +15,21 @@ use Rattle.scan.proofs.Tests.{true-false, iff→eq, and-left, and-right, and-bo
 use Rattle.scan.proofs.Every.{all-in, all-out, all-ext, all-more, all-fails}
 use Rattle.scan.proofs.Tabulate.{tabulate-at, tabulate-ext}
 use Rattle.table.specs.Table.{keyAt, Rising}
-use Rattle.table.specs.Bisection.{lowerBound}
 use Rattle.table.proofs.Table.{entry-some}
 use Rattle.table.proofs.Bisection.{LowerBound, lower-bound, lower-bound-entry}
 use Rattle.table.proofs.Next.{next-hit, next-miss}
-use Rattle.automaton.specs.Equivalence.{equalLabels, equalArcs, agree, sameIn}
+use Rattle.automaton.specs.Equivalence.{sameClass, equalLabels, equalArcs, agree, sameIn}
 use Rattle.automaton.proofs.Same.{equalLabels-in, equalLabels-out}
-use Rattle.sequential.specs.Petri.{PetriNet}
+use Rattle.sequential.specs.Petri.{PetriNet, petriNet}
 use Rattle.sequential.specs.Words.{nodeCount, entryCount, entryKey, entryValue, entryWithKey, arcKeys, arcEntry, arc, count, graph}
 use Rattle.sequential.specs.Known.{WordsHold}
-use Rattle.sequential.proofs.Words.{words-rise, words-fit}
+use Rattle.sequential.proofs.Words.{words-rise}
 use Rattle.sequential.proofs.Entries.{marking-node, row-lt}
-use Rattle.minimize.specs.Agree.{hasKey, keyValue, keysAgree, rowStart, RowStarts}
+use Rattle.graph.specs.Readable.{Readable}
+use Rattle.graph.proofs.Readable.{words}
+use Rattle.minimize.specs.Tables.{classIn}
+use Rattle.minimize.specs.Agree.{hasKey, keyValue, valuesAgree, keysAgree, Valued, Row, Rows, rowStart, RowStarts}
+use Rattle.minimize.proofs.Known.{node-low, arc-key-low, count-key-low}
 
 -- ---- one pointer
 
@@ -82,55 +85,57 @@ pub record Walk (sheet : List ℕ) (r : ℕ → ℕ → Bool) (a b t i j : ℕ) 
   pub right : LowerBound sheet 2 (entryCount sheet) (b + t) j
   pub agreed : all (keysAgree sheet r a b) t ≡ true
 
-walk-start : (sheet : List ℕ) → Rising sheet 2 (entryCount sheet) → 2 + entryCount sheet ≤ length sheet → (r : ℕ → ℕ → Bool) (a b i j : ℕ)
-    → i ≡ lowerBound sheet 2 (entryCount sheet) a → j ≡ lowerBound sheet 2 (entryCount sheet) b → Walk sheet r a b 0 i j
-walk-start sheet up fits r a b i j p q = record {
-  left = rw (add-zero, p) (lower-bound sheet 2 (entryCount sheet) a up fits);
-  right = rw (add-zero, q) (lower-bound sheet 2 (entryCount sheet) b up fits);
-  agreed = all-in (keysAgree sheet r a b) 0 (λ t l. absurd (omega arith));
-}
+module _ {sheet classes : List ℕ} {counts : Bool} {width a b i j : ℕ} (rows : Rows sheet classes counts width a b i j) where
+  fits : 2 + entryCount sheet ≤ length sheet
+  fits = omega (arith, rows .whole)
 
--- a turn: whether each pointer has its key
-module _ {sheet : List ℕ} (up : Rising sheet 2 (entryCount sheet)) {r : ℕ → ℕ → Bool} {a b t i j : ℕ} (w : Walk sheet r a b t i j) {g h : Bool}
-    (p : g ≡ hasKey sheet i (a + t)) (q : h ≡ hasKey sheet j (b + t)) where
-  agree-here : keysAgree sheet r a b t ≡ equalArcs r (cond g (some (entryValue sheet i)) none) (cond h (some (entryValue sheet j)) none)
-  unfolding keysAgree
-  agree-here = rw (p, q, value-at-bound sheet up (a + t) i (w .left), value-at-bound sheet up (b + t) j (w .right))
+  pub walk-start : (r : ℕ → ℕ → Bool) → Walk sheet r a b 0 i j
+  walk-start r = record {
+    left = rw (add-zero, rows .left .start) (lower-bound sheet 2 (entryCount sheet) a (rows .rising) fits);
+    right = rw (add-zero, rows .right .start) (lower-bound sheet 2 (entryCount sheet) b (rows .rising) fits);
+    agreed = all-in (keysAgree sheet r a b) 0 (λ t l. absurd (omega arith));
+  }
 
-  -- one has it and the other has not
-  pub walk-differ : Bool·beq g h ≡ false → (n : ℕ) → t < n → false ≡ all (keysAgree sheet r a b) n
-  walk-differ e n l = sym (all-fails (keysAgree sheet r a b) n t l (agree-here ∙ equal-differ r g h (entryValue sheet i) (entryValue sheet j) e))
+  -- a turn: whether each pointer has its key
+  module _ {r : ℕ → ℕ → Bool} {t x y : ℕ} (w : Walk sheet r a b t x y) (l : t < width) {g h : Bool} (p : g ≡ hasKey sheet x (a + t)) (q : h ≡ hasKey sheet y (b + t)) where
+    agree-here : keysAgree sheet r a b t ≡ equalArcs r (cond g (some (entryValue sheet x)) none) (cond h (some (entryValue sheet y)) none)
+    unfolding keysAgree
+    agree-here = rw (p, q, value-at-bound sheet (rows .rising) (a + t) x (w .left), value-at-bound sheet (rows .rising) (b + t) y (w .right))
 
-  module _ (e : Bool·beq g h ≡ true) where
-    -- neither has it
-    pub walk-miss : g ≡ false → Walk sheet r a b (t + 1) i j
-    walk-miss d =
-        let f = beq-right g h false e d in
-        record {
-          left = bound-miss sheet up a t i (sym p ∙ d) (w .left);
-          right = bound-miss sheet up b t j (sym q ∙ f) (w .right);
-          agreed = all-more (keysAgree sheet r a b) t (w .agreed) (agree-here ∙ rw (d, f));
+    -- one has it and the other has not
+    pub walk-differ : Bool·beq g h ≡ false → false ≡ all (keysAgree sheet r a b) width
+    walk-differ e = sym (all-fails (keysAgree sheet r a b) width t l (agree-here ∙ equal-differ r g h (entryValue sheet x) (entryValue sheet y) e))
+
+    module _ (e : Bool·beq g h ≡ true) where
+      -- neither has it
+      pub walk-miss : g ≡ false → Walk sheet r a b (t + 1) x y
+      walk-miss d =
+          let f = beq-right g h false e d in
+          record {
+            left = bound-miss sheet (rows .rising) a t x (sym p ∙ d) (w .left);
+            right = bound-miss sheet (rows .rising) b t y (sym q ∙ f) (w .right);
+            agreed = all-more (keysAgree sheet r a b) t (w .agreed) (agree-here ∙ rw (d, f));
+          }
+
+      -- both have it
+      module _ (d : g ≡ true) where
+        here : hasKey sheet y (b + t) ≡ true
+        here = sym q ∙ beq-right g h true e d
+
+        pub walk-values : Valued sheet classes counts x × Valued sheet classes counts y
+        walk-values = (rows .left .valued t x l (sym p ∙ d), rows .right .valued t y l here)
+
+        -- and the values do not agree
+        pub walk-apart : r (entryValue sheet x) (entryValue sheet y) ≡ false → false ≡ all (keysAgree sheet r a b) width
+        walk-apart z = sym (all-fails (keysAgree sheet r a b) width t l (agree-here ∙ rw (d, beq-right g h true e d) z))
+
+        -- or agree
+        pub walk-hit : r (entryValue sheet x) (entryValue sheet y) ≡ true → Walk sheet r a b (t + 1) (x + 1) (y + 1)
+        walk-hit z = record {
+          left = bound-hit sheet (rows .rising) a t x (sym p ∙ d) (w .left);
+          right = bound-hit sheet (rows .rising) b t y here (w .right);
+          agreed = all-more (keysAgree sheet r a b) t (w .agreed) (agree-here ∙ rw (d, beq-right g h true e d) z);
         }
-
-    -- both have it
-    module _ (d : g ≡ true) where
-      pub walk-left : hasKey sheet i (a + t) ≡ true
-      walk-left = sym p ∙ d
-
-      pub walk-right : hasKey sheet j (b + t) ≡ true
-      walk-right = sym q ∙ beq-right g h true e d
-
-      -- and the values do not agree
-      pub walk-apart : r (entryValue sheet i) (entryValue sheet j) ≡ false → (n : ℕ) → t < n → false ≡ all (keysAgree sheet r a b) n
-      walk-apart z n l = sym (all-fails (keysAgree sheet r a b) n t l (agree-here ∙ rw (d, beq-right g h true e d) z))
-
-      -- or agree
-      pub walk-hit : r (entryValue sheet i) (entryValue sheet j) ≡ true → Walk sheet r a b (t + 1) (i + 1) (j + 1)
-      walk-hit z = record {
-        left = bound-hit sheet up a t i walk-left (w .left);
-        right = bound-hit sheet up b t j walk-right (w .right);
-        agreed = all-more (keysAgree sheet r a b) t (w .agreed) (agree-here ∙ rw (d, beq-right g h true e d) z);
-      }
 
 -- ---- the rows of two nodes
 
@@ -141,74 +146,90 @@ labels-all f g k =
     (sym (tabulate-at f 0 k p l) ∙ ap (λ (x : List ℕ). getD x p 0) (equalLabels-out (tabulate f k) (tabulate g k) e) ∙ tabulate-at g 0 k p l)))
     (λ e. equalLabels-in (tabulate f k) (tabulate g k) (tabulate-ext f g k (λ p l. eqb-true (f p) (g p) (all-out (λ p. eqb (f p) (g p)) k e p l))))
 
-module _ (N : PetriNet) (sheet : List ℕ) (w : WordsHold N sheet) where
-  arc-value : (n : ℕ) → n < nodeCount sheet → (t : ℕ) → t < N .transitions → arc N sheet n t ≡ keyValue sheet (n * N .transitions + t)
-  unfolding arc arcEntry keyValue
-  arc-value n l t m = rw (lt-ltb n (nodeCount sheet) l, lt-ltb t (N .transitions) m)
+-- counts are above 0 where they are there
+value-test : (sheet : List ℕ) (x y : Option ℕ) → ((i : ℕ) → x ≡ some i → 1 ≤ entryValue sheet i) → ((i : ℕ) → y ≡ some i → 1 ≤ entryValue sheet i)
+    → eqb (foundOr 0 (entryValue sheet) x) (foundOr 0 (entryValue sheet) y) ≡ equalArcs eqb (Option·map (entryValue sheet) x) (Option·map (entryValue sheet) y)
+value-test sheet none none p q = eq-eqb 0 0 refl
+value-test sheet none (some j) p q = ne-eqb 0 (entryValue sheet j) (λ e. let z = q j refl in omega arith)
+value-test sheet (some i) none p q = ne-eqb (entryValue sheet i) 0 (λ e. let z = p i refl in omega arith)
+value-test sheet (some i) (some j) p q = refl
 
-  -- counts are above 0 where they are there
-  value-test : (x y : Option ℕ) → ((i : ℕ) → x ≡ some i → 1 ≤ entryValue sheet i) → ((i : ℕ) → y ≡ some i → 1 ≤ entryValue sheet i)
-      → eqb (foundOr 0 (entryValue sheet) x) (foundOr 0 (entryValue sheet) y) ≡ equalArcs eqb (Option·map (entryValue sheet) x) (Option·map (entryValue sheet) y)
-  value-test none none p q = eq-eqb 0 0 refl
-  value-test none (some j) p q = ne-eqb 0 (entryValue sheet j) (λ e. let z = q j refl in omega arith)
-  value-test (some i) none p q = ne-eqb (entryValue sheet i) 0 (λ e. let z = p i refl in omega arith)
-  value-test (some i) (some j) p q = refl
+module _ {net sheet : List ℕ} (readable : Readable net sheet) where
+  abbrev N : PetriNet
+  N = petriNet net
 
-  count-some : (key i : ℕ) → arcKeys N sheet ≤ key → entryWithKey sheet key ≡ some i → 1 ≤ entryValue sheet i
-  unfolding entryWithKey
-  count-some key i l e =
-      let (h, k) = entry-some sheet 2 (entryCount sheet) key i e in
-      w .values i h .some (unfold entryKey in (rw k l))
+  w : WordsHold N sheet
+  w = words net sheet readable
 
-  count-value : (n p : ℕ) → n < nodeCount sheet → p < N .places → count N sheet n p ≡ foundOr 0 (entryValue sheet) (entryWithKey sheet (arcKeys N sheet + n * N .places + p))
-  unfolding count
-  count-value n p l h = rw (lt-ltb n (nodeCount sheet) l, lt-ltb p (N .places) h)
+  pub rows : {classes : List ℕ} {counts : Bool} {width a b i j : ℕ} → Row sheet classes counts width a i → Row sheet classes counts width b j
+      → Rows sheet classes counts width a b i j
+  rows l r = record { whole = w .shape .whole; rising = words-rise N sheet w; left = l; right = r }
 
   -- ---- arcs, with T as the code reads it
 
   module _ (T : ℕ) (e : T ≡ N .transitions) where
-    pub arc-starts : (starts : List ℕ) → RowStarts sheet 0 T starts → RowStarts sheet 0 (N .transitions) starts
-    arc-starts starts h = rw (← e) h
-
-    pub arcs-start : (r : ℕ → ℕ → Bool) (n m i j : ℕ) → i ≡ rowStart sheet 0 (N .transitions) n → j ≡ rowStart sheet 0 (N .transitions) m
-        → Walk sheet r (n * T) (m * T) 0 i j
-    unfolding rowStart
-    arcs-start r n m i j p q =
-        let a : 0 + n * N .transitions ≡ n * N .transitions = omega arith in
-        let b : 0 + m * N .transitions ≡ m * N .transitions = omega arith in
-        rw e (walk-start sheet (words-rise N sheet w) (words-fit N sheet w) r (n * N .transitions) (m * N .transitions) i j (rw a at p) (rw b at q))
-
-    pub arcs-walked : (r : ℕ → ℕ → Bool) (n m : ℕ) → n < nodeCount sheet → m < nodeCount sheet
-        → all (keysAgree sheet r (n * T) (m * T)) T ≡ all (agree (graph N sheet) r n m) (N .transitions)
-    unfolding keysAgree agree graph
-    arcs-walked r n m ln lm = rw e (all-ext _ _ (N .transitions) (λ t l. rw (arc-value n ln t l, arc-value m lm t l)))
+    pub arc-starts : {starts : List ℕ} → RowStarts sheet 0 T starts → RowStarts sheet 0 (N .transitions) starts
+    arc-starts h = rw (← e) h
 
     -- an arc's target is a node
-    pub arc-target : (n t i : ℕ) → n < nodeCount sheet → t < T → hasKey sheet i (n * T + t) ≡ true → entryValue sheet i < nodeCount sheet
+    arc-target : (n t i : ℕ) → n < nodeCount sheet → t < T → hasKey sheet i (n * T + t) ≡ true → entryValue sheet i < nodeCount sheet
     arc-target n t i ln l h =
         w .values i (has-within sheet i (n * T + t) h) .target
         (unfold entryKey arcKeys in (rw (has-is sheet i (n * T + t) h, ← e) (row-lt n T t (nodeCount sheet) l ln)))
 
+    pub arc-row : {classes : List ℕ} {n i : ℕ} → length classes ≡ 128 → n < nodeCount sheet → i ≡ rowStart sheet 0 (N .transitions) n
+        → Row sheet classes false T (n * T) i
+    unfolding rowStart
+    arc-row {classes} {n} {i} long l p = record {
+      low = omega (arith, arc-key-low net sheet readable T e n T l (omega arith));
+      start = let z : 0 + n * N .transitions ≡ n * N .transitions = omega arith in rw e (rw z at p);
+      valued = λ t k m h. record {
+        within = has-within sheet k (n * T + t) h;
+        target = λ _. let q = node-low net sheet readable (entryValue sheet k) (arc-target n t k l m h) in omega arith;
+      };
+    }
+
+    arc-value : (n : ℕ) → n < nodeCount sheet → (t : ℕ) → t < N .transitions → arc N sheet n t ≡ keyValue sheet (n * N .transitions + t)
+    unfolding arc arcEntry keyValue
+    arc-value n l t m = rw (lt-ltb n (nodeCount sheet) l, lt-ltb t (N .transitions) m)
+
+    pub arcs-walked : (classes : List ℕ) {n m : ℕ} → n < nodeCount sheet → m < nodeCount sheet
+        → all (keysAgree sheet (valuesAgree classes false) (n * T) (m * T)) T ≡ all (agree (graph N sheet) (sameClass (classIn classes)) n m) (N .transitions)
+    unfolding valuesAgree keysAgree agree graph
+    arcs-walked classes {n} {m} ln lm = rw e (all-ext _ _ (N .transitions) (λ t l. rw (arc-value n ln t l, arc-value m lm t l)))
+
   -- ---- counts, with T and P as the code reads them
 
   module _ (T P : ℕ) (e : T ≡ N .transitions) (f : P ≡ N .places) where
-    pub count-starts : (starts : List ℕ) → RowStarts sheet (nodeCount sheet * T) P starts → RowStarts sheet (arcKeys N sheet) (N .places) starts
+    pub count-starts : {starts : List ℕ} → RowStarts sheet (nodeCount sheet * T) P starts → RowStarts sheet (arcKeys N sheet) (N .places) starts
     unfolding arcKeys
-    count-starts starts h = rw (← e, ← f) h
+    count-starts h = rw (← e, ← f) h
 
-    pub counts-start : (n m i j : ℕ) → i ≡ rowStart sheet (arcKeys N sheet) (N .places) n → j ≡ rowStart sheet (arcKeys N sheet) (N .places) m
-        → Walk sheet eqb (nodeCount sheet * T + n * P) (nodeCount sheet * T + m * P) 0 i j
+    pub count-row : {classes : List ℕ} {n i : ℕ} → n < nodeCount sheet → i ≡ rowStart sheet (arcKeys N sheet) (N .places) n
+        → Row sheet classes true P (nodeCount sheet * T + n * P) i
     unfolding rowStart arcKeys
-    counts-start n m i j p q =
-        rw (e, f) (walk-start sheet (words-rise N sheet w) (words-fit N sheet w) eqb
-        (nodeCount sheet * N .transitions + n * N .places) (nodeCount sheet * N .transitions + m * N .places) i j p q)
+    count-row {classes} {n} {i} l p = record {
+      low = unfold nodeCount in (count-key-low net sheet readable T e P f n P l (omega arith));
+      start = rw (e, f) p;
+      valued = λ t k m h. record { within = has-within sheet k _ h; target = λ z. true-false true refl z };
+    }
 
-    pub counts-walked : (n m : ℕ) → n < nodeCount sheet → m < nodeCount sheet
-        → all (keysAgree sheet eqb (nodeCount sheet * T + n * P) (nodeCount sheet * T + m * P)) P ≡ sameIn (graph N sheet) 0 n m
-    unfolding sameIn graph keysAgree keyValue
-    counts-walked n m ln lm =
+    count-some : (key i : ℕ) → arcKeys N sheet ≤ key → entryWithKey sheet key ≡ some i → 1 ≤ entryValue sheet i
+    unfolding entryWithKey
+    count-some key i l z =
+        let (h, k) = entry-some sheet 2 (entryCount sheet) key i z in
+        w .values i h .some (unfold entryKey in (rw k l))
+
+    count-value : (n p : ℕ) → n < nodeCount sheet → p < N .places → count N sheet n p ≡ foundOr 0 (entryValue sheet) (entryWithKey sheet (arcKeys N sheet + n * N .places + p))
+    unfolding count
+    count-value n p l h = rw (lt-ltb n (nodeCount sheet) l, lt-ltb p (N .places) h)
+
+    pub counts-walked : (classes : List ℕ) {n m : ℕ} → n < nodeCount sheet → m < nodeCount sheet
+        → all (keysAgree sheet (valuesAgree classes true) (nodeCount sheet * T + n * P) (nodeCount sheet * T + m * P)) P ≡ sameIn (graph N sheet) 0 n m
+    unfolding valuesAgree sameIn graph keysAgree keyValue
+    counts-walked classes {n} {m} ln lm =
         rw (e, f) (all-ext _ (λ p. eqb (count N sheet n p) (count N sheet m p)) (N .places) (λ p l. sym (rw (count-value n p ln l, count-value m p lm l)
-        (unfold arcKeys in (value-test _ _ (λ i e. count-some (nodeCount sheet * N .transitions + n * N .places + p) i (unfold arcKeys in (omega arith)) e)
-        (λ i e. count-some (nodeCount sheet * N .transitions + m * N .places + p) i (unfold arcKeys in (omega arith)) e)))))
+        (unfold arcKeys in (value-test sheet _ _ (λ i z. count-some (nodeCount sheet * N .transitions + n * N .places + p) i (unfold arcKeys in (omega arith)) z)
+        (λ i z. count-some (nodeCount sheet * N .transitions + m * N .places + p) i (unfold arcKeys in (omega arith)) z)))))
         ∙ sym (labels-all (count N sheet n) (count N sheet m) (N .places))
         ∙ rw (marking-node N sheet n ln, marking-node N sheet m lm))

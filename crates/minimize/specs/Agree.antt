@@ -1,16 +1,21 @@
 -- The rows of two nodes agree: at each key of the one and the same key of the other both entries are missing, or both there with values that agree.
 -- No contract of a public function cites it.
-use Prim.Native.Nat.{ℕ, _+_, _*_, _<_}
+use Prim.Native.Nat.{ℕ, _+_, _*_, _≤_, _<_}
 use mathlib.Core.Path.{_≡_}
 use mathlib.Core.List.{List}
-use mathlib.Core.Bool.{Bool, _&&_}
+use mathlib.Core.Bool.{Bool, true, false, cond, _&&_}
 use mathlib.Core.Option.{Option, Option·map}
 use lib.Dec.{ltb, eqb}
-use lib.ListN.{getD}
-use Rattle.table.specs.Table.{keyAt}
+use lib.ListN.{length, getD}
+use Rattle.table.specs.Table.{keyAt, Rising}
 use Rattle.table.specs.Bisection.{lowerBound}
-use Rattle.automaton.specs.Equivalence.{equalArcs}
+use Rattle.automaton.specs.Equivalence.{sameClass, equalArcs}
 use Rattle.sequential.specs.Words.{nodeCount, entryCount, entryValue, entryWithKey}
+use Rattle.minimize.specs.Tables.{classIn}
+
+-- counts agree where they are equal, targets of arcs where they have one class
+unfoldable pub valuesAgree : List ℕ → Bool → ℕ → ℕ → Bool
+valuesAgree classes counts = cond counts eqb (sameClass (classIn classes))
 
 module _ (sheet : List ℕ) where
   -- there is an entry i and it has the key
@@ -24,6 +29,23 @@ module _ (sheet : List ℕ) where
   -- the entries at t past two keys agree
   unfoldable pub keysAgree : (ℕ → ℕ → Bool) → ℕ → ℕ → ℕ → Bool
   keysAgree r a b t = equalArcs r (keyValue (a + t)) (keyValue (b + t))
+
+  -- entry i is there, and where it is an arc, a table has its target
+  pub record Valued (classes : List ℕ) (counts : Bool) (i : ℕ) : Type 0 where
+    pub within : i < entryCount sheet
+    pub target : counts ≡ false → entryValue sheet i < length classes
+
+  -- a row of a width, from a key on: its first entry, and any at its keys
+  pub record Row (classes : List ℕ) (counts : Bool) (width key i : ℕ) : Type 0 where
+    pub low : key + width ≤ 8224
+    pub start : i ≡ lowerBound sheet 2 (entryCount sheet) key
+    pub valued : (t k : ℕ) → t < width → hasKey k (key + t) ≡ true → Valued classes counts k
+
+  pub record Rows (classes : List ℕ) (counts : Bool) (width a b i j : ℕ) : Type 0 where
+    pub whole : length sheet ≡ 2 + 2 * entryCount sheet
+    pub rising : Rising sheet 2 (entryCount sheet)
+    pub left : Row classes counts width a i
+    pub right : Row classes counts width b j
 
   -- the entry at which the row of node n starts, among rows of a width from a base on
   unfoldable pub rowStart : ℕ → ℕ → ℕ → ℕ

@@ -8,10 +8,10 @@ ghost use Rattle.net.specs.Net.{placeCount, transitionCount};
 ghost use Rattle.table.specs.Table.{Rising};
 ghost use Rattle.automaton.specs.Equivalence.{sameClass, agree, sameIn, leaderBy, refined};
 ghost use Rattle.sequential.specs.Petri.{petriNet};
-ghost use Rattle.sequential.specs.Words.{nodeCount, entryCount, arcKeys, graph};
+ghost use Rattle.sequential.specs.Words.{nodeCount, entryCount, entryValue, arcKeys, graph};
 ghost use Rattle.graph.specs.Readable.{Readable};
 ghost use Rattle.minimize.specs.Tables.{classIn, Classes};
-ghost use Rattle.minimize.specs.Agree.{hasKey, rowStart, RowStarts};
+ghost use Rattle.minimize.specs.Agree.{hasKey, valuesAgree, keysAgree, Valued, Rows, rowStart, RowStarts};
 ghost use Rattle.minimize.specs.Leaders.{LeadersBy, sameEntry};
 
 // Whether there is an entry i and it has a key.
@@ -23,6 +23,57 @@ fn has_key(sheet: &[u32], i: usize, key: u32) -> bool
         return false;
     }
     sheet[2 + i] == key
+}
+
+// Whether the values of entries i and j agree: counts as they are, targets of arcs by their classes.
+fn values_agree(sheet: &[u32], classes: &[u8], counts: bool, i: usize, j: usize) -> bool
+    requires { ⌜ length (now sheet) ≡ 2 + 2 * entryCount (now sheet) ⌝ }
+    requires { ⌜ Valued (now sheet) (now classes) counts i ⌝ }
+    requires { ⌜ Valued (now sheet) (now classes) counts j ⌝ }
+    ensures { λ r. ⌜ r ≡ valuesAgree (now (classes .entry)) counts (entryValue (now (sheet .entry)) i) (entryValue (now (sheet .entry)) j) ⌝ }
+{
+    let entries = sheet[1] as usize;
+    let v = sheet[2 + entries + i];
+    let w = sheet[2 + entries + j];
+    if counts {
+        return v == w;
+    }
+    classes[v as usize] == classes[w as usize]
+}
+
+// Whether two rows of a width agree key by key: both keys have entries whose values agree, or neither has one. The rows go from keys a and b
+// on, and start at entries i and j.
+fn rows_agree(
+    sheet: &[u32],
+    classes: &[u8],
+    counts: bool,
+    width: u32,
+    a: u32,
+    b: u32,
+    i: usize,
+    j: usize,
+) -> bool
+    requires { ⌜ Rows (now sheet) (now classes) counts width a b i j ⌝ }
+    ensures { λ r. ⌜ r ≡ all (keysAgree (now (sheet .entry)) (valuesAgree (now (classes .entry)) counts) a b) width ⌝ }
+{
+    let mut x = i;
+    let mut y = j;
+    let mut t = 0;
+    while t < width {
+        let there = has_key(sheet, x, a + t);
+        if there != has_key(sheet, y, b + t) {
+            return false;
+        }
+        t += 1;
+        if there {
+            if !values_agree(sheet, classes, counts, x, y) {
+                return false;
+            }
+            x += 1;
+            y += 1;
+        }
+    }
+    true
 }
 
 // Whether every transition leads from n and m into one class, or from neither. Their arcs start at entries i and j.
@@ -43,29 +94,9 @@ fn arcs_agree(
     ensures { λ r. ⌜ r ≡ all (agree (graph (petriNet (now (net .entry))) (now (sheet .entry))) (sameClass (classIn classes)) n m) (transitionCount (now (net .entry))) ⌝ }
 {
     let transitions = net::transitions(net);
-    let entries = sheet[1] as usize;
     let a = n * transitions;
     let b = m * transitions;
-    let mut x = i;
-    let mut y = j;
-    let mut t = 0;
-    while t < transitions {
-        let there = has_key(sheet, x, a + t);
-        if there != has_key(sheet, y, b + t) {
-            return false;
-        }
-        t += 1;
-        if there {
-            let to = sheet[2 + entries + x] as usize;
-            let other = sheet[2 + entries + y] as usize;
-            if classes[to] != classes[other] {
-                return false;
-            }
-            x += 1;
-            y += 1;
-        }
-    }
-    true
+    rows_agree(sheet, &classes, false, transitions, a, b, i, j)
 }
 
 // Whether n and m have equal counts. Their counts start at entries i and j.
@@ -78,28 +109,11 @@ fn counts_agree(net: &[u32], sheet: &[u32], n: u32, m: u32, i: usize, j: usize) 
     ensures { λ r. ⌜ r ≡ sameIn (graph (petriNet (now (net .entry))) (now (sheet .entry))) 0 n m ⌝ }
 {
     let places = net::places(net);
-    let entries = sheet[1] as usize;
     let base = sheet[0] * net::transitions(net);
     let a = base + n * places;
     let b = base + m * places;
-    let mut x = i;
-    let mut y = j;
-    let mut p = 0;
-    while p < places {
-        let there = has_key(sheet, x, a + p);
-        if there != has_key(sheet, y, b + p) {
-            return false;
-        }
-        p += 1;
-        if there {
-            if sheet[2 + entries + x] != sheet[2 + entries + y] {
-                return false;
-            }
-            x += 1;
-            y += 1;
-        }
-    }
-    true
+    let classes = [0u8; 0];
+    rows_agree(sheet, &classes, true, places, a, b, i, j)
 }
 
 // The entry at which the row of each node starts.

@@ -46,8 +46,7 @@ loop-holds c = (omega arith, (c .counts-classes .ensures))
 arcs-classes-requires : tie.Need-arcs-classes-requires Inv-loop μ-loop
 arcs-classes-requires c κs = (
   c .before .before .before .before .before .before .before .before .pre,
-  arc-starts _ _
-      (words _ _ (c .before .before .before .before .before .before .before .before .pre)) _ (c .before .before .before .before .transitions .ensures) _
+  arc-starts (c .before .before .before .before .before .before .before .before .pre) _ (c .before .before .before .before .transitions .ensures)
       (c .before .before .before .row-starts .ensures),
 )
 

@@ -66,8 +66,8 @@ counts-leader-requires c κs = (
   c .before .before .before .before .before .before .before .before .pre,
   (
     c .loop-test .taken,
-    count-starts _ _ (words _ _ (c .before .before .before .before .before .before .before .before .pre)) _ _
-        (c .before .before .before .before .transitions .ensures) (c .before .before .before .places .ensures) _ (c .before .before .row-starts .ensures),
+    count-starts (c .before .before .before .before .before .before .before .before .pre) _ _ (c .before .before .before .before .transitions .ensures)
+        (c .before .before .before .places .ensures) (c .before .before .row-starts .ensures),
   ),
 )
 
