@@ -4,7 +4,7 @@ pub mod Source
 pub mod Rows
 pub mod Accessors
 pub mod Checks
-pub mod Demands
 pub mod Examples
 pub mod Laws
+pub mod Demands
 pub mod Cut
