@@ -1,12 +1,18 @@
-// Choice sets (§5.1): each known by its least transition, in a table made once for a net.
+// Choice sets (§5.1): each is known by its least transition.
 ghost use mathlib.Core.Path.{_≡_};
 ghost use Prim.Native.Nat.{_≤_};
-ghost use Rattle.scan.specs.Scan.{all, least, tabulate};
+ghost use Rattle.scan.specs.Scan.{all, least};
 ghost use Rattle.net.specs.Check.{netReply};
 ghost use Rattle.refusal.specs.declared.Verdict.the-variants.{Accepted};
 ghost use Rattle.sequential.specs.Petri.{petriNet};
 ghost use Rattle.sequential.specs.Tests.{isSource, sameChoice};
-ghost use Rattle.judge.specs.Rows.{choiceOf, firstSource, present, presentAsChoice};
+ghost use Rattle.judge.specs.Rows.{choiceOf, firstSource, ChoicesOf, present, presentAsChoice};
+
+// The least transition of each transition's choice set, and the least source, which stands for all of them (§5.2).
+pub(crate) struct Choices {
+    pub(crate) leaders: [u32; 32],
+    pub(crate) source: u32,
+}
 
 // Whether t and u are in one choice set: §5.1.
 fn same_choice(net: &[u32], t: u32, u: u32) -> bool
@@ -41,19 +47,6 @@ fn choice_of(net: &[u32], t: u32) -> u32
     t
 }
 
-// The least transition of each transition's choice set.
-pub(crate) fn choice_table(net: &[u32]) -> [u32; 32]
-    requires { ⌜ netReply (now net) ≡ Accepted ⌝ }
-    ensures { λ r. ⌜ r ≡ tabulate (choiceOf (petriNet (now (net .entry)))) 32 ⌝ }
-{
-    let mut table = [0u32; 32];
-    for i in 0..32usize {
-        let leader = choice_of(net, i as u32);
-        table[i] = leader;
-    }
-    table
-}
-
 // Whether t is a source: §2.9.
 fn is_source(net: &[u32], t: u32) -> bool
     requires { ⌜ netReply (now net) ≡ Accepted ⌝ }
@@ -71,8 +64,8 @@ fn is_source(net: &[u32], t: u32) -> bool
     true
 }
 
-// The least source, which stands for all of them (§5.2).
-pub(crate) fn first_source(net: &[u32]) -> u32
+// The least source.
+fn first_source(net: &[u32]) -> u32
     requires { ⌜ netReply (now net) ≡ Accepted ⌝ }
     ensures { λ r. ⌜ r ≡ firstSource (petriNet (now (net .entry))) ⌝ }
 {
@@ -85,6 +78,22 @@ pub(crate) fn first_source(net: &[u32]) -> u32
         t += 1;
     }
     transitions
+}
+
+// Made once for a net: every node is held to them.
+pub(crate) fn choices_of(net: &[u32]) -> Choices
+    requires { ⌜ netReply (now net) ≡ Accepted ⌝ }
+    ensures { λ r. ⌜ ChoicesOf (petriNet (now (net .entry))) (r .leaders) (r .source) ⌝ }
+{
+    let mut leaders = [0u32; 32];
+    for i in 0..32usize {
+        let leader = choice_of(net, i as u32);
+        leaders[i] = leader;
+    }
+    Choices {
+        leaders,
+        source: first_source(net),
+    }
 }
 
 // The first transition that has an arc in a row, or the number of transitions.
@@ -103,13 +112,13 @@ pub(crate) fn first_present(arcs: [u32; 32], transitions: usize) -> usize
 }
 
 // Whether a row has the arcs of the choice set that is known by c, and no others: §5.3.
-pub(crate) fn are_choice(arcs: [u32; 32], choices: [u32; 32], c: u32, transitions: usize) -> bool
+pub(crate) fn are_choice(arcs: [u32; 32], leaders: [u32; 32], c: u32, transitions: usize) -> bool
     requires { ⌜ transitions ≤ 32 ⌝ }
-    ensures { λ r. ⌜ r ≡ all (presentAsChoice arcs choices c) transitions ⌝ }
+    ensures { λ r. ⌜ r ≡ all (presentAsChoice arcs leaders c) transitions ⌝ }
 {
     let mut t = 0;
     while t < transitions {
-        if (0 < arcs[t]) != (choices[t] == c) {
+        if (0 < arcs[t]) != (leaders[t] == c) {
             return false;
         }
         t += 1;

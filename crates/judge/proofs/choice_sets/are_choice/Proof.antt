@@ -12,10 +12,10 @@ use Rattle.judge.proofs.choice_sets.are_choice.Statement.{statement}
 use Rattle.judge.proofs.choice_sets.are_choice.Tie as tie
 
 abbrev Inv-loop : tie.InvT-loop
-Inv-loop c transitions arcs choices t₀ t = (t ≤ transitions) × (all (presentAsChoice arcs choices c) t ≡ true)
+Inv-loop c transitions arcs leaders t₀ t = (t ≤ transitions) × (all (presentAsChoice arcs leaders c) t ≡ true)
 
 abbrev μ-loop : tie.MeasureT-loop
-μ-loop c transitions arcs choices t₀ t = transitions - t
+μ-loop c transitions arcs leaders t₀ t = transitions - t
 
 loop-holds : tie.Need-loop-holds Inv-loop μ-loop
 loop-holds c = (omega arith, all-in _ _ (λ j l. absurd (omega arith)))

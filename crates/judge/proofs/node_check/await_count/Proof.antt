@@ -15,10 +15,10 @@ use Rattle.judge.proofs.node_check.await_count.Statement.{statement}
 use Rattle.judge.proofs.node_check.await_count.Tie as tie
 
 abbrev Inv-loop : tie.InvT-loop
-Inv-loop net sheet table source nodes awaits₀ n₀ awaits n = (n ≤ nodes) × (awaits ≡ count (isAwait (petriNet net) (graph (petriNet net) sheet)) n)
+Inv-loop net sheet choices nodes awaits₀ n₀ awaits n = (n ≤ nodes) × (awaits ≡ count (isAwait (petriNet net) (graph (petriNet net) sheet)) n)
 
 abbrev μ-loop : tie.MeasureT-loop
-μ-loop net sheet table source nodes awaits₀ n₀ awaits n = nodes - n
+μ-loop net sheet choices nodes awaits₀ n₀ awaits n = nodes - n
 
 shared-slice-read-nodes : tie.Need-shared-slice-read-nodes Inv-loop μ-loop
 shared-slice-read-nodes c = let k = known _ _ ((c .before .before .before .pre) .0) in omega arith
@@ -29,7 +29,7 @@ loop-holds c = (omega arith, refl)
 
 is-await-requires : tie.Need-is-await-requires Inv-loop μ-loop
 unfolding nodeCount
-is-await-requires c κs = (((c .before .before .before .before .before .pre) .0), (((c .before .before .before .before .before .pre) .1 .0), (((c .before .before .before .before .before .pre) .1 .1), ((c .loop-test) .taken))))
+is-await-requires c κs = (((c .before .before .before .before .before .pre) .0), ((c .before .before .before .before .before .pre) .1, c .loop-test .taken))
 
 add-n : tie.Need-add-n Inv-loop μ-loop
 add-n c = let k = known _ _ ((c .before .before .before .before .before .before .pre) .0) in omega arith

@@ -19,10 +19,10 @@ use Rattle.judge.proofs.node_check.nodes_fault.Statement.{statement}
 use Rattle.judge.proofs.node_check.nodes_fault.Tie as tie
 
 abbrev Inv-loop : tie.InvT-loop
-Inv-loop net sheet table source nodes n₀ n = (n ≤ nodes) × (first (nodeFault (petriNet net) sheet) n ≡ none)
+Inv-loop net sheet choices nodes n₀ n = (n ≤ nodes) × (first (nodeFault (petriNet net) sheet) n ≡ none)
 
 abbrev μ-loop : tie.MeasureT-loop
-μ-loop net sheet table source nodes n₀ n = nodes - n
+μ-loop net sheet choices nodes n₀ n = nodes - n
 
 shared-slice-read-nodes : tie.Need-shared-slice-read-nodes Inv-loop μ-loop
 shared-slice-read-nodes c = let k = known _ _ ((c .before .before .before .pre) .0) in omega arith
@@ -32,7 +32,7 @@ loop-holds c = (omega arith, first-none _)
 
 node-fault-requires : tie.Need-node-fault-requires Inv-loop μ-loop
 unfolding nodeCount
-node-fault-requires c κs = (((c .before .before .before .before .before .pre) .0), (((c .before .before .before .before .before .pre) .1 .0), ((c .loop-test) .taken)))
+node-fault-requires c κs = (((c .before .before .before .before .before .pre) .0), ((c .before .before .before .before .before .pre) .1, c .loop-test .taken))
 
 enum-told : tie.Need-enum-told Inv-loop μ-loop
 enum-told c = search needs
@@ -55,7 +55,7 @@ loop-again c = (omega arith, first-more _ _ ((c .before .before .before .before 
 
 is-await-requires : tie.Need-is-await-requires Inv-loop μ-loop
 unfolding nodeCount
-is-await-requires c κs = let k = known _ _ ((c .before .before .before .before .before .pre) .0) in (((c .before .before .before .before .before .pre) .0), (((c .before .before .before .before .before .pre) .1 .0), (((c .before .before .before .before .before .pre) .1 .1), k .some-node)))
+is-await-requires c κs = let k = known _ _ ((c .before .before .before .before .before .pre) .0) in (((c .before .before .before .before .before .pre) .0), ((c .before .before .before .before .before .pre) .1, k .some-node))
 
 returns-2 : tie.Need-returns-2 Inv-loop μ-loop
 unfolding nodeCount rootFault lineFinds foundAt
