@@ -28,7 +28,7 @@ use Rattle.sequential.proofs.Entries.{marking-node, row-lt}
 use Rattle.graph.specs.Readable.{Readable}
 use Rattle.graph.proofs.Readable.{words}
 use Rattle.minimize.specs.Tables.{classIn}
-use Rattle.minimize.specs.Agree.{hasKey, keyValue, valuesAgree, keysAgree, Valued, Row, Rows, rowStart, RowStarts}
+use Rattle.minimize.specs.Agree.{hasKey, keyValue, valuesAgree, keysAgree, Valued, Row, Rows, rowStart, Laid, RowStarts}
 use Rattle.minimize.proofs.Known.{node-low, arc-key-low, count-key-low}
 
 -- ---- one pointer
@@ -164,6 +164,11 @@ module _ {net sheet : List ℕ} (readable : Readable net sheet) where
   pub rows : {classes : List ℕ} {counts : Bool} {width a b i j : ℕ} → Row sheet classes counts width a i → Row sheet classes counts width b j
       → Rows sheet classes counts width a b i j
   rows l r = record { whole = w .shape .whole; rising = words-rise N sheet w; left = l; right = r }
+
+  pub laid : {base width : ℕ} → base ≤ 4096 → width ≤ 32 → Laid sheet base width
+  laid b l =
+      let h = w .shape in
+      record { whole = h .whole; rising = words-rise N sheet w; few-entries = h .few-entries; few-nodes = h .few-nodes; low = b; narrow = l }
 
   -- ---- arcs, with T as the code reads it
 

@@ -51,6 +51,15 @@ module _ (sheet : List ℕ) where
   unfoldable pub rowStart : ℕ → ℕ → ℕ → ℕ
   rowStart base width n = lowerBound sheet 2 (entryCount sheet) (base + n * width)
 
+  -- the words are short enough, and so are the rows
+  pub record Laid (base width : ℕ) : Type 0 where
+    pub whole : length sheet ≡ 2 + 2 * entryCount sheet
+    pub rising : Rising sheet 2 (entryCount sheet)
+    pub few-entries : entryCount sheet ≤ 4096
+    pub few-nodes : nodeCount sheet ≤ 128
+    pub low : base ≤ 4096
+    pub narrow : width ≤ 32
+
   -- a table of these entries
   pub record RowStarts (base width : ℕ) (starts : List ℕ) : Type 0 where
     pub start : (n : ℕ) → n < nodeCount sheet → getD starts n 0 ≡ rowStart base width n

@@ -5,13 +5,12 @@ ghost use Prim.Native.Nat.{_+_, _*_, _≤_, _<_};
 ghost use lib.ListN.{length};
 ghost use Rattle.scan.specs.Scan.{all};
 ghost use Rattle.net.specs.Net.{placeCount, transitionCount};
-ghost use Rattle.table.specs.Table.{Rising};
 ghost use Rattle.automaton.specs.Equivalence.{sameClass, agree, sameIn, leaderBy, refined};
 ghost use Rattle.sequential.specs.Petri.{petriNet};
 ghost use Rattle.sequential.specs.Words.{nodeCount, entryCount, entryValue, arcKeys, graph};
 ghost use Rattle.graph.specs.Readable.{Readable};
 ghost use Rattle.minimize.specs.Tables.{classIn, Classes};
-ghost use Rattle.minimize.specs.Agree.{hasKey, valuesAgree, keysAgree, Valued, Rows, rowStart, RowStarts};
+ghost use Rattle.minimize.specs.Agree.{hasKey, valuesAgree, keysAgree, Valued, Rows, rowStart, Laid, RowStarts};
 ghost use Rattle.minimize.specs.Leaders.{LeadersBy, sameEntry};
 
 // Whether there is an entry i and it has a key.
@@ -118,12 +117,7 @@ fn counts_agree(net: &[u32], sheet: &[u32], n: u32, m: u32, i: usize, j: usize) 
 
 // The entry at which the row of each node starts.
 fn row_starts(sheet: &[u32], base: u32, width: u32) -> [u16; 128]
-    requires { ⌜ length (now sheet) ≡ 2 + 2 * entryCount (now sheet) ⌝ }
-    requires { ⌜ Rising (now sheet) 2 (entryCount (now sheet)) ⌝ }
-    requires { ⌜ entryCount (now sheet) ≤ 4096 ⌝ }
-    requires { ⌜ nodeCount (now sheet) ≤ 128 ⌝ }
-    requires { ⌜ base ≤ 4096 ⌝ }
-    requires { ⌜ width ≤ 32 ⌝ }
+    requires { ⌜ Laid (now sheet) base width ⌝ }
     ensures { λ r. ⌜ RowStarts (now (sheet .entry)) base width r ⌝ }
 {
     let nodes = sheet[0];

@@ -11,13 +11,12 @@ use Rattle.sequential.specs.Words.{nodeCount, graph}
 use Rattle.graph.proofs.Readable.{known}
 use Rattle.minimize.specs.Tables.{classIn}
 use Rattle.minimize.specs.Leaders.{LeadersBy}
-use Rattle.minimize.proofs.Known.{node-low}
 use Rattle.minimize.proofs.Leaders.{leaders-start, leaders-more}
 use Rattle.minimize.proofs.classes.arcs_classes.Statement.{statement}
 use Rattle.minimize.proofs.classes.arcs_classes.Tie as tie
 
 abbrev Inv-loop : tie.InvT-loop
-Inv-loop net sheet starts classes nodes next₀ n₀ next n = (n ≤ nodes) × (length next ≡ 128)
+Inv-loop net sheet starts classes nodes next₀ n₀ next n = (n ≤ nodes) × (nodes ≤ 128) × (length next ≡ 128)
     × LeadersBy (refined (graph (petriNet net) sheet) (classIn classes)) n next
 
 abbrev μ-loop : tie.MeasureT-loop
@@ -27,47 +26,38 @@ shared-slice-read-nodes : tie.Need-shared-slice-read-nodes Inv-loop μ-loop
 shared-slice-read-nodes c = let k = known _ _ (c .before .before .before .pre .0) in omega arith
 
 loop-holds : tie.Need-loop-holds Inv-loop μ-loop
-loop-holds c = (omega arith, refl, leaders-start _ _)
+loop-holds c = (omega arith, known _ _ (c .before .before .before .pre .0) .few-nodes, refl, leaders-start _ _)
 
 arcs-leader-requires : tie.Need-arcs-leader-requires Inv-loop μ-loop
 unfolding nodeCount
 arcs-leader-requires c κs =
-    (c .before .before .before .before .before .pre .0, (c .loop-test .taken, (c .before .before .before .before .before .pre .1, c .before .loop .inv .2)))
+    (c .before .before .before .before .before .pre .0, (c .loop-test .taken, (c .before .before .before .before .before .pre .1, c .before .loop .inv .3)))
 
 cast-next : tie.Need-cast-next Inv-loop μ-loop
-unfolding nodeCount
 cast-next c =
     let q : c .arcs-leader .result ≤ c .before .before .loop .n = rw (c .arcs-leader .ensures) (leader-le _ _) in
-    omega (arith, q, node-low _ _ (c .before .before .before .before .before .before .pre .0) _ (c .before .loop-test .taken))
+    omega (arith, q)
 
 cast-next-2 : tie.Need-cast-next-2 Inv-loop μ-loop
-unfolding nodeCount
-cast-next-2 c = omega (arith, node-low _ _ (c .before .before .before .before .before .before .pre .0) _ (c .before .loop-test .taken))
+cast-next-2 c = omega arith
 
 array-write-next : tie.Need-array-write-next Inv-loop μ-loop
-unfolding nodeCount
-array-write-next c = omega (arith, node-low _ _ (c .before .before .before .before .before .before .pre .0) _ (c .before .loop-test .taken))
+array-write-next c = omega arith
 
 add-n : tie.Need-add-n Inv-loop μ-loop
-unfolding nodeCount
-add-n c = omega (arith, node-low _ _ (c .before .before .before .before .before .before .pre .0) _ (c .before .loop-test .taken))
+add-n c = omega arith
 
 loop-less : tie.Need-loop-less Inv-loop μ-loop
 loop-less c = search needs
 
 loop-again : tie.Need-loop-again Inv-loop μ-loop
-unfolding nodeCount
-loop-again c = (
-  omega (arith, c .before .loop-test .taken),
-  simp length-set (c .before .before .loop .inv .1),
-  leaders-more _ _ _ _ (c .before .before .loop .inv .2)
-      (omega (arith, c .before .before .loop .inv .1, node-low _ _ (c .before .before .before .before .before .before .pre .0) _ (c .before .loop-test .taken)))
-      (c .arcs-leader .ensures),
-)
+loop-again c =
+    let (l, few, long, is) = c .before .before .loop .inv in
+    (omega arith, few, simp length-set long, leaders-more _ _ _ _ is (omega arith) (c .arcs-leader .ensures))
 
 returns : tie.Need-returns Inv-loop μ-loop
 unfolding nodeCount
-returns c = record { leads = λ n l. (c .before .loop .inv .2 .leads) n (omega (arith, c .loop-test .left)) }
+returns c = record { leads = λ n l. (c .before .loop .inv .3 .leads) n (omega (arith, c .loop-test .left)) }
 
 pub arcs-classes-spec : {M : Type 1} → statement M
 arcs-classes-spec =

@@ -16,7 +16,7 @@ use Rattle.minimize.proofs.classes.arcs_leader.Statement.{statement}
 use Rattle.minimize.proofs.classes.arcs_leader.Tie as tie
 
 abbrev Inv-loop : tie.InvT-loop
-Inv-loop net sheet n starts classes next own class k₀ k = (k ≤ n) × (any (inClass (refined (graph (petriNet net) sheet) (classIn classes)) n) k ≡ false)
+Inv-loop net sheet n starts classes next own class k₀ k = (k ≤ n) × (n < 128) × (any (inClass (refined (graph (petriNet net) sheet) (classIn classes)) n) k ≡ false)
 
 abbrev μ-loop : tie.MeasureT-loop
 μ-loop net sheet n starts classes next own class k₀ k = n - k
@@ -34,64 +34,34 @@ array-read-class : tie.Need-array-read-class Inv-loop μ-loop
 array-read-class c = omega (arith, node-low _ _ (c .before .before .pre .0) _ (c .before .before .pre .1 .0))
 
 loop-holds : tie.Need-loop-holds Inv-loop μ-loop
-loop-holds c = (omega arith, any-none-yet _)
+loop-holds c = (omega arith, node-low _ _ (c .before .before .pre .0) _ (c .before .before .pre .1 .0), any-none-yet _)
 
 add-k : tie.Need-add-k Inv-loop μ-loop
-add-k c = omega (arith, node-low _ _ (c .before .before .before .before .pre .0) _ (c .before .before .before .before .pre .1 .0), c .loop-test .taken)
+add-k c = omega arith
 
 cast-if1 : tie.Need-cast-if1 Inv-loop μ-loop
-cast-if1 c = omega (arith, node-low _ _ (c .before .before .before .before .pre .0) _ (c .before .before .before .before .pre .1 .0), c .loop-test .taken)
+cast-if1 c = omega arith
 
 array-read-if1 : tie.Need-array-read-if1 Inv-loop μ-loop
-array-read-if1 c = omega (arith, node-low _ _ (c .before .before .before .before .pre .0) _ (c .before .before .before .before .pre .1 .0), c .loop-test .taken)
+array-read-if1 c = omega arith
 
 cast-if2 : tie.Need-cast-if2 Inv-loop μ-loop
-cast-if2 c =
-    omega (
-      arith,
-      node-low _ _ (c .before .before .before .before .before .pre .0) _
-          (c .before .before .before .before .before .pre .1 .0),
-      c .before .loop-test .taken,
-    )
+cast-if2 c = omega arith
 
 array-read-if2 : tie.Need-array-read-if2 Inv-loop μ-loop
-array-read-if2 c =
-    omega (
-      arith,
-      node-low _ _ (c .before .before .before .before .before .pre .0) _
-          (c .before .before .before .before .before .pre .1 .0),
-      c .before .loop-test .taken,
-    )
+array-read-if2 c = omega arith
 
 cast-if2-2 : tie.Need-cast-if2-2 Inv-loop μ-loop
 cast-if2-2 c = search needs
 
 cast-arcs-agree : tie.Need-cast-arcs-agree Inv-loop μ-loop
-cast-arcs-agree c =
-    omega (
-      arith,
-      node-low _ _ (c .before .before .before .before .before .before .pre .0) _
-          (c .before .before .before .before .before .before .pre .1 .0),
-      c .before .before .loop-test .taken,
-    )
+cast-arcs-agree c = omega arith
 
 mul-arcs-agree : tie.Need-mul-arcs-agree Inv-loop μ-loop
-mul-arcs-agree c =
-    omega (
-      arith,
-      node-low _ _ (c .before .before .before .before .before .before .pre .0) _
-          (c .before .before .before .before .before .before .pre .1 .0),
-      c .before .before .loop-test .taken,
-    )
+mul-arcs-agree c = omega arith
 
 array-read-arcs-agree : tie.Need-array-read-arcs-agree Inv-loop μ-loop
-array-read-arcs-agree c =
-    omega (
-      arith,
-      node-low _ _ (c .before .before .before .before .before .before .pre .0) _
-          (c .before .before .before .before .before .before .pre .1 .0),
-      c .before .before .loop-test .taken,
-    )
+array-read-arcs-agree c = omega arith
 
 cast-arcs-agree-2 : tie.Need-cast-arcs-agree-2 Inv-loop μ-loop
 cast-arcs-agree-2 c = search needs
@@ -107,7 +77,7 @@ arcs-agree-requires c κs =
 returns : tie.Need-returns Inv-loop μ-loop
 unfolding graph classIn
 returns c =
-    leader-found _ _ _ (c .before .before .before .before .before .loop .inv .1)
+    leader-found _ _ _ (c .before .before .before .before .before .loop .inv .2)
     (refined-by-arcs _ _ _ _ (c .before .before .before .if1 .taken) ∙ sym (c .before .arcs-agree .ensures) ∙ c .if3 .taken)
     (c .before .before .before .before .loop-test .taken)
 
@@ -117,8 +87,9 @@ loop-less c = search needs
 loop-again : tie.Need-loop-again Inv-loop μ-loop
 unfolding graph classIn
 loop-again c = (
-  omega (arith, c .before .before .before .before .loop-test .taken),
-  leader-not _ _ _ (c .before .before .before .before .before .loop .inv .1)
+  omega arith,
+  c .before .before .before .before .before .loop .inv .1,
+  leader-not _ _ _ (c .before .before .before .before .before .loop .inv .2)
       (refined-by-arcs _ _ _ _ (c .before .before .before .if1 .taken) ∙ sym (c .before .arcs-agree .ensures) ∙ c .if3 .left),
 )
 
@@ -127,8 +98,9 @@ loop-less-2 c = search needs
 
 loop-again-2 : tie.Need-loop-again-2 Inv-loop μ-loop
 loop-again-2 c = (
-  omega (arith, c .before .before .loop-test .taken),
-  leader-not-own _ _ _ _ (c .before .before .before .loop .inv .1)
+  omega arith,
+  c .before .before .before .loop .inv .1,
+  leader-not-own _ _ _ _ (c .before .before .before .loop .inv .2)
       (λ e. c .if2 .left (unfold classIn in (c .before .before .before .before .before .before .pre .1 .1 .1 .leads _ (c .before .before .loop-test .taken)) ∙ e)),
 )
 
@@ -137,12 +109,13 @@ loop-less-3 c = search needs
 
 loop-again-3 : tie.Need-loop-again-3 Inv-loop μ-loop
 loop-again-3 c = (
-  omega (arith, c .before .loop-test .taken),
-  leader-not _ _ _ (c .before .before .loop .inv .1) (refined-other-class _ _ _ _ (unfold classIn in (c .if1 .left))),
+  omega arith,
+  c .before .before .loop .inv .1,
+  leader-not _ _ _ (c .before .before .loop .inv .2) (refined-other-class _ _ _ _ (unfold classIn in (c .if1 .left))),
 )
 
 returns-2 : tie.Need-returns-2 Inv-loop μ-loop
-returns-2 c = leader-none _ _ _ (c .before .loop .inv .1) (omega (arith, c .before .loop .inv .0, c .loop-test .left))
+returns-2 c = leader-none _ _ _ (c .before .loop .inv .2) (omega (arith, c .before .loop .inv .0, c .loop-test .left))
 
 pub arcs-leader-spec : {M : Type 1} → statement M
 arcs-leader-spec =

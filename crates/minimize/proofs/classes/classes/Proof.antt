@@ -5,11 +5,10 @@ use mathlib.Core.Path.{sym, _∙_}
 use borrow.Author.Needs.{needs}
 use Rattle.automaton.specs.Equivalence.{sameIn}
 use Rattle.sequential.specs.Petri.{petriNet}
-use Rattle.sequential.specs.Words.{nodeCount, entryCount, graph}
-use Rattle.sequential.proofs.Words.{words-rise}
-use Rattle.graph.proofs.Readable.{known, words}
+use Rattle.sequential.specs.Words.{nodeCount, graph}
+use Rattle.graph.proofs.Readable.{known}
 use Rattle.minimize.specs.Leaders.{LeadersBy}
-use Rattle.minimize.proofs.Agree.{arc-starts}
+use Rattle.minimize.proofs.Agree.{laid, arc-starts}
 use Rattle.minimize.proofs.Known.{closed}
 use Rattle.minimize.proofs.Leaders.{round-more, round-last, rounds-done}
 use Rattle.minimize.proofs.classes.classes.Statement.{statement}
@@ -31,11 +30,9 @@ transitions-requires : tie.Need-transitions-requires Inv-loop μ-loop
 transitions-requires c κs = search needs
 
 row-starts-requires : tie.Need-row-starts-requires Inv-loop μ-loop
-unfolding entryCount nodeCount
 row-starts-requires c κs =
-    let k = known _ _ (c .before .before .before .before .pre) in
-    let rise = words-rise _ _ (words _ _ (c .before .before .before .before .pre)) in
-    (k .long, (rise, (k .few-entries, (k .few-nodes, (omega arith, omega (arith, k .few-transitions, c .transitions .ensures))))))
+    let r = c .before .before .before .before .pre in
+    laid r (omega arith) (omega (arith, known _ _ r .few-transitions, c .transitions .ensures))
 
 counts-classes-requires : tie.Need-counts-classes-requires Inv-loop μ-loop
 counts-classes-requires c κs = (c .before .before .before .before .before .pre)

@@ -7,18 +7,17 @@ use borrow.Author.Needs.{needs}
 use Rattle.automaton.specs.Equivalence.{sameIn}
 use Rattle.automaton.proofs.Leader.{leader-le}
 use Rattle.sequential.specs.Petri.{petriNet}
-use Rattle.sequential.specs.Words.{nodeCount, entryCount, graph}
-use Rattle.sequential.proofs.Words.{words-rise}
-use Rattle.graph.proofs.Readable.{known, words}
+use Rattle.sequential.specs.Words.{nodeCount, graph}
+use Rattle.graph.proofs.Readable.{known}
 use Rattle.minimize.specs.Leaders.{LeadersBy}
-use Rattle.minimize.proofs.Agree.{count-starts}
-use Rattle.minimize.proofs.Known.{node-low, arc-keys-low}
+use Rattle.minimize.proofs.Agree.{laid, count-starts}
+use Rattle.minimize.proofs.Known.{arc-keys-low}
 use Rattle.minimize.proofs.Leaders.{leaders-start, leaders-more}
 use Rattle.minimize.proofs.classes.counts_classes.Statement.{statement}
 use Rattle.minimize.proofs.classes.counts_classes.Tie as tie
 
 abbrev Inv-loop : tie.InvT-loop
-Inv-loop net sheet nodes starts classes₀ n₀ classes n = (n ≤ nodes) × (length classes ≡ 128) × LeadersBy (sameIn (graph (petriNet net) sheet) 0) n classes
+Inv-loop net sheet nodes starts classes₀ n₀ classes n = (n ≤ nodes) × (nodes ≤ 128) × (length classes ≡ 128) × LeadersBy (sameIn (graph (petriNet net) sheet) 0) n classes
 
 abbrev μ-loop : tie.MeasureT-loop
 μ-loop net sheet nodes starts classes₀ n₀ classes n = nodes - n
@@ -36,29 +35,12 @@ places-requires : tie.Need-places-requires Inv-loop μ-loop
 places-requires c κs = search needs
 
 row-starts-requires : tie.Need-row-starts-requires Inv-loop μ-loop
-unfolding entryCount nodeCount
 row-starts-requires c κs =
-    let k = known _ _ (c .before .before .before .before .before .pre) in
-    let rise = words-rise _ _ (words _ _ (c .before .before .before .before .before .pre)) in (
-      k .long,
-      (
-        rise,
-        (
-          k .few-entries,
-          (
-            k .few-nodes,
-            (
-              arc-keys-low _ _ (c .before .before .before .before .before .pre) _ (c .before .transitions .ensures),
-              omega
-                  (arith, k .few-places, c .places .ensures),
-            ),
-          ),
-        ),
-      ),
-    )
+    let r = c .before .before .before .before .before .pre in
+    laid r (arc-keys-low _ _ r _ (c .before .transitions .ensures)) (omega (arith, known _ _ r .few-places, c .places .ensures))
 
 loop-holds : tie.Need-loop-holds Inv-loop μ-loop
-loop-holds c = (omega arith, refl, leaders-start _ _)
+loop-holds c = (omega arith, known _ _ (c .before .before .before .before .before .before .pre) .few-nodes, refl, leaders-start _ _)
 
 counts-leader-requires : tie.Need-counts-leader-requires Inv-loop μ-loop
 unfolding nodeCount
@@ -72,43 +54,30 @@ counts-leader-requires c κs = (
 )
 
 cast-classes : tie.Need-cast-classes Inv-loop μ-loop
-unfolding nodeCount
 cast-classes c =
     let q : c .counts-leader .result ≤ c .before .before .loop .n = rw (c .counts-leader .ensures) (leader-le _ _) in
-    omega (arith, q, node-low _ _ (c .before .before .before .before .before .before .before .before .before .pre) _ (c .before .loop-test .taken))
+    omega (arith, q)
 
 cast-classes-2 : tie.Need-cast-classes-2 Inv-loop μ-loop
-unfolding nodeCount
-cast-classes-2 c = omega (arith, node-low _ _ (c .before .before .before .before .before .before .before .before .before .pre) _ (c .before .loop-test .taken))
+cast-classes-2 c = omega arith
 
 array-write-classes : tie.Need-array-write-classes Inv-loop μ-loop
-unfolding nodeCount
-array-write-classes c = omega (arith, node-low _ _ (c .before .before .before .before .before .before .before .before .before .pre) _ (c .before .loop-test .taken))
+array-write-classes c = omega arith
 
 add-n : tie.Need-add-n Inv-loop μ-loop
-unfolding nodeCount
-add-n c = omega (arith, node-low _ _ (c .before .before .before .before .before .before .before .before .before .pre) _ (c .before .loop-test .taken))
+add-n c = omega arith
 
 loop-less : tie.Need-loop-less Inv-loop μ-loop
 loop-less c = search needs
 
 loop-again : tie.Need-loop-again Inv-loop μ-loop
-unfolding nodeCount
-loop-again c = (
-  omega (arith, c .before .loop-test .taken),
-  simp length-set (c .before .before .loop .inv .1),
-  leaders-more _ _ _ _ (c .before .before .loop .inv .2)
-      (omega (
-        arith,
-        c .before .before .loop .inv .1,
-        node-low _ _ (c .before .before .before .before .before .before .before .before .before .pre) _
-            (c .before .loop-test .taken),
-      )) (c .counts-leader .ensures),
-)
+loop-again c =
+    let (l, few, long, is) = c .before .before .loop .inv in
+    (omega arith, few, simp length-set long, leaders-more _ _ _ _ is (omega arith) (c .counts-leader .ensures))
 
 returns : tie.Need-returns Inv-loop μ-loop
 unfolding nodeCount
-returns c = record { leads = λ n l. (c .before .loop .inv .2 .leads) n (omega (arith, c .loop-test .left)) }
+returns c = record { leads = λ n l. (c .before .loop .inv .3 .leads) n (omega (arith, c .loop-test .left)) }
 
 pub counts-classes-spec : {M : Type 1} → statement M
 counts-classes-spec =

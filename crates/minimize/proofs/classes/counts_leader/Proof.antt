@@ -15,7 +15,7 @@ use Rattle.minimize.proofs.classes.counts_leader.Statement.{statement}
 use Rattle.minimize.proofs.classes.counts_leader.Tie as tie
 
 abbrev Inv-loop : tie.InvT-loop
-Inv-loop net sheet n starts own m₀ m = (m ≤ n) × (any (inClass (sameIn (graph (petriNet net) sheet) 0) n) m ≡ false)
+Inv-loop net sheet n starts own m₀ m = (m ≤ n) × (n < 128) × (any (inClass (sameIn (graph (petriNet net) sheet) 0) n) m ≡ false)
 
 abbrev μ-loop : tie.MeasureT-loop
 μ-loop net sheet n starts own m₀ m = n - m
@@ -30,17 +30,16 @@ cast-own : tie.Need-cast-own Inv-loop μ-loop
 cast-own c = search needs
 
 loop-holds : tie.Need-loop-holds Inv-loop μ-loop
-loop-holds c = (omega arith, any-none-yet _)
+loop-holds c = (omega arith, node-low _ _ (c .before .before .pre .0) _ (c .before .before .pre .1 .0), any-none-yet _)
 
 cast-counts-agree : tie.Need-cast-counts-agree Inv-loop μ-loop
-cast-counts-agree c = omega (arith, node-low _ _ (c .before .before .before .before .pre .0) _ (c .before .before .before .before .pre .1 .0), c .loop-test .taken)
+cast-counts-agree c = omega arith
 
 mul-counts-agree : tie.Need-mul-counts-agree Inv-loop μ-loop
-mul-counts-agree c = omega (arith, node-low _ _ (c .before .before .before .before .pre .0) _ (c .before .before .before .before .pre .1 .0), c .loop-test .taken)
+mul-counts-agree c = omega arith
 
 array-read-counts-agree : tie.Need-array-read-counts-agree Inv-loop μ-loop
-array-read-counts-agree c =
-    omega (arith, node-low _ _ (c .before .before .before .before .pre .0) _ (c .before .before .before .before .pre .1 .0), c .loop-test .taken)
+array-read-counts-agree c = omega arith
 
 cast-counts-agree-2 : tie.Need-cast-counts-agree-2 Inv-loop μ-loop
 cast-counts-agree-2 c = search needs
@@ -54,7 +53,7 @@ counts-agree-requires c κs =
 
 returns : tie.Need-returns Inv-loop μ-loop
 returns c =
-    leader-found _ _ _ (c .before .before .before .loop .inv .1) (sym (c .before .counts-agree .ensures) ∙ c .if1 .taken) (c .before .before .loop-test .taken)
+    leader-found _ _ _ (c .before .before .before .loop .inv .2) (sym (c .before .counts-agree .ensures) ∙ c .if1 .taken) (c .before .before .loop-test .taken)
 
 add-m : tie.Need-add-m Inv-loop μ-loop
 add-m c = omega (arith, c .before .before .loop-test .taken)
@@ -64,12 +63,13 @@ loop-less c = search needs
 
 loop-again : tie.Need-loop-again Inv-loop μ-loop
 loop-again c = (
-  omega (arith, c .before .before .loop-test .taken),
-  leader-not _ _ _ (c .before .before .before .loop .inv .1) (sym (c .before .counts-agree .ensures) ∙ c .if1 .left),
+  omega arith,
+  c .before .before .before .loop .inv .1,
+  leader-not _ _ _ (c .before .before .before .loop .inv .2) (sym (c .before .counts-agree .ensures) ∙ c .if1 .left),
 )
 
 returns-2 : tie.Need-returns-2 Inv-loop μ-loop
-returns-2 c = leader-none _ _ _ (c .before .loop .inv .1) (omega (arith, c .before .loop .inv .0, c .loop-test .left))
+returns-2 c = leader-none _ _ _ (c .before .loop .inv .2) (omega (arith, c .before .loop .inv .0, c .loop-test .left))
 
 pub counts-leader-spec : {M : Type 1} → statement M
 counts-leader-spec =

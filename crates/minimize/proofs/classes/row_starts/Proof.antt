@@ -13,7 +13,7 @@ use Rattle.minimize.proofs.classes.row_starts.Statement.{statement}
 use Rattle.minimize.proofs.classes.row_starts.Tie as tie
 
 abbrev Inv-loop : tie.InvT-loop
-Inv-loop sheet base width nodes entries starts₀ n₀ starts n = (n ≤ nodes) × (length starts ≡ 128)
+Inv-loop sheet base width nodes entries starts₀ n₀ starts n = (n ≤ nodes) × (nodes ≤ 128) × (length starts ≡ 128)
     × ((k : ℕ) → k < n → getD starts k 0 ≡ rowStart sheet base width k)
 
 abbrev μ-loop : tie.MeasureT-loop
@@ -27,22 +27,21 @@ shared-slice-read-entries c = search needs
 
 cast-entries : tie.Need-cast-entries Inv-loop μ-loop
 unfolding entryCount
-cast-entries c = let k = c .before .before .before .pre .1 .1 .0 in omega arith
+cast-entries c = omega (arith, c .before .before .before .pre .few-entries)
 
 loop-holds : tie.Need-loop-holds Inv-loop μ-loop
-loop-holds c = (omega arith, refl, λ j l. absurd (omega arith))
+unfolding nodeCount
+loop-holds c = (omega arith, c .before .before .before .pre .few-nodes, refl, λ j l. absurd (omega arith))
 
 mul-lower-bound : tie.Need-mul-lower-bound Inv-loop μ-loop
-unfolding nodeCount
 mul-lower-bound c =
-    let m : c .before .loop .n ≤ 128 = omega (arith, c .before .before .before .before .before .pre .1 .1 .1 .0) in
-    omega (arith, mul-le-mul m (c .before .before .before .before .before .pre .1 .1 .1 .1 .1))
+    let m : c .before .loop .n ≤ 128 = omega arith in
+    omega (arith, mul-le-mul m (c .before .before .before .before .before .pre .narrow))
 
 add-lower-bound : tie.Need-add-lower-bound Inv-loop μ-loop
-unfolding nodeCount
 add-lower-bound c =
-    let m : c .before .loop .n ≤ 128 = omega (arith, c .before .before .before .before .before .pre .1 .1 .1 .0) in
-    omega (arith, mul-le-mul m (c .before .before .before .before .before .pre .1 .1 .1 .1 .1), c .before .before .before .before .before .pre .1 .1 .1 .1 .0)
+    let m : c .before .loop .n ≤ 128 = omega arith in
+    omega (arith, mul-le-mul m (c .before .before .before .before .before .pre .narrow), c .before .before .before .before .before .pre .low)
 
 lower-bound-requires : tie.Need-lower-bound-requires Inv-loop μ-loop
 lower-bound-requires c κs = search needs
@@ -50,44 +49,35 @@ lower-bound-requires c κs = search needs
 cast-starts : tie.Need-cast-starts Inv-loop μ-loop
 unfolding entryCount
 cast-starts c =
+    let p = c .before .before .before .before .before .before .pre in
     let b : c .lower-bound .result ≤ getD (c .before .before .before .before .before .before .args .sheet .now) 1 0 = rw (c .lower-bound .ensures)
-    (lower-bound _ _ _ _ (c .before .before .before .before .before .before .pre .1 .0)
-    (omega (arith, c .before .before .before .before .before .before .pre .0)) .within) in
-    omega (arith, b, c .before .before .before .before .before .before .pre .1 .1 .0)
+    (lower-bound _ _ _ _ (p .rising) (omega (arith, p .whole)) .within) in
+    omega (arith, b, p .few-entries)
 
 cast-starts-2 : tie.Need-cast-starts-2 Inv-loop μ-loop
-unfolding nodeCount
-cast-starts-2 c = omega (arith, c .before .before .before .before .before .before .pre .1 .1 .1 .0)
+cast-starts-2 c = omega arith
 
 mul-starts : tie.Need-mul-starts Inv-loop μ-loop
-unfolding nodeCount
-mul-starts c = omega (arith, c .before .before .before .before .before .before .pre .1 .1 .1 .0)
+mul-starts c = omega arith
 
 array-write-starts : tie.Need-array-write-starts Inv-loop μ-loop
-unfolding nodeCount
-array-write-starts c = omega (arith, c .before .before .before .before .before .before .pre .1 .1 .1 .0)
+array-write-starts c = omega arith
 
 add-n : tie.Need-add-n Inv-loop μ-loop
-unfolding nodeCount
-add-n c = omega (arith, c .before .before .before .before .before .before .pre .1 .1 .1 .0)
+add-n c = omega arith
 
 loop-less : tie.Need-loop-less Inv-loop μ-loop
 loop-less c = search needs
 
 loop-again : tie.Need-loop-again Inv-loop μ-loop
-unfolding nodeCount rowStart entryCount
-loop-again c = (
-  omega arith,
-  simp length-set (c .before .before .loop .inv .1),
-  stored-more (rowStart (c .before .before .before .before .before .before .args .sheet .now) (c .before .before .before .before .before .before .args .base)
-      (c .before .before .before .before .before .before .args .width)) (c .before .before .loop .starts) (c .before .before .loop .n) _
-      (c .before .before .loop .inv .2)
-      (omega (arith, c .before .before .before .before .before .before .pre .1 .1 .1 .0)) (c .lower-bound .ensures),
-)
+unfolding rowStart entryCount
+loop-again c =
+    let (l, few, long, is) = c .before .before .loop .inv in
+    (omega arith, few, simp length-set long, stored-more (rowStart _ _ _) (c .before .before .loop .starts) (c .before .before .loop .n) _ is (omega arith) (c .lower-bound .ensures))
 
 returns : tie.Need-returns Inv-loop μ-loop
 unfolding nodeCount
-returns c = record { start = λ n l. (c .before .loop .inv .2) n (omega arith) }
+returns c = record { start = λ n l. (c .before .loop .inv .3) n (omega arith) }
 
 pub row-starts-spec : {M : Type 1} → statement M
 row-starts-spec =

@@ -37,33 +37,50 @@ cast-places : tie.Need-cast-places Inv-loop μ-loop
 cast-places c = omega (arith, (c .places) .ok)
 
 loop-holds : tie.Need-loop-holds Inv-loop μ-loop
-loop-holds c = let e = part-none (petriNet ((c .before .before .before .before .args) .net .now)) (minimal (graph (petriNet ((c .before .before .before .before .args) .net .now)) ((c .before .before .before .before .args) .sheet .now))) false false in let f = part-none (petriNet ((c .before .before .before .before .args) .net .now)) (minimal (graph (petriNet ((c .before .before .before .before .args) .net .now)) ((c .before .before .before .before .args) .sheet .now))) true false in (omega arith, rw (e, f) refl, omega arith)
+loop-holds c =
+    let N = petriNet (c .before .before .before .before .args .net .now) in
+    let M = minimal (graph N (c .before .before .before .before .args .sheet .now)) in
+    (omega arith, rw (part-none N M false false, part-none N M true false) refl, omega arith)
 
 array-read-n : tie.Need-array-read-n Inv-loop μ-loop
-array-read-n c = let m = rows-most _ _ _ _ _ ((c .before .before .before .before .before .before .pre) .0) ((c .before .before .before .before .before .before .pre) .1 .1) in omega arith
+array-read-n c = let p = c .before .before .before .before .before .before .pre in let m = rows-most _ _ _ _ _ (p .0) (p .1 .1) in omega arith
 
 cast-n : tie.Need-cast-n Inv-loop μ-loop
 cast-n c = search needs
 
 told-row-requires : tie.Need-told-row-requires Inv-loop μ-loop
-told-row-requires c κs = ((c .before .before .before .before .before .before .pre) .0, node-low _ _ _ _ _ ((c .before .before .before .before .before .before .pre) .0) ((c .before .before .before .before .before .before .pre) .1 .1) _ ((c .loop-test) .taken))
+told-row-requires c κs = let p = c .before .before .before .before .before .before .pre in (p .0, node-low _ _ _ _ _ (p .0) (p .1 .1) _ (c .loop-test .taken))
 
 filled-requires : tie.Need-filled-requires Inv-loop μ-loop
-filled-requires c κs = omega (arith, (c .before .before .before .before .transitions) .ensures, known _ _ ((c .before .before .before .before .before .before .before .pre) .0) .few-transitions)
+filled-requires c κs = omega (arith, c .before .before .before .before .transitions .ensures, known _ _ (c .before .before .before .before .before .before .before .pre .0) .few-transitions)
 
 told-row-requires-2 : tie.Need-told-row-requires-2 Inv-loop μ-loop
-told-row-requires-2 c κs = ((c .before .before .before .before .before .before .before .before .pre) .0, node-low _ _ _ _ _ ((c .before .before .before .before .before .before .before .before .pre) .0) ((c .before .before .before .before .before .before .before .before .pre) .1 .1) _ ((c .before .before .loop-test) .taken))
+told-row-requires-2 c κs = let p = c .before .before .before .before .before .before .before .before .pre in (p .0, node-low _ _ _ _ _ (p .0) (p .1 .1) _ (c .before .before .loop-test .taken))
 
 filled-requires-2 : tie.Need-filled-requires-2 Inv-loop μ-loop
-filled-requires-2 c κs = omega (arith, (c .before .before .before .before .before .places) .ensures, known _ _ ((c .before .before .before .before .before .before .before .before .before .pre) .0) .few-places)
+filled-requires-2 c κs =
+    let k = known _ _ (c .before .before .before .before .before .before .before .before .before .pre .0) in
+    omega (arith, c .before .before .before .before .before .places .ensures, k .few-places)
+
+-- ---- both parts of a row are counted
+
+loop-again : tie.Need-loop-again Inv-loop μ-loop
+unfolding widthOf
+loop-again c =
+    let p = c .before .before .before .before .before .before .before .before .before .before .pre in
+    let l = c .before .before .before .before .loop-test .taken in
+    let a = part-count _ _ _ _ _ (p .0) (p .1 .1) false _ l _ _ _ (c .before .before .before .told-row .ensures) (c .before .before .before .before .before .before .before .transitions .ensures)
+    (c .before .before .filled .ensures) in
+    let b = part-count _ _ _ _ _ (p .0) (p .1 .1) true _ l _ _ _
+    (c .before .told-row2 .ensures) (c .before .before .before .before .before .before .places .ensures) (c .filled2 .ensures) in
+    let (low, is, most) = c .before .before .before .before .before .loop .inv in
+    (omega arith, omega (arith, a .0, b .0), omega (arith, a .1, b .1))
 
 add-entries : tie.Need-add-entries Inv-loop μ-loop
-unfolding widthOf
-add-entries c = let a = part-count _ _ _ _ _ ((c .before .before .before .before .before .before .before .before .before .before .pre) .0) ((c .before .before .before .before .before .before .before .before .before .before .pre) .1 .1) false _ ((c .before .before .before .before .loop-test) .taken) _ _ _ ((c .before .before .before .told-row) .ensures) ((c .before .before .before .before .before .before .before .transitions) .ensures) ((c .before .before .filled) .ensures) in let b = part-count _ _ _ _ _ ((c .before .before .before .before .before .before .before .before .before .before .pre) .0) ((c .before .before .before .before .before .before .before .before .before .before .pre) .1 .1) true _ ((c .before .before .before .before .loop-test) .taken) _ _ _ ((c .before .told-row2) .ensures) ((c .before .before .before .before .before .before .places) .ensures) ((c .filled2) .ensures) in let m = rows-most _ _ _ _ _ ((c .before .before .before .before .before .before .before .before .before .before .pre) .0) ((c .before .before .before .before .before .before .before .before .before .before .pre) .1 .1) in omega (arith, a .1, b .1, (c .before .before .before .before .before .loop) .inv .2)
+add-entries c = let p = c .before .before .before .before .before .before .before .before .before .before .pre in let m = rows-most _ _ _ _ _ (p .0) (p .1 .1) in omega (arith, loop-again c .2)
 
 add-entries-2 : tie.Need-add-entries-2 Inv-loop μ-loop
-unfolding widthOf
-add-entries-2 c = let a = part-count _ _ _ _ _ ((c .before .before .before .before .before .before .before .before .before .before .pre) .0) ((c .before .before .before .before .before .before .before .before .before .before .pre) .1 .1) false _ ((c .before .before .before .before .loop-test) .taken) _ _ _ ((c .before .before .before .told-row) .ensures) ((c .before .before .before .before .before .before .before .transitions) .ensures) ((c .before .before .filled) .ensures) in let b = part-count _ _ _ _ _ ((c .before .before .before .before .before .before .before .before .before .before .pre) .0) ((c .before .before .before .before .before .before .before .before .before .before .pre) .1 .1) true _ ((c .before .before .before .before .loop-test) .taken) _ _ _ ((c .before .told-row2) .ensures) ((c .before .before .before .before .before .before .places) .ensures) ((c .filled2) .ensures) in let m = rows-most _ _ _ _ _ ((c .before .before .before .before .before .before .before .before .before .before .pre) .0) ((c .before .before .before .before .before .before .before .before .before .before .pre) .1 .1) in omega (arith, a .1, b .1, (c .before .before .before .before .before .loop) .inv .2)
+add-entries-2 c = let p = c .before .before .before .before .before .before .before .before .before .before .pre in let m = rows-most _ _ _ _ _ (p .0) (p .1 .1) in omega (arith, loop-again c .2)
 
 add-i : tie.Need-add-i Inv-loop μ-loop
 add-i c = omega arith
@@ -71,12 +88,12 @@ add-i c = omega arith
 loop-less : tie.Need-loop-less Inv-loop μ-loop
 loop-less c = omega arith
 
-loop-again : tie.Need-loop-again Inv-loop μ-loop
-unfolding widthOf
-loop-again c = let a = part-count _ _ _ _ _ ((c .before .before .before .before .before .before .before .before .before .before .pre) .0) ((c .before .before .before .before .before .before .before .before .before .before .pre) .1 .1) false _ ((c .before .before .before .before .loop-test) .taken) _ _ _ ((c .before .before .before .told-row) .ensures) ((c .before .before .before .before .before .before .before .transitions) .ensures) ((c .before .before .filled) .ensures) in let b = part-count _ _ _ _ _ ((c .before .before .before .before .before .before .before .before .before .before .pre) .0) ((c .before .before .before .before .before .before .before .before .before .before .pre) .1 .1) true _ ((c .before .before .before .before .loop-test) .taken) _ _ _ ((c .before .told-row2) .ensures) ((c .before .before .before .before .before .before .places) .ensures) ((c .filled2) .ensures) in (omega arith, omega (arith, a .0, b .0, (c .before .before .before .before .before .loop) .inv .1), omega (arith, a .1, b .1, (c .before .before .before .before .before .loop) .inv .2))
-
 returns : tie.Need-returns Inv-loop μ-loop
-returns c = let e : (c .before .loop) .i ≡ (c .before .before .before .before .before .before .args) .rows = omega arith in ((c .before .loop) .inv .1 ∙ rw e (entries-whole _ _ _ _ _ ((c .before .before .before .before .before .before .pre) .0) ((c .before .before .before .before .before .before .pre) .1 .1)), let m = rows-most _ _ _ _ _ ((c .before .before .before .before .before .before .pre) .0) ((c .before .before .before .before .before .before .pre) .1 .1) in omega (arith, (c .before .loop) .inv .2))
+returns c =
+    let p = c .before .before .before .before .before .before .pre in
+    let e : c .before .loop .i ≡ c .before .before .before .before .before .before .args .rows = omega arith in
+    let m = rows-most _ _ _ _ _ (p .0) (p .1 .1) in
+    (c .before .loop .inv .1 ∙ rw e (entries-whole _ _ _ _ _ (p .0) (p .1 .1)), omega (arith, c .before .loop .inv .2))
 
 pub entry-count-spec : {M : Type 1} → statement M
 entry-count-spec =
