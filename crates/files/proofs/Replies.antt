@@ -16,7 +16,7 @@ use Rattle.sequential.specs.Check.{scheduleFault, scheduleReply}
 use Rattle.judge.specs.Answer.{countsOf, checkAnswer}
 use Rattle.judge.specs.declared.CheckAnswer.the-variants.{Failed}
 use Rattle.judge.specs.declared.CheckAnswer.{CheckAnswer}
-use Rattle.files.specs.Words.{FileRead}
+use Rattle.files.specs.Words.{netRead, sheetRead, FileRead}
 use Rattle.files.specs.Program.{readReply, readAnswer, filesAnswer, programAnswer, FilesRead}
 use Rattle.files.specs.declared.Reading.{Reading}
 use Rattle.files.specs.declared.FilesAnswer.{FilesAnswer}
@@ -68,7 +68,7 @@ files-read netBytes sheetBytes net sheet net′ sheet′ x y a n s h =
 
 -- what the program's buffers make of it
 pub program-read : (netBytes sheetBytes net sheet net′ sheet′ : List ℕ) (r : FilesAnswer) → FilesRead netBytes sheetBytes net sheet r net′ sheet′
-    → length net ≡ 4164 → length sheet ≡ 8195 → r .answer ≡ programAnswer netBytes sheetBytes
+    → length net ≡ netRead → length sheet ≡ sheetRead → r .answer ≡ programAnswer netBytes sheetBytes
 unfolding programAnswer
 program-read netBytes sheetBytes net sheet net′ sheet′ r h n s = h .answer ∙ rw (n, s)
 

@@ -9,6 +9,7 @@ use lib.ListN.{length, getD, length-append, List·getD-append}
 use lib.Seq.{getD-append-add}
 use Rattle.table.specs.Table.{keyAt, valueAt, Rising}
 use Rattle.automaton.specs.Automaton.{Automaton}
+use Rattle.refusal.specs.Limits.{mostCount}
 use Rattle.sequential.specs.Petri.{PetriNet}
 use Rattle.sequential.specs.Words.{nodeCount, entryCount, entryKey, entryValue, arcKeys, keyLimit}
 use Rattle.sequential.specs.Known.{WordsHold}
@@ -87,7 +88,7 @@ module _ (N : PetriNet) (A : Automaton) where
     says-target k v l (inl a) = E .closed .lands (a .node) (a .transition) v (a .is-node) (a .arc)
     says-target k v l (inr c) = absurd (omega (arith, count-key-high k v c))
 
-    says-count : (k v : ℕ) → A .nodes * N .transitions ≤ k → Says N A k v → (1 ≤ v) × (v ≤ 1000000000)
+    says-count : (k v : ℕ) → A .nodes * N .transitions ≤ k → Says N A k v → (1 ≤ v) × (v ≤ mostCount)
     says-count k v l (inl a) = absurd (omega (arith, arc-key-low k v a))
     says-count k v l (inr c) = (c .positive, rw (c .value) at (E .most (c .node) (c .place) (c .is-node) (c .is-place)))
 

@@ -12,6 +12,7 @@ use lib.ListN.{length}
 use borrow.Author.Tests.{ltb-false}
 use Rattle.scan.proofs.Tests.{byTest}
 use Rattle.table.proofs.Table.{entry-some}
+use Rattle.refusal.specs.Limits.{mostCount}
 use Rattle.sequential.specs.Petri.{PetriNet}
 use Rattle.sequential.specs.Words.{nodeCount, entryCount, entryKey, entryValue, entryWithKey, arcKeys, keyLimit, graph, isArc, arcNode, arcTransition}
 use Rattle.sequential.specs.Known.{WordsHold}
@@ -120,5 +121,5 @@ module _ (N : PetriNet) (sheet : List ℕ) (T : 0 < N .transitions) (P : 0 < N .
     most = most;
   }
     where
-      most : (n p : ℕ) → n < (graph N sheet) .nodes → p < N .places → held N (graph N sheet) n p ≤ 1000000000
+      most : (n p : ℕ) → n < (graph N sheet) .nodes → p < N .places → held N (graph N sheet) n p ≤ mostCount
       most n p l m = unfold held graph in (rw (marking-at N sheet n p l m) (count-most N sheet T w n p))

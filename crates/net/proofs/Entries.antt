@@ -12,6 +12,7 @@ use Rattle.scan.proofs.Tests.{or-none-left, or-none-right}
 use Rattle.scan.proofs.First.{orElse-left, orElse-right, when-none, first-all}
 use Rattle.table.specs.Table.{Rising, entryOf}
 use Rattle.table.proofs.Table.{entry-some}
+use Rattle.refusal.specs.Limits.{mostCount}
 use Rattle.net.specs.Net.{entryCount, entryWeight, keyLimit, weightAt}
 use Rattle.table.specs.Table.{KeyPasses}
 use Rattle.table.proofs.Keys.{key-passes, keys-rise}
@@ -32,7 +33,7 @@ pub weight-in : (net : List ℕ) (i : ℕ) → WeightPasses net i → weightFail
 unfolding weightFails
 weight-in net i w =
     let a = w .some in
-    rw (ne-eqb (entryWeight net i) 0 (λ e. omega arith), le-ltb 1000000000 (entryWeight net i) (w .most))
+    rw (ne-eqb (entryWeight net i) 0 (λ e. omega arith), le-ltb mostCount (entryWeight net i) (w .most))
 
 pub record EntryPasses (net : List ℕ) (i : ℕ) : Type 0 where
   pub key : KeyPasses net 3 (keyLimit net) i
@@ -61,10 +62,10 @@ pub entries-fit : (net : List ℕ) → EntriesPass net → 3 + entryCount net �
 entries-fit net e = omega (arith, e .shape .whole)
 
 -- a weight is at most the limit, absent ones too
-pub weight-small : (net : List ℕ) → EntriesPass net → (key : ℕ) → weightAt net key ≤ 1000000000
+pub weight-small : (net : List ℕ) → EntriesPass net → (key : ℕ) → weightAt net key ≤ mostCount
 unfolding weightAt
 weight-small net e key = go (entryOf net 3 (entryCount net) key) refl
   where
-    go : (o : Option ℕ) → entryOf net 3 (entryCount net) key ≡ o → foundOr 0 (entryWeight net) o ≤ 1000000000
+    go : (o : Option ℕ) → entryOf net 3 (entryCount net) key ≡ o → foundOr 0 (entryWeight net) o ≤ mostCount
     go none h = omega arith
     go (some i) h = e .each i (entry-some net 3 (entryCount net) key i h .0) .weight .most

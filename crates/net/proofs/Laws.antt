@@ -6,6 +6,7 @@ use mathlib.Core.Path.{_≡_}
 use mathlib.Core.List.{List}
 use mathlib.Core.Bool.{Bool, true, false, cond, _&&_, and-false}
 use borrow.Author.Tests.{le-ltb}
+use Rattle.refusal.specs.Limits.{mostCount}
 use Rattle.net.specs.Net.{placeCount, transitionCount, taken, put, start}
 use Rattle.net.specs.Check.{netReply}
 use Rattle.net.specs.Checks.{SizesPass, IsNet, HasSource}
@@ -41,7 +42,7 @@ module _ (net : List ℕ) where
 
 -- ---- an accepted net
 
-guarded : (b : Bool) (w : ℕ) → w ≤ 1000000000 → cond b w 0 ≤ 1000000000
+guarded : (b : Bool) (w : ℕ) → w ≤ mostCount → cond b w 0 ≤ mostCount
 guarded true w h = h
 guarded false w h = omega arith
 
@@ -61,14 +62,14 @@ module _ (net : List ℕ) (accepted : netReply net ≡ Accepted) where
   pub some-source : HasSource net
   some-source = let (a, (b, (c, (d, (e, u))))) = is-net in e
 
-  pub taken-most : (t p : ℕ) → taken net t p ≤ 1000000000
+  pub taken-most : (t p : ℕ) → taken net t p ≤ mostCount
   unfolding taken
   taken-most t p = guarded (ltb t (transitionCount net) && ltb p (placeCount net)) _ (weight-small net passes (t * placeCount net + p))
 
-  pub put-most : (t p : ℕ) → put net t p ≤ 1000000000
+  pub put-most : (t p : ℕ) → put net t p ≤ mostCount
   unfolding put
   put-most t p = guarded (ltb t (transitionCount net) && ltb p (placeCount net)) _ (weight-small net passes ((transitionCount net + t) * placeCount net + p))
 
-  pub start-most : (p : ℕ) → start net p ≤ 1000000000
+  pub start-most : (p : ℕ) → start net p ≤ mostCount
   unfolding start
   start-most p = guarded (ltb p (placeCount net)) _ (weight-small net passes (2 * transitionCount net * placeCount net + p))

@@ -16,6 +16,7 @@ use Rattle.scan.proofs.Tabulate.{tabulate-at}
 use Rattle.table.specs.Table.{keyAt}
 use Rattle.table.proofs.Table.{entry-at, entry-some}
 use Rattle.automaton.specs.Automaton.{Closed}
+use Rattle.refusal.specs.Limits.{mostCount}
 use Rattle.sequential.specs.Petri.{PetriNet}
 use Rattle.sequential.specs.Words.{nodeCount, entryCount, entryKey, entryValue, entryWithKey, arcKeys, arcEntry, arc, count, marking, graph, isArc, arcNode, arcTransition}
 use Rattle.sequential.specs.Known.{WordsHold}
@@ -99,11 +100,11 @@ module _ (N : PetriNet) (sheet : List ℕ) (T : 0 < N .transitions) (w : WordsHo
 
   -- ---- counts
 
-  pub count-most : (n p : ℕ) → count N sheet n p ≤ 1000000000
+  pub count-most : (n p : ℕ) → count N sheet n p ≤ mostCount
   unfolding count
   count-most n p = go (ltb n (nodeCount sheet)) (ltb p (N .places)) (entryWithKey sheet (arcKeys N sheet + n * N .places + p)) refl
     where
-      go : (a b : Bool) (o : Option ℕ) → entryWithKey sheet (arcKeys N sheet + n * N .places + p) ≡ o → cond (a && b) (foundOr 0 (entryValue sheet) o) 0 ≤ 1000000000
+      go : (a b : Bool) (o : Option ℕ) → entryWithKey sheet (arcKeys N sheet + n * N .places + p) ≡ o → cond (a && b) (foundOr 0 (entryValue sheet) o) 0 ≤ mostCount
       go true true none h = omega arith
       go true true (some i) h =
           let (l, k) = entry-some sheet 2 (entryCount sheet) (arcKeys N sheet + n * N .places + p) i (unfold entryWithKey in h) in

@@ -14,6 +14,7 @@ use Rattle.scan.proofs.Tests.{byTest, decides-not, and-left, and-right, and-bot
 use Rattle.scan.proofs.First.{orElse-assoc}
 use Rattle.table.specs.Table.{Rising}
 use Rattle.table.proofs.Keys.{key-passes, keys-rise}
+use Rattle.refusal.specs.Limits.{mostCount}
 use Rattle.refusal.specs.Finding.{foundBy, finding}
 use Rattle.refusal.proofs.Checks.{Decides, Decided, Lawful, Tells, finding-tells}
 use Rattle.sequential.specs.Petri.{PetriNet}
@@ -61,13 +62,13 @@ module _ (sheet : List ℕ) where
 -- ---- values
 
 module _ (sheet : List ℕ) (arcs i : ℕ) where
-  count-out : countFails (entryValue sheet i) ≡ false → (1 ≤ entryValue sheet i) × (entryValue sheet i ≤ 1000000000)
+  count-out : countFails (entryValue sheet i) ≡ false → (1 ≤ entryValue sheet i) × (entryValue sheet i ≤ mostCount)
   unfolding countFails
   count-out h = (omega (arith, eqb-false (entryValue sheet i) 0 (or-none-left (eqb (entryValue sheet i) 0) _ h)), ltb-false _ _ (or-none-right (eqb (entryValue sheet i) 0) _ h))
 
-  count-in : 1 ≤ entryValue sheet i → entryValue sheet i ≤ 1000000000 → countFails (entryValue sheet i) ≡ false
+  count-in : 1 ≤ entryValue sheet i → entryValue sheet i ≤ mostCount → countFails (entryValue sheet i) ≡ false
   unfolding countFails
-  count-in a b = rw (ne-eqb (entryValue sheet i) 0 (λ e. omega arith), le-ltb 1000000000 (entryValue sheet i) b)
+  count-in a b = rw (ne-eqb (entryValue sheet i) 0 (λ e. omega arith), le-ltb mostCount (entryValue sheet i) b)
 
   pub value-passes : (valueFails sheet arcs i ≡ false) ↔ ValuePasses sheet arcs i
   unfolding valueFails targetFails
