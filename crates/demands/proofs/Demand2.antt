@@ -49,7 +49,7 @@ use Rattle.schedule.proofs.Walkers.{walker-out, step-tells, handed-back}
 use Rattle.schedule.proofs.Following.{run-leads, end-length}
 use Rattle.schedule.proofs.Done.{check-law, bounds-law, fire-law, run-law}
 use Rattle.demands.specs.Terms.{said}
-use Rattle.demands.specs.Demand2.{HowMany, none-yet, one-more, no-more, Counted, BoundsWritten, Fired, RanAll, Demand2}
+use Rattle.demands.specs.Demand2.{HowMany, none-yet, one-more, no-more, Counted, LeastBounds, FiresRight, RanAll, Demand2}
 use Rattle.demands.proofs.Checked.{reply-passes, check-zero, accepted-reply}
 use Rattle.demands.proofs.Demand1.{net-by}
 
@@ -109,14 +109,14 @@ fresh net v w d z =
     })
 
 fires : (net sheet s s′ : List ℕ) (w next : Walker) (t : ℕ) (v : Verdict) → FireDone net sheet s w t v next s′ → number (plainOf v) ≡ 0
-    → Fired (petriNet net) sheet (said net sheet) w t next
+    → FiresRight (petriNet net) sheet (said net sheet) w t next
 unfolding graph firedCount
 fires net sheet s s′ w next t v d z =
     let f = done-zero (fire-law net sheet w t) d z in
     let (a, b) = then-accepted (scheduleReply net sheet) _ (f .passed) in
     let (n, (c, ((m, o), u))) = step-tells (petriNet net) sheet w t .passes .0 (answer-none _ b) in
     let h = handed-back net sheet a w t m (record { node = n; holds = λ p l. c p l .0 }) o in
-    subst (Fired (petriNet net) sheet (said net sheet) w t) (sym (ap (λ (x : Verdict × Walker). x .1) (f .reply))) (
+    subst (FiresRight (petriNet net) sheet (said net sheet) w t) (sym (ap (λ (x : Verdict × Walker). x .1) (f .reply))) (
     let p = walker-out (petriNet net) sheet _ (h .passes) in
     record {
       arc = h .target;
@@ -147,7 +147,7 @@ runs-all net sheet firings out s out′ s′ a d z =
 -- ---- place bounds
 
 bounds-written : (net sheet out s out′ s′ : List ℕ) (v : Verdict) → BoundsDone net sheet out s v out′ s′ → number (plainOf v) ≡ 0
-    → BoundsWritten (petriNet net) (said net sheet) out out′
+    → LeastBounds (petriNet net) (said net sheet) out out′
 bounds-written net sheet out s out′ s′ v d z =
     let N = petriNet net in
     let f = done-zero (bounds-law net sheet) d z in

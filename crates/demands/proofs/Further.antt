@@ -12,6 +12,7 @@ use Rattle.refusal.specs.declared.Verdict.{Verdict}
 use Rattle.refusal.specs.declared.Verdict.the-variants as verdict
 use Rattle.refusal.proofs.Verdicts.{answer-none, then-next, then-accepted}
 use Rattle.refusal.proofs.Judges.{pass-append}
+use Rattle.net.specs.Check.{netReply}
 use Rattle.net.specs.Checks.{netChecks}
 use Rattle.net.proofs.Checks.{net-judged}
 use Rattle.net.proofs.Laws.{sizes, some-source}
@@ -32,7 +33,7 @@ use Rattle.call.proofs.Judged.{words-judged}
 use Rattle.call.proofs.Done.{by-checks, done-zero, own-answered}
 use Rattle.call.proofs.Laws.{served, answered-none}
 use Rattle.schedule.specs.Walker.{runChecks}
-use Rattle.schedule.specs.Firing.{freshWalker, stepFault, follows, runFault, nodeAfter, endCounts}
+use Rattle.schedule.specs.Firing.{freshWalker, walkerFault, stepFault, follows, runFault, nodeAfter, endCounts}
 use Rattle.refusal.specs.Limits.{scratchLimit}
 use Rattle.schedule.specs.Calls.{runCore, FireDone, RunDone}
 use Rattle.schedule.specs.Plain.{plainRun}
@@ -50,7 +51,7 @@ use Rattle.minimal.proofs.Recoded.{encode-decode, decoded-encodable}
 use Rattle.minimal.proofs.Minimal.{form-no-longer, form-twice, form-fewest}
 use Rattle.demands.specs.Terms.{said}
 use Rattle.demands.specs.Demand3.{made}
-use Rattle.demands.specs.Further.{PathsShorten, ChoicePartition, NeverStuck, Firings, none-fired, one-fired, Folds, RunFolds, OneEncoding, FormNoLonger, FormTwice, FormFewest}
+use Rattle.demands.specs.Further.{FreshPasses, PathsShorten, ChoicePartition, NeverStuck, Firings, none-fired, one-fired, Folds, RunFolds, OneEncoding, FormNoLonger, FormTwice, FormFewest}
 use Rattle.demands.proofs.Checked.{accepted-reply, some-scratch, enough-scratch}
 use Rattle.demands.proofs.Demand3.{made-form, size-form}
 
@@ -133,6 +134,15 @@ module _ (net sheet : List ℕ) (h : scheduleReply net sheet ≡ verdict.Accepte
           ∙ ap (λ (x : List ℕ). getD x p 0) (e .counts) ∙ sym (List·getD-append (endCounts net firings) _ 0 p (rw (end-length net firings) l))
           ∙ sym (ap (λ (x : List ℕ). getD x p 0) (done-zero (run-law net sheet firings) d z .written 0));
     }
+
+pub fresh-fires : FreshPasses
+unfolding graph
+fresh-fires net sheet v w t h f o =
+    let r = accepted-reply net sheet h in
+    let q : freshWalker (netReply net) net ≡ w = sym (f .made ∙ ap (λ (x : Verdict). freshWalker x net) (f .reply)) in
+    let p = walker-out (petriNet net) sheet w (subst (λ (x : Walker). walkerFault (petriNet net) sheet x ≡ none) q (fresh-passes net sheet r)) in
+    let n : w .node ≡ 0 = sym (ap (λ (x : Walker). x .node) q) ∙ fresh-node net sheet r in
+    (p .node, ((λ i l. (p .holds i l, tt)), (rw n o, tt)))
 
 pub run-folds : RunFolds
 run-folds net sheet firings out s out′ s′ a v w h d f =

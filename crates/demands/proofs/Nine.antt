@@ -49,18 +49,21 @@ abbrev class : ℕ → ℕ
 class n = getD own n 0
 
 passes : check.wordsFault N nine ≡ none
-unfolding orElse when first keyAt valueAt placeCount transitionCount words.nodeCount words.entryCount words.entryKey words.entryValue words.arcKeys words.keyLimit keyFails foundAt foundBy finding check.sizesPass check.targetFails check.countFails check.valueFails check.wordsFault
+unfolding orElse when first keyAt valueAt placeCount transitionCount words.nodeCount words.entryCount words.entryKey words.entryValue words.arcKeys
+    words.keyLimit keyFails foundAt foundBy finding check.sizesPass check.targetFails check.countFails check.valueFails check.wordsFault
 passes = refl
 
 closed : Closed A
 closed = graph-closed N nine (unfold transitionCount in (omega arith)) (words-out N nine passes)
 
 by-labels : classes A 0 ≡ own
-unfolding orElse when first passing least tabulate keyAt valueAt entryWith entryOf equalLabels sameIn leaderBy inClass classes placeCount transitionCount words.nodeCount words.entryCount words.entryValue words.entryWithKey words.arcKeys words.count words.marking words.graph
+unfolding orElse when first passing least tabulate keyAt valueAt entryWith entryOf equalLabels sameIn leaderBy inClass classes placeCount
+    transitionCount words.nodeCount words.entryCount words.entryValue words.entryWithKey words.arcKeys words.count words.marking words.graph
 by-labels = refl
 
 by-arcs : tabulate (leaderBy (refined A class)) (A .nodes) ≡ own
-unfolding orElse when found first all passing least tabulate keyAt valueAt entryWith entryOf agree leaderBy inClass sameClass refined placeCount transitionCount words.nodeCount words.entryCount words.entryValue words.entryWithKey words.arcEntry words.arc words.graph
+unfolding orElse when found first all passing least tabulate keyAt valueAt entryWith entryOf agree leaderBy inClass sameClass refined placeCount
+    transitionCount words.nodeCount words.entryCount words.entryValue words.entryWithKey words.arcEntry words.arc words.graph
 by-arcs = refl
 
 is-minimal : minimalBy (sameClass class) A ≡ minimal A
@@ -69,7 +72,10 @@ is-minimal =
     (λ n l. sym (tabulate-at (leaderBy (refined A class)) 0 (A .nodes) n l) ∙ ap (λ (x : List ℕ). getD x n 0) by-arcs)
 
 words-of-it : encoding.encode N (minimalBy (sameClass class) A) ≡ nineForm
-unfolding orElse when found first all passing least tabulate keyAt valueAt entryWith entryOf sameClass classAt indexOf enter expand explored order merged minimalBy placeCount transitionCount words.nodeCount words.entryCount words.entryKey words.entryValue words.entryWithKey words.arcKeys words.arcEntry words.arc words.count words.marking words.graph encoding.gather encoding.gatherRows encoding.keyOfArc encoding.held encoding.keyOfCount encoding.valueOfCount encoding.keys encoding.values encoding.encode
+unfolding orElse when found first all passing least tabulate keyAt valueAt entryWith entryOf sameClass classAt indexOf enter expand explored order
+    merged minimalBy placeCount transitionCount words.nodeCount words.entryCount words.entryKey words.entryValue words.entryWithKey words.arcKeys
+    words.arcEntry words.arc words.count words.marking words.graph encoding.gather encoding.gatherRows encoding.keyOfArc encoding.held
+    encoding.keyOfCount encoding.valueOfCount encoding.keys encoding.values encoding.encode
 words-of-it = refl
 
 form : minimalForm netQ nine ≡ nineForm
@@ -79,13 +85,16 @@ form = ap (encoding.encode N) (sym is-minimal) ∙ words-of-it
 abbrev answer : List ℕ
 answer = 0 ∷ 0 ∷ 0 ∷ 9 ∷ 12 ∷ 3 ∷ []
 
-reply : check.scheduleReply netQ nine ≡ verdict.Accepted
-unfolding orElse when found first all any bit count passing least tabulate keyAt valueAt entryWith entryOf arcInto arcFrom reachedIn leadsIn placeCount transitionCount keyLimit entryWeight weightAt taken put start takesNothing isSource hasSource entryCount keyFails foundAt foundBy finding sizesPass weightFails netReply tests.holdsEnough tests.enabled petri.firedCount tests.takesNothing tests.isSource tests.takesAlike tests.sameChoice words.nodeCount words.entryCount words.entryKey words.entryValue words.entryWithKey words.arcKeys words.keyLimit words.arcEntry words.arc words.count words.marking words.graph tests.offers tests.offersAsSource tests.isAwait tests.offersSome tests.firstOffered tests.offersAsChoice tests.offersOneChoiceSet check.sizesPass check.targetFails check.countFails words.isArc check.valueFails check.wordsFault words.arcNode words.arcTransition check.arcEnabled check.landsAt check.arcLands check.graphFault check.scheduleFault check.arcCount check.awaitCount scheduleReply
-reply = refl
-
-counts : answered (row netQ nine answer nineForm) ≡ answer
-unfolding orElse when found first all any bit count passing least tabulate keyAt valueAt entryWith entryOf arcInto arcFrom reachedIn leadsIn placeCount transitionCount keyLimit entryWeight weightAt taken put start takesNothing isSource hasSource entryCount keyFails foundAt foundBy finding sizesPass weightFails netReply tests.holdsEnough tests.enabled petri.firedCount tests.takesNothing tests.isSource tests.takesAlike tests.sameChoice words.nodeCount words.entryCount words.entryKey words.entryValue words.entryWithKey words.arcKeys words.keyLimit words.arcEntry words.arc words.count words.marking words.graph tests.offers tests.offersAsSource tests.isAwait tests.offersSome tests.firstOffered tests.offersAsChoice tests.offersOneChoiceSet check.sizesPass check.targetFails check.countFails words.isArc check.valueFails check.wordsFault words.arcNode words.arcTransition check.arcEnabled check.landsAt check.arcLands check.graphFault check.scheduleFault check.arcCount check.awaitCount scheduleReply countsOf
-counts = refl
+checked : (check.scheduleReply netQ nine ≡ verdict.Accepted) × (answered (row netQ nine answer nineForm) ≡ answer)
+unfolding orElse when found first all any bit count passing least tabulate keyAt valueAt entryWith entryOf arcInto arcFrom reachedIn leadsIn
+    placeCount transitionCount keyLimit entryWeight weightAt taken put start takesNothing isSource hasSource entryCount keyFails foundAt foundBy
+    finding sizesPass weightFails netReply tests.holdsEnough tests.enabled petri.firedCount tests.takesNothing tests.isSource tests.takesAlike
+    tests.sameChoice words.nodeCount words.entryCount words.entryKey words.entryValue words.entryWithKey words.arcKeys words.keyLimit words.arcEntry
+    words.arc words.count words.marking words.graph tests.offers tests.offersAsSource tests.isAwait tests.offersSome tests.firstOffered
+    tests.offersAsChoice tests.offersOneChoiceSet check.sizesPass check.targetFails check.countFails words.isArc check.valueFails check.wordsFault
+    words.arcNode words.arcTransition check.arcEnabled check.landsAt check.arcLands check.graphFault check.scheduleFault check.arcCount
+    check.awaitCount scheduleReply countsOf
+checked = (refl, refl)
 
 pub nine-holds : Nine
-nine-holds = row-holds (row netQ nine answer nineForm) counts (ap (λ (v : Verdict). formWhere v netQ nine) reply ∙ form)
+nine-holds = row-holds (row netQ nine answer nineForm) (checked .1) (ap (λ (v : Verdict). formWhere v netQ nine) (checked .0) ∙ form)

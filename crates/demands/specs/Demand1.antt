@@ -19,7 +19,7 @@ use Rattle.schedule.specs.Calls.{CheckDone, BoundsDone, FreshDone, FireDone, Ru
 use Rattle.schedule.specs.Plain.{plainRun}
 use Rattle.schedule.specs.declared.Walker.{Walker}
 use Rattle.minimal.specs.Form.{plainForm, FormDone}
-use Rattle.demands.specs.Terms.{asked}
+use Rattle.demands.specs.Terms.{allChecks}
 
 -- what an output buffer and scratch held is read by nothing: the answers are one, and each word left is the same or is as it was in both (§13.5)
 abbrev pub Unread : {Answer : Type 0} → (List ℕ → List ℕ → Answer → List ℕ → List ℕ → Type 0) → Type 0
@@ -32,16 +32,16 @@ pub record Demand1 : Type 0 where
   pub net-check : (net : List ℕ) (v : Verdict) → NetDone net v → ByChecks (netChecks net) (plainOf v) 0
   pub fresh-walker : (net : List ℕ) (v : Verdict) (w : Walker) → FreshDone net v w
       → ByChecks (netChecks net) (plainOf v) 0 × ((number (plainOf v) ≡ 0 → ⊥) → w ≡ record { node = 0; counts = replicate mostPlaces 0 })
-  pub check : (net sheet : List ℕ) → EveryCall {Left = Unit} scratchLimit plainCheck 3 (asked net sheet []) tt (λ s a left s′. CheckDone net sheet s a s′)
+  pub check : (net sheet : List ℕ) → EveryCall {Left = Unit} scratchLimit plainCheck 3 (allChecks net sheet []) tt (λ s a left s′. CheckDone net sheet s a s′)
   pub place-bounds : (net sheet out : List ℕ)
-      → EveryCall scratchLimit plainOf 0 (asked net sheet (once (petriNet net .places ≤ length out) 22 ∷ [])) out (BoundsDone net sheet out)
+      → EveryCall scratchLimit plainOf 0 (allChecks net sheet (once (petriNet net .places ≤ length out) 22 ∷ [])) out (BoundsDone net sheet out)
   pub fire : (net sheet : List ℕ) (w : Walker) (t : ℕ)
-      → EveryCall scratchLimit plainOf 0 (asked net sheet (walkerChecks (petriNet net) sheet w t)) w (λ s v next s′. FireDone net sheet s w t v next s′)
+      → EveryCall scratchLimit plainOf 0 (allChecks net sheet (walkerChecks (petriNet net) sheet w t)) w (λ s v next s′. FireDone net sheet s w t v next s′)
   pub run : (net sheet firings out : List ℕ)
-      → EveryCall scratchLimit plainRun 2 (asked net sheet (runChecks (petriNet net) sheet firings ++ (once (petriNet net .places ≤ length out) 22 ∷ []))) out (RunDone net sheet firings out)
+      → EveryCall scratchLimit plainRun 2 (allChecks net sheet (runChecks (petriNet net) sheet firings ++ (once (petriNet net .places ≤ length out) 22 ∷ []))) out (RunDone net sheet firings out)
   -- how many words the minimal form needs is said by demand 3 (§11.7)
   pub minimal-form : (net sheet : List ℕ) → (needed : ℕ)
-      × ((out : List ℕ) → EveryCall scratchLimit plainForm 1 (asked net sheet (once (needed ≤ length out) 22 ∷ [])) out (FormDone net sheet out))
+      × ((out : List ℕ) → EveryCall scratchLimit plainForm 1 (allChecks net sheet (once (needed ≤ length out) 22 ∷ [])) out (FormDone net sheet out))
   -- ---- and what none of them reads
   pub bounds-unread : (net sheet : List ℕ) → Unread (BoundsDone net sheet)
   pub run-unread : (net sheet firings : List ℕ) → Unread (RunDone net sheet firings)

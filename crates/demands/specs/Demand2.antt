@@ -27,7 +27,7 @@ use Rattle.schedule.specs.Calls.{CheckDone, BoundsDone, FreshDone, FireDone, Ru
 use Rattle.schedule.specs.Plain.{plainRun}
 use Rattle.schedule.specs.declared.Walker.{Walker}
 use Rattle.schedule.specs.declared.RunAnswer.{RunAnswer}
-use Rattle.demands.specs.Terms.{said, asked, Accepted}
+use Rattle.demands.specs.Terms.{said, allChecks, Accepted}
 
 -- k of the numbers 0, 1, .., n - 1 are such
 pub data HowMany (Such : ℕ → Type 0) : ℕ → ℕ → Type 0 where
@@ -42,13 +42,13 @@ pub record Counted (N : PetriNet) (A : Automaton) (nodes arcs awaits : ℕ) : Ty
   pub all-awaits : HowMany (Await N A) (A .nodes) awaits
 
 -- the words at the front of a buffer: at each place the least number that no run exceeds there; past them the buffer is as it was: §10.4, §9.4
-pub record BoundsWritten (N : PetriNet) (A : Automaton) (out out′ : List ℕ) : Type 0 where
+pub record LeastBounds (N : PetriNet) (A : Automaton) (out out′ : List ℕ) : Type 0 where
   pub least : (p : ℕ) → p < N .places → LeastBound N A p (getD out′ p 0)
   pub past : (i : ℕ) → N .places ≤ i → getD out′ i 0 ≡ getD out i 0
   pub length-kept : length out′ ≡ length out
 
 -- a firing follows an arc, of a transition that is enabled; the counts are those that firing gives, and the next firing passes by all that is offered: §10.7
-pub record Fired (N : PetriNet) (sheet : List ℕ) (A : Automaton) (w : Walker) (t : ℕ) (next : Walker) : Type 0 where
+pub record FiresRight (N : PetriNet) (sheet : List ℕ) (A : Automaton) (w : Walker) (t : ℕ) (next : Walker) : Type 0 where
   pub arc : A .arc (w .node) t ≡ some (next .node)
   pub enabled : Enabled N (w .counts) t
   pub stands : Stands N next (next .node) (firedCount N (w .counts) t)
@@ -70,14 +70,14 @@ pub record Demand2 : Type 0 where
   pub published : (net sheet s s′ : List ℕ) (a : CheckAnswer) → CheckDone net sheet s a s′ → scratchLimit ≤ length s → IsNet net → WordsPass (petriNet net) sheet
       → (number (plainCheck a) ≡ 0) ↔ (SequentialSchedule (petriNet net) (said net sheet) × ((n : ℕ) → n < said net sheet .nodes → Reachable (said net sheet) n))
   -- otherwise the first check that fails is named: §7.54
-  pub names : (net sheet s s′ : List ℕ) (a : CheckAnswer) → CheckDone net sheet s a s′ → ByChecks (asked net sheet [] s) (plainCheck a) 3
+  pub names : (net sheet s s′ : List ℕ) (a : CheckAnswer) → CheckDone net sheet s a s′ → ByChecks (allChecks net sheet [] s) (plainCheck a) 3
   -- what is counted: §10.3
   pub counts : (net sheet s s′ : List ℕ) (a : CheckAnswer) → CheckDone net sheet s a s′ → number (plainCheck a) ≡ 0
       → Counted (petriNet net) (said net sheet) (own (plainCheck a) 0) (own (plainCheck a) 1) (own (plainCheck a) 2)
   -- what is fired, from a fresh walker on: §10.6 to §10.8
   pub fresh : (net : List ℕ) (v : Verdict) (w : Walker) → FreshDone net v w → number (plainOf v) ≡ 0 → Stands (petriNet net) w 0 (petriNet net .start)
   pub fires : (net sheet s s′ : List ℕ) (w next : Walker) (t : ℕ) (v : Verdict) → FireDone net sheet s w t v next s′ → number (plainOf v) ≡ 0
-      → Fired (petriNet net) sheet (said net sheet) w t next
+      → FiresRight (petriNet net) sheet (said net sheet) w t next
   pub runs : (net sheet firings out s out′ s′ : List ℕ) (a : RunAnswer) → RunDone net sheet firings out s a out′ s′ → number (plainRun a) ≡ 0
       → RanAll (petriNet net) (said net sheet) firings out (own (plainRun a) 0) (own (plainRun a) 1) out′
   -- every run of an accepted schedule fires only enabled transitions and can go on, and every node has a way to an await node: §13.3
@@ -86,4 +86,4 @@ pub record Demand2 : Type 0 where
   pub returns : (net sheet : List ℕ) → Accepted net sheet → (n : ℕ) → n < said net sheet .nodes → ToAwait (petriNet net) (said net sheet) n
   -- each word that place bounds writes is the least that all runs keep: §10.4, §13.3
   pub bounds : (net sheet out s out′ s′ : List ℕ) (v : Verdict) → BoundsDone net sheet out s v out′ s′ → number (plainOf v) ≡ 0
-      → BoundsWritten (petriNet net) (said net sheet) out out′
+      → LeastBounds (petriNet net) (said net sheet) out out′

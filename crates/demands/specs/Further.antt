@@ -6,16 +6,19 @@ use mathlib.Core.List.{List, [], _∷_}
 use mathlib.Core.Bool.{true}
 use lib.ListN.{length, getD}
 use Rattle.automaton.specs.Automaton.{Automaton, allows, SameLists}
+use Rattle.refusal.specs.Checks.{AllPass}
 use Rattle.refusal.specs.declared.Verdict.{Verdict}
 use Rattle.refusal.specs.declared.Verdict.the-variants as verdict
 use Rattle.net.specs.Checks.{IsNet}
 use Rattle.sequential.specs.Petri.{PetriNet, petriNet, Source, SameChoice}
 use Rattle.sequential.specs.Words.{graph}
+use Rattle.sequential.specs.Schedule.{Offers}
 use Rattle.sequential.specs.Runs.{GoesOn, ShortWhereAny}
 use Rattle.sequential.specs.Checks.{WordsPass}
 use Rattle.call.specs.Demands.{number, own}
 use Rattle.refusal.specs.Limits.{scratchLimit}
 use Rattle.schedule.specs.Calls.{FreshDone, FireDone, RunDone}
+use Rattle.schedule.specs.Walker.{walkerChecks}
 use Rattle.schedule.specs.Plain.{plainRun}
 use Rattle.schedule.specs.declared.Walker.{Walker}
 use Rattle.schedule.specs.declared.RunAnswer.{RunAnswer}
@@ -46,6 +49,11 @@ abbrev pub NeverStuck : Type 0
 NeverStuck = (net sheet σ : List ℕ) → Accepted net sheet → allows (said net sheet) 0 σ ≡ true → GoesOn (petriNet net) (said net sheet) σ
 
 -- ---- a run is one firing after the other
+
+-- a fresh walker fires, on every accepted schedule, whatever the root offers: it passes 18 and 19, as those do that a firing hands back (`FiresRight`)
+abbrev pub FreshPasses : Type 0
+FreshPasses = (net sheet : List ℕ) (v : Verdict) (w : Walker) (t : ℕ) → Accepted net sheet → FreshDone net v w → Offers (petriNet net) (said net sheet) 0 t
+    → AllPass (walkerChecks (petriNet net) sheet w t)
 
 -- calls of the single firing, each accepted, each with the walker that the one before handed back
 pub data Firings (net sheet : List ℕ) : Walker → List ℕ → Walker → Type 0 where

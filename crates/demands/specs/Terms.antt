@@ -20,8 +20,8 @@ abbrev pub said : List ℕ → List ℕ → Automaton
 said net sheet = graph (petriNet net) sheet
 
 -- all that a call checks, in the order of §7.54: scratch, the net, the schedule, and what the call asks besides
-abbrev pub asked : List ℕ → List ℕ → List Check → List ℕ → List Check
-asked net sheet besides scratch = once (scratchLimit ≤ length scratch) 21 ∷ ((netChecks net ++ sheetChecks (petriNet net) sheet) ++ besides)
+abbrev pub allChecks : List ℕ → List ℕ → List Check → List ℕ → List Check
+allChecks net sheet besides scratch = once (scratchLimit ≤ length scratch) 21 ∷ ((netChecks net ++ sheetChecks (petriNet net) sheet) ++ besides)
 
 -- some call of the schedule check (§10.3) answered 0
 pub record Accepted (net sheet : List ℕ) : Type 0 where
