@@ -1,12 +1,25 @@
 // The checker: reads net.bin and sheet.bin of the folder that it runs in (§12.1), prints what is answered for them, and ends well (§12.8).
-mod output;
-mod print;
-
 ghost use mathlib.Core.Path.{_≡_};
-ghost use lib.ListN.{length};
+ghost use mathlib.Core.List.{List};
+ghost use Prim.Native.Nat.{ℕ};
+ghost use lib.ListN.{take};
 ghost use Rattle.io.specs.Counts.{Counts};
-ghost use Rattle.files.specs.Program.{programAnswer};
-use files::FilesAnswer;
+ghost use Rattle.files.specs.Printed.{printed, Buffers, Reads};
+use libc::STDOUT_FILENO;
+
+// Of each file one word more than fits: §12.3.
+const NET_WORDS: usize = 4164;
+
+const NET_BYTES: usize = 16656;
+
+const SHEET_WORDS: usize = 8195;
+
+const SHEET_BYTES: usize = 32780;
+
+// The longest minimal form, and the longest text.
+const FORM_WORDS: usize = 8194;
+
+const TEXT_BYTES: usize = 91315;
 
 // The bytes of a file at the start of buf, as many as it holds; none of a file that cannot be opened or read (§12.2).
 fn read_file(path: &[u8], buf: &mut [u8]) -> usize
@@ -21,50 +34,44 @@ fn read_file(path: &[u8], buf: &mut [u8]) -> usize
     n
 }
 
-// The answer for the bytes of the two files (§12.5). The buffers cut a longer file (§12.3).
-fn answer(netbin: &[u8], sheetbin: &[u8], net: &mut [u32], sheet: &mut [u32]) -> FilesAnswer
-    requires { ⌜ length (now net) ≡ 4164 ⌝ }
-    requires { ⌜ length (now sheet) ≡ 8195 ⌝ }
-    ensures { λ r. ⌜ r .answer ≡ programAnswer (now (netbin .entry)) (now (sheetbin .entry)) ⌝ }
-    ensures { λ r. ⌜ Counts (r .net) (now (net .exit)) ⌝ }
-    ensures { λ r. ⌜ Counts (r .sheet) (now (sheet .exit)) ⌝ }
-{
-    files::check_files(netbin, sheetbin, net, sheet)
-}
-
+// All that is printed for two files, at the start of out: n and s bytes of them are in the buffers that they were read into.
 fn report(
     netbin: &[u8],
+    n: usize,
     sheetbin: &[u8],
+    s: usize,
     net: &mut [u32],
     sheet: &mut [u32],
     form: &mut [u32],
-    buf: &mut [u8],
-)
-    requires { ⌜ length (now net) ≡ 4164 ⌝ }
-    requires { ⌜ length (now sheet) ≡ 8195 ⌝ }
+    out: &mut [u8],
+) -> usize
+    requires { ⌜ Buffers (now netbin) (now sheetbin) (now net) (now sheet) (now form) (now out) ⌝ }
+    requires { ⌜ Counts n (now netbin) ⌝ }
+    requires { ⌜ Counts s (now sheetbin) ⌝ }
+    ensures { λ r. ⌜ ((netFile sheetFile : List ℕ) → Reads netFile (now (netbin .entry)) n → Reads sheetFile (now (sheetbin .entry)) s → take r (now (out .exit)) ≡ printed netFile sheetFile) ⌝ }
+    ensures { λ r. ⌜ Counts r (now (out .exit)) ⌝ }
 {
-    let found = answer(netbin, sheetbin, net, sheet);
-    let n = found.net;
-    let s = found.sheet;
-    let answer = found.answer;
-    print::answer(answer, &net[..n], &sheet[..s], form, buf);
+    files::print_files(&netbin[..n], &sheetbin[..s], net, sheet, form, out)
 }
 
 fn main() {
-    let mut netbin = [0u8; 16656];
-    let mut sheetbin = [0u8; 32780];
+    let mut netbin = [0u8; NET_BYTES];
+    let mut sheetbin = [0u8; SHEET_BYTES];
     let n = read_file(b"net.bin", &mut netbin);
     let s = read_file(b"sheet.bin", &mut sheetbin);
-    let mut net = [0u32; 4164];
-    let mut sheet = [0u32; 8195];
-    let mut form = [0u32; 8194];
-    let mut buf = io::large_buffer();
-    report(
-        &netbin[..n],
-        &sheetbin[..s],
+    let mut net = [0u32; NET_WORDS];
+    let mut sheet = [0u32; SHEET_WORDS];
+    let mut form = [0u32; FORM_WORDS];
+    let mut out = [0u8; TEXT_BYTES];
+    let k = report(
+        &netbin,
+        n,
+        &sheetbin,
+        s,
         &mut net,
         &mut sheet,
         &mut form,
-        &mut buf,
+        &mut out,
     );
+    io::write_all(STDOUT_FILENO, &out[..k]);
 }

@@ -18,7 +18,7 @@ use Rattle.net.specs.Checks.{IsNet}
 use Rattle.net.proofs.Checks.{net-judged}
 use Rattle.net.proofs.Laws.{sizes, some-source, start-no-place}
 use Rattle.sequential.specs.Petri.{petriNet, firedCount}
-use Rattle.sequential.specs.Words.{nodeCount, graph}
+use Rattle.sequential.specs.Words.{nodeCount}
 use Rattle.sequential.specs.Published.{SequentialSchedule}
 use Rattle.sequential.specs.Checks.{WordsPass}
 use Rattle.sequential.specs.Check.{arcCount, awaitCount, scheduleReply}
@@ -58,14 +58,13 @@ use Rattle.demands.proofs.Demand1.{net-by}
 module _ (net sheet s s′ : List ℕ) (a : CheckAnswer) (d : CheckDone net sheet s a s′) where
   check-published : scratchLimit ≤ length s → IsNet net → WordsPass (petriNet net) sheet
       → (number (plainCheck a) ≡ 0) ↔ (SequentialSchedule (petriNet net) (said net sheet) × ((n : ℕ) → n < said net sheet .nodes → Reachable (said net sheet) n))
-  unfolding graph
   check-published l p w = (
     λ z. let (m, h) = check-zero net sheet s s′ a d .0 z in
         let i = accepts net sheet h .schedule in
         (sequential (petriNet net) (said net sheet) (closed net sheet h) refl i, i .reached),
     λ (q, r).
         let n = net-judged net .accepts .1 p in
-        let c = graph-closed (petriNet net) sheet (sizes net n .some-transition) (words-hold (petriNet net) sheet w) in
+        let c = graph-closed (petriNet net) sheet (sizes net n .some-transition) (words-hold (petriNet net) sheet w .arcs) in
         check-zero net sheet s s′ a d .1 (l, reply-passes net sheet .1 (p, w, published-schedule (petriNet net) (said net sheet) c refl (some-source net n) q r)),
   )
 
@@ -81,10 +80,10 @@ how-many f Such (suc n) h =
 
 counted : (net sheet : List ℕ) → scheduleReply net sheet ≡ verdict.Accepted
     → Counted (petriNet net) (said net sheet) (nodeCount sheet) (arcCount (petriNet net) sheet) (awaitCount (petriNet net) sheet)
-unfolding graph awaitCount
+unfolding awaitCount
 counted net sheet h = record {
   all-nodes = refl;
-  all-arcs = rw (arcs-counted (petriNet net) sheet (some-transition net sheet h) (accepts net sheet h .words)) (how-many _ _ _ (λ i l. offers↔ (petriNet net) (said net sheet) _ _));
+  all-arcs = rw (arcs-counted (petriNet net) sheet (some-transition net sheet h) (accepts net sheet h .words .arcs)) (how-many _ _ _ (λ i l. offers↔ (petriNet net) (said net sheet) _ _));
   all-awaits = how-many _ _ _ (λ n l. await↔ (petriNet net) (said net sheet) n);
 }
 
@@ -110,7 +109,7 @@ fresh net v w d z =
 
 fires : (net sheet s s′ : List ℕ) (w next : Walker) (t : ℕ) (v : Verdict) → FireDone net sheet s w t v next s′ → number (plainOf v) ≡ 0
     → FiresRight (petriNet net) sheet (said net sheet) w t next
-unfolding graph firedCount
+unfolding firedCount
 fires net sheet s s′ w next t v d z =
     let f = done-zero (fire-law net sheet w t) d z in
     let (a, b) = then-accepted (scheduleReply net sheet) _ (f .passed) in
@@ -127,7 +126,7 @@ fires net sheet s s′ w next t v d z =
 
 runs-all : (net sheet firings out s out′ s′ : List ℕ) (a : RunAnswer) → RunDone net sheet firings out s a out′ s′ → number (plainRun a) ≡ 0
     → RanAll (petriNet net) (said net sheet) firings out (own (plainRun a) 0) (own (plainRun a) 1) out′
-unfolding graph endCounts
+unfolding endCounts
 runs-all net sheet firings out s out′ s′ a d z =
     let N = petriNet net in
     let law = run-law net sheet firings in
@@ -157,7 +156,7 @@ bounds-written net sheet out s out′ s′ v d z =
     let at : (i : ℕ) → getD out′ i 0 ≡ getD (writtenOver (bounds N sheet) out) i 0 = λ i. ap (λ (x : List ℕ). getD x i 0) e in
     record {
       least = λ p l. rw (at p ∙ List·getD-append (bounds N sheet) _ 0 p (rw n l) ∙ bounds-at N sheet p l)
-          (least-bound N sheet (some-transition net sheet h) (accepts net sheet h .words) (accepts net sheet h .schedule) p l);
+          (least-bound N sheet (some-transition net sheet h) (accepts net sheet h .words .arcs) (accepts net sheet h .schedule) p l);
       past = λ i l. at i ∙ written-past (bounds N sheet) out i (rw n l);
       length-kept = ap length e ∙ written-length (bounds N sheet) out (f .room 0);
     }
@@ -165,7 +164,6 @@ bounds-written net sheet out s out′ s′ v d z =
 -- ---- demand 2
 
 pub demand2 : Demand2
-unfolding graph
 demand2 = record {
   accepts = λ net sheet s s′ a d.
       let (f, g) = check-zero net sheet s s′ a d in

@@ -30,7 +30,7 @@ use Rattle.call.proofs.Laws.{call-enough}
 use Rattle.call.proofs.Done.{own-refused}
 use Rattle.refusal.specs.Limits.{scratchLimit}
 use Rattle.schedule.specs.Calls.{checkCore, CheckDone}
-use Rattle.minimal.specs.Encoding as encoding
+use Rattle.encoding.specs.Encoding as encoding
 use Rattle.minimal.specs.Minimal.{minimalForm}
 use Rattle.minimal.specs.Form.{plainForm, FormDone}
 use Rattle.minimal.specs.declared.FormAnswer.{FormAnswer}
@@ -106,8 +106,8 @@ computed : TableHolds starred × TableHolds further
 unfolding orElse when found first all any bit count passing least tabulate keyAt valueAt entryWith entryOf arcInto arcFrom reachedIn leadsIn
     placeCount transitionCount keyLimit entryWeight weightAt taken put start takesNothing isSource hasSource entryCount keyFails foundAt foundBy
     finding sizesPass weightFails netReply tests.holdsEnough tests.enabled petri.firedCount tests.takesNothing tests.isSource tests.takesAlike
-    tests.sameChoice words.nodeCount words.entryCount words.entryKey words.entryValue words.entryWithKey words.arcKeys words.keyLimit words.arcEntry
-    words.arc words.count words.marking words.graph tests.offers tests.offersAsSource tests.isAwait tests.offersSome tests.firstOffered
+    tests.sameChoice words.entryKey words.entryValue words.entryWithKey words.arcKeys words.keyLimit words.arcEntry
+    words.arc words.count words.marking tests.offers tests.offersAsSource tests.isAwait tests.offersSome tests.firstOffered
     tests.offersAsChoice tests.offersOneChoiceSet check.sizesPass check.targetFails check.countFails words.isArc check.valueFails check.wordsFault
     words.arcNode words.arcTransition check.arcEnabled check.landsAt check.arcLands check.graphFault check.scheduleFault check.arcCount
     check.awaitCount equalLabels agree sameIn same classAt indexOf enter expand explored order merged minimalBy minimal encoding.gather

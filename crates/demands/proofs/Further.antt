@@ -17,12 +17,12 @@ use Rattle.net.specs.Checks.{netChecks}
 use Rattle.net.proofs.Checks.{net-judged}
 use Rattle.net.proofs.Laws.{sizes, some-source}
 use Rattle.sequential.specs.Petri.{PetriNet, petriNet}
-use Rattle.sequential.specs.Words.{count, graph}
+use Rattle.sequential.specs.Words.{count}
 use Rattle.sequential.specs.Check.{scheduleReply}
 use Rattle.sequential.specs.Checks.{sheetChecks}
 use Rattle.sequential.proofs.Words.{words-hold, words-pass}
 use Rattle.sequential.proofs.Entries.{marking-at}
-use Rattle.sequential.proofs.Clauses.{choice-refl, choice-sym, choice-trans, choice-source}
+use Rattle.sequential.proofs.Choices.{choice-refl, choice-sym, choice-trans, choice-source}
 use Rattle.sequential.proofs.Accepted.{accepts, closed}
 use Rattle.sequential.proofs.Runs.{goes-on}
 use Rattle.sequential.proofs.Paths.{short-where}
@@ -45,9 +45,9 @@ use Rattle.schedule.proofs.Following.{run-leads, run-allowed, run-ends, end-len
 use Rattle.schedule.proofs.Folded.{Kept, chain-along, along-chain}
 use Rattle.schedule.proofs.Done.{fire-law, run-law}
 use Rattle.minimal.specs.Minimal.{minimalForm, Fewest}
-use Rattle.minimal.proofs.Encoded.{encoded-passes}
-use Rattle.minimal.proofs.Decoded.{decode-encode}
-use Rattle.minimal.proofs.Recoded.{encode-decode, decoded-encodable}
+use Rattle.encoding.proofs.Encoded.{encoded-passes}
+use Rattle.encoding.proofs.Decoded.{decode-encode}
+use Rattle.encoding.proofs.Recoded.{encode-decode, decoded-encodable}
 use Rattle.minimal.proofs.Minimal.{form-no-longer, form-twice, form-fewest}
 use Rattle.demands.specs.Terms.{said}
 use Rattle.demands.specs.Demand3.{made}
@@ -58,8 +58,7 @@ use Rattle.demands.proofs.Demand3.{made-form, size-form}
 -- ---- schedules
 
 pub paths-shorten : PathsShorten
-unfolding graph
-paths-shorten net sheet p w n l = short-where (petriNet net) sheet (sizes net (net-judged net .accepts .1 p) .some-transition) (words-hold (petriNet net) sheet w) n l
+paths-shorten net sheet p w n l = short-where (petriNet net) sheet (sizes net (net-judged net .accepts .1 p) .some-transition) (words-hold (petriNet net) sheet w .arcs) n l
 
 pub choice-partition : ChoicePartition
 choice-partition net p = record {
@@ -71,7 +70,6 @@ choice-partition net p = record {
 }
 
 pub never-stuck : NeverStuck
-unfolding graph
 never-stuck net sheet σ h a = let r = accepted-reply net sheet h in goes-on (petriNet net) (said net sheet) (closed net sheet r) refl (accepts net sheet r .schedule) σ a
 
 -- ---- runs
@@ -117,7 +115,6 @@ module _ (net sheet : List ℕ) (h : scheduleReply net sheet ≡ verdict.Accepte
         rw q at j
 
     folds : Folds net sheet firings out s a out′ w
-    unfolding graph
     folds = record {
       exactly = λ l m. (
         λ z. let (y, c, j) = chain-along net sheet h firings w 0 _ k (run-leads N sheet firings (run-passed z)) in (y, chain-calls w y firings c),
@@ -136,7 +133,6 @@ module _ (net sheet : List ℕ) (h : scheduleReply net sheet ≡ verdict.Accepte
     }
 
 pub fresh-fires : FreshPasses
-unfolding graph
 fresh-fires net sheet v w t h f o =
     let r = accepted-reply net sheet h in
     let q : freshWalker (netReply net) net ≡ w = sym (f .made ∙ ap (λ (x : Verdict). freshWalker x net) (f .reply)) in

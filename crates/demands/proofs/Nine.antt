@@ -29,7 +29,7 @@ use Rattle.net.specs.Check.{sizesPass, weightFails, netReply}
 use Rattle.sequential.specs.Check.{scheduleReply}
 use Rattle.sequential.specs.Words as words
 use Rattle.sequential.specs.Check as check
-use Rattle.minimal.specs.Encoding as encoding
+use Rattle.encoding.specs.Encoding as encoding
 use Rattle.refusal.specs.declared.Verdict.{Verdict}
 use Rattle.refusal.specs.declared.Verdict.the-variants as verdict
 use Rattle.sequential.specs.Petri as petri
@@ -49,21 +49,21 @@ abbrev class : ℕ → ℕ
 class n = getD own n 0
 
 passes : check.wordsFault N nine ≡ none
-unfolding orElse when first keyAt valueAt placeCount transitionCount words.nodeCount words.entryCount words.entryKey words.entryValue words.arcKeys
+unfolding orElse when first keyAt valueAt placeCount transitionCount words.entryKey words.entryValue words.arcKeys
     words.keyLimit keyFails foundAt foundBy finding check.sizesPass check.targetFails check.countFails check.valueFails check.wordsFault
 passes = refl
 
 closed : Closed A
-closed = graph-closed N nine (unfold transitionCount in (omega arith)) (words-out N nine passes)
+closed = graph-closed N nine (unfold transitionCount in (omega arith)) (words-out N nine passes .arcs)
 
 by-labels : classes A 0 ≡ own
 unfolding orElse when first passing least tabulate keyAt valueAt entryWith entryOf equalLabels sameIn leaderBy inClass classes placeCount
-    transitionCount words.nodeCount words.entryCount words.entryValue words.entryWithKey words.arcKeys words.count words.marking words.graph
+    transitionCount words.entryValue words.entryWithKey words.arcKeys words.count words.marking
 by-labels = refl
 
 by-arcs : tabulate (leaderBy (refined A class)) (A .nodes) ≡ own
 unfolding orElse when found first all passing least tabulate keyAt valueAt entryWith entryOf agree leaderBy inClass sameClass refined placeCount
-    transitionCount words.nodeCount words.entryCount words.entryValue words.entryWithKey words.arcEntry words.arc words.graph
+    transitionCount words.entryValue words.entryWithKey words.arcEntry words.arc
 by-arcs = refl
 
 is-minimal : minimalBy (sameClass class) A ≡ minimal A
@@ -73,8 +73,8 @@ is-minimal =
 
 words-of-it : encoding.encode N (minimalBy (sameClass class) A) ≡ nineForm
 unfolding orElse when found first all passing least tabulate keyAt valueAt entryWith entryOf sameClass classAt indexOf enter expand explored order
-    merged minimalBy placeCount transitionCount words.nodeCount words.entryCount words.entryKey words.entryValue words.entryWithKey words.arcKeys
-    words.arcEntry words.arc words.count words.marking words.graph encoding.gather encoding.gatherRows encoding.keyOfArc encoding.held
+    merged minimalBy placeCount transitionCount words.entryKey words.entryValue words.entryWithKey words.arcKeys
+    words.arcEntry words.arc words.count words.marking encoding.gather encoding.gatherRows encoding.keyOfArc encoding.held
     encoding.keyOfCount encoding.valueOfCount encoding.keys encoding.values encoding.encode
 words-of-it = refl
 
@@ -89,8 +89,8 @@ checked : (check.scheduleReply netQ nine ≡ verdict.Accepted) × (answered (row
 unfolding orElse when found first all any bit count passing least tabulate keyAt valueAt entryWith entryOf arcInto arcFrom reachedIn leadsIn
     placeCount transitionCount keyLimit entryWeight weightAt taken put start takesNothing isSource hasSource entryCount keyFails foundAt foundBy
     finding sizesPass weightFails netReply tests.holdsEnough tests.enabled petri.firedCount tests.takesNothing tests.isSource tests.takesAlike
-    tests.sameChoice words.nodeCount words.entryCount words.entryKey words.entryValue words.entryWithKey words.arcKeys words.keyLimit words.arcEntry
-    words.arc words.count words.marking words.graph tests.offers tests.offersAsSource tests.isAwait tests.offersSome tests.firstOffered
+    tests.sameChoice words.entryKey words.entryValue words.entryWithKey words.arcKeys words.keyLimit words.arcEntry
+    words.arc words.count words.marking tests.offers tests.offersAsSource tests.isAwait tests.offersSome tests.firstOffered
     tests.offersAsChoice tests.offersOneChoiceSet check.sizesPass check.targetFails check.countFails words.isArc check.valueFails check.wordsFault
     words.arcNode words.arcTransition check.arcEnabled check.landsAt check.arcLands check.graphFault check.scheduleFault check.arcCount
     check.awaitCount scheduleReply countsOf

@@ -22,7 +22,7 @@ use Rattle.schedule.specs.Walker.{walkerChecks}
 use Rattle.schedule.specs.Plain.{plainRun}
 use Rattle.schedule.specs.declared.Walker.{Walker}
 use Rattle.schedule.specs.declared.RunAnswer.{RunAnswer}
-use Rattle.minimal.specs.Encoding.{encode, Encodable}
+use Rattle.encoding.specs.Encoding.{encode, Encodable}
 use Rattle.minimal.specs.Minimal.{Fewest}
 use Rattle.demands.specs.Terms.{said, Accepted}
 use Rattle.demands.specs.Demand3.{Form, size, made}

@@ -1,11 +1,13 @@
 -- What is answered where a file had a tail, and where none had.
-use mathlib.Core.Path.{_≡_, refl, ap, _∙_}
+use native.Mathlib.Omega.{arith}
+use mathlib.Core.Path.{_≡_, refl, sym, ap, _∙_}
 use Prim.Native.Nat.{ℕ, _≤_}
 use mathlib.Core.Bool.{Bool, true, false}
 use mathlib.Core.List.{List}
 use lib.ListN.{length, take}
 use Rattle.refusal.specs.Refusal.{refusal}
 use Rattle.refusal.specs.Verdict.{verdictOf, andThen}
+use Rattle.refusal.proofs.Verdicts.{then-accepted}
 use Rattle.net.specs.Check.{netReply}
 use Rattle.refusal.specs.declared.Position.the-variants.{Nothing}
 use Rattle.refusal.specs.declared.Refusal.{Refusal}
@@ -14,10 +16,13 @@ use Rattle.refusal.specs.declared.Verdict.the-variants.{Accepted, Refused}
 use Rattle.sequential.specs.Petri.{petriNet}
 use Rattle.sequential.specs.Check.{scheduleFault, scheduleReply}
 use Rattle.judge.specs.Answer.{countsOf, checkAnswer}
-use Rattle.judge.specs.declared.CheckAnswer.the-variants.{Failed}
+use Rattle.judge.specs.declared.CheckAnswer.the-variants.{Passed, Failed}
 use Rattle.judge.specs.declared.CheckAnswer.{CheckAnswer}
-use Rattle.files.specs.Words.{netRead, sheetRead, FileRead}
-use Rattle.files.specs.Program.{readReply, readAnswer, filesAnswer, programAnswer, FilesRead}
+use Rattle.judge.specs.declared.Counts.{Counts}
+use Rattle.text.specs.Buffer.{Put}
+use Rattle.files.specs.Words.{wordsOf, FileRead}
+use Rattle.files.specs.Program.{tailReply, readReply, readAnswer, filesAnswer, FilesRead}
+use Rattle.files.specs.Printed.{refusedText, textOf, WordsPrinted, FilesPrinted}
 use Rattle.files.specs.declared.Reading.{Reading}
 use Rattle.files.specs.declared.FilesAnswer.{FilesAnswer}
 use Rattle.files.proofs.Decoding.{words-fit, words-taken, words-are}
@@ -66,15 +71,61 @@ files-read netBytes sheetBytes net sheet net′ sheet′ x y a n s h =
       sheet-decoded = s .written;
     }
 
--- what the program's buffers make of it
-pub program-read : (netBytes sheetBytes net sheet net′ sheet′ : List ℕ) (r : FilesAnswer) → FilesRead netBytes sheetBytes net sheet r net′ sheet′
-    → length net ≡ netRead → length sheet ≡ sheetRead → r .answer ≡ programAnswer netBytes sheetBytes
-unfolding programAnswer
-program-read netBytes sheetBytes net sheet net′ sheet′ r h n s = h .answer ∙ rw (n, s)
+-- ---- what passes is accepted, and what fails is refused
 
-module _ (netBytes sheetBytes net sheet net′ sheet′ : List ℕ) (r : FilesAnswer) (h : FilesRead netBytes sheetBytes net sheet r net′ sheet′) where
-  pub net-counted : (r .net ≤ length net′) × (r .net ≡ length (take (r .net) net′))
+pub check-passed : (v : Verdict) (numbers c : Counts) → checkAnswer v numbers ≡ Passed c → (v ≡ Accepted) × (numbers ≡ c)
+check-passed Accepted numbers c e = (refl, cc)
+check-passed (Refused r) numbers c e = let z : _≡_ {A = ℕ} 0 1 = cc in absurd (omega arith)
+
+pub check-failed : (v : Verdict) (numbers : Counts) (r : Refusal) → checkAnswer v numbers ≡ Failed r → v ≡ Refused r
+check-failed Accepted numbers r e = let z : _≡_ {A = ℕ} 0 1 = cc in absurd (omega arith)
+check-failed (Refused s) numbers r e = let q : s ≡ r = cc in rw q
+
+pub read-accepted : (a b : Bool) (net sheet : List ℕ) → readReply a b net sheet ≡ Accepted → scheduleReply net sheet ≡ Accepted
+unfolding readReply
+read-accepted a b net sheet v =
+    let p = then-accepted (tailReply a 1) _ v .1 in
+    let q = then-accepted (netReply net) _ p .1 in
+    then-accepted (tailReply b 6) (scheduleReply net sheet) q .1
+
+pub passed-accepted : (a b : Bool) (net sheet : List ℕ) (c : Counts) → readAnswer a b net sheet ≡ Passed c → scheduleReply net sheet ≡ Accepted
+unfolding readAnswer
+passed-accepted a b net sheet c e = read-accepted a b net sheet (check-passed (readReply a b net sheet) (countsOf net sheet) c e .0)
+
+pub read-passed : (a b : Bool) (net sheet : List ℕ) (c : Counts) → readAnswer a b net sheet ≡ Passed c → countsOf net sheet ≡ c
+unfolding readAnswer
+read-passed a b net sheet c e = check-passed (readReply a b net sheet) (countsOf net sheet) c e .1
+
+-- ---- what the decoded words give
+
+module _ (netBytes sheetBytes net sheet net′ sheet′ : List ℕ) (x : FilesAnswer) (h : FilesRead netBytes sheetBytes net sheet x net′ sheet′) where
+  pub net-counted : (x .net ≤ length net′) × (x .net ≡ length (take (x .net) net′))
   net-counted = (words-fit _ _ _ _ (h .net-words) (h .net-decoded), words-taken _ _ _ _ (h .net-words) (h .net-decoded))
 
-  pub sheet-counted : (r .sheet ≤ length sheet′) × (r .sheet ≡ length (take (r .sheet) sheet′))
+  pub sheet-counted : (x .sheet ≤ length sheet′) × (x .sheet ≡ length (take (x .sheet) sheet′))
   sheet-counted = (words-fit _ _ _ _ (h .sheet-words) (h .sheet-decoded), words-taken _ _ _ _ (h .sheet-words) (h .sheet-decoded))
+
+  net-is : take (x .net) net′ ≡ wordsOf (length net) netBytes
+  net-is = words-are netBytes net (x .net) net′ (h .net-words) (h .net-decoded)
+
+  sheet-is : take (x .sheet) sheet′ ≡ wordsOf (length sheet) sheetBytes
+  sheet-is = words-are sheetBytes sheet (x .sheet) sheet′ (h .sheet-words) (h .sheet-decoded)
+
+  pub files-accepted : (c : Counts) → x .answer ≡ Passed c → scheduleReply (take (x .net) net′) (take (x .sheet) sheet′) ≡ Accepted
+  unfolding filesAnswer
+  files-accepted c e = rw (net-is, sheet-is) (passed-accepted _ _ _ _ c (sym (h .answer) ∙ e))
+
+  -- ---- all that is printed for them
+
+  module _ (form out out′ : List ℕ) (k : ℕ) where
+    pub refused-files : (r : Refusal) → x .answer ≡ Failed r → Put out 0 (refusedText r) k out′ → FilesPrinted netBytes sheetBytes net sheet form out k net′ sheet′ form out′
+    unfolding textOf
+    refused-files r e p =
+        let q = sym (h .answer) ∙ e in
+        record { words = rw q (record { text = p; form-after = refl }); net-decoded = h .net-decoded; sheet-decoded = h .sheet-decoded }
+
+    pub accepted-files : (form′ : List ℕ) (c : Counts) → x .answer ≡ Passed c → WordsPrinted (Passed c) (take (x .net) net′) (take (x .sheet) sheet′) form out k form′ out′
+        → FilesPrinted netBytes sheetBytes net sheet form out k net′ sheet′ form′ out′
+    accepted-files form′ c e p =
+        let q = sym (h .answer) ∙ e in
+        record { words = rw (q, ← net-is, ← sheet-is) p; net-decoded = h .net-decoded; sheet-decoded = h .sheet-decoded }

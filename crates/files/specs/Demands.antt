@@ -1,20 +1,27 @@
--- What is promised of the reading of files, as statements. proofs/Demands has a term for each.
-use Prim.Native.Nat.{ℕ, _/_}
+-- What is promised of the reading of files and of what is printed for them, as statements. proofs/Demands has a term for each.
+use Prim.Native.Nat.{ℕ, _*_, _/_, _≤_}
 use mathlib.Core.Path.{_≡_}
 use mathlib.Core.List.{List}
 use mathlib.Core.Bool.{true, false}
 use lib.ListN.{length, take}
 use Rattle.scan.specs.Scan.{tabulate}
-use Rattle.refusal.specs.Refusal.{refusal}
+use Rattle.text.specs.Lines.{answerLine, acceptedLines}
+use Rattle.refusal.specs.Refusal.{refusal, kindOf, indexOf}
 use Rattle.net.specs.Check.{netReply}
 use Rattle.refusal.specs.declared.Position.the-variants.{Nothing}
 use Rattle.refusal.specs.declared.Refusal.{Refusal}
 use Rattle.refusal.specs.declared.Verdict.the-variants.{Accepted, Refused}
-use Rattle.sequential.specs.Check.{scheduleReply}
+use Rattle.sequential.specs.Petri.{petriNet}
+use Rattle.sequential.specs.Words.{nodeCount}
+use Rattle.sequential.specs.Check.{arcCount, awaitCount, scheduleReply}
+use Rattle.sequential.specs.Bounds.{bounds}
 use Rattle.judge.specs.Answer.{countsOf, checkAnswer}
-use Rattle.judge.specs.declared.CheckAnswer.the-variants.{Failed}
+use Rattle.judge.specs.declared.Counts.{Counts}
+use Rattle.judge.specs.declared.CheckAnswer.the-variants.{Passed, Failed}
+use Rattle.minimal.specs.Minimal.{minimalForm}
 use Rattle.files.specs.Words.{netRead, sheetRead, wordAt, isRagged, wordsOf, cut}
 use Rattle.files.specs.Program.{programAnswer}
+use Rattle.files.specs.Printed.{printed, textMost, Buffers, Reads, FilesPrinted}
 
 -- every word of a file
 unfoldable pub allWords : List ℕ → List ℕ
@@ -48,3 +55,31 @@ pub record AnswersFiles (net sheet : List ℕ) : Type 0 where
 
 abbrev pub AnswersInOrder : Type 0
 AnswersInOrder = (net sheet : List ℕ) → AnswersFiles net sheet
+
+-- ---- what is printed
+
+-- line 1, the counts, the bounds and the minimal form of accepted words: §12.7
+unfoldable pub acceptedText : List ℕ → List ℕ → List ℕ
+acceptedText net sheet = acceptedLines (nodeCount sheet) (arcCount (petriNet net) sheet) (awaitCount (petriNet net) sheet) (bounds (petriNet net) sheet) (minimalForm net sheet)
+
+-- a refusal prints line 1 only: §12.6
+pub record PrintsFiles (net sheet : List ℕ) : Type 0 where
+  pub refused : (r : Refusal) → programAnswer net sheet ≡ Failed r → printed net sheet ≡ answerLine (r .number) (kindOf (r .at)) (indexOf (r .at))
+  pub accepted : (c : Counts) → programAnswer net sheet ≡ Passed c → printed net sheet ≡ acceptedText (wordsOf netRead net) (wordsOf sheetRead sheet)
+
+abbrev pub PrintsInOrder : Type 0
+PrintsInOrder = (net sheet : List ℕ) → PrintsFiles net sheet
+
+-- the program's buffer for the text is long enough, whatever the files
+abbrev pub TextFits : Type 0
+TextFits = (net sheet : List ℕ) → length (printed net sheet) ≤ textMost
+
+-- of the files no more has to be read than the program's buffers hold: §12.3
+abbrev pub ReadPrints : Type 0
+ReadPrints = (netFile sheetFile netBuffer sheetBuffer : List ℕ) (n s : ℕ) → length netBuffer ≡ 4 * netRead → length sheetBuffer ≡ 4 * sheetRead
+    → Reads netFile netBuffer n → Reads sheetFile sheetBuffer s → printed (take n netBuffer) (take s sheetBuffer) ≡ printed netFile sheetFile
+
+-- what the function leaves in the program's buffers is the text, whole
+abbrev pub PrintsWhole : Type 0
+PrintsWhole = (netBytes sheetBytes netBuffer sheetBuffer net sheet form out net′ sheet′ form′ out′ : List ℕ) (r : ℕ) → Buffers netBuffer sheetBuffer net sheet form out
+    → FilesPrinted netBytes sheetBytes net sheet form out r net′ sheet′ form′ out′ → take r out′ ≡ printed netBytes sheetBytes

@@ -1,10 +1,17 @@
-// The program's two files: their bytes as words, and what is answered for both.
+// The program's two files: their bytes as words, what is answered for both, and all that is printed.
 ghost use mathlib.Core.Path.{_≡_};
-ghost use Prim.Native.Nat.{_+_};
-ghost use lib.ListN.{getD};
+ghost use Prim.Native.Nat.{_+_, _<_};
+ghost use lib.ListN.{length, getD};
+ghost use Rattle.refusal.specs.declared.Verdict.the-variants.{Accepted};
+ghost use Rattle.sequential.specs.Check.{scheduleReply};
+ghost use Rattle.judge.specs.declared.CheckAnswer.the-variants.{Passed};
+ghost use Rattle.text.specs.Buffer.{Put};
 ghost use Rattle.files.specs.Words.{wordFrom, wordCount, isRagged, FileRead};
 ghost use Rattle.files.specs.Program.{readAnswer, FilesRead};
+ghost use Rattle.files.specs.Printed.{refusedText, WordsPrinted, FilesPrinted};
 use judge::CheckAnswer;
+use judge::Counts;
+use minimal::FormAnswer;
 use refusal::Position;
 use refusal::Refusal;
 use refusal::Verdict;
@@ -28,33 +35,22 @@ pub struct FilesAnswer {
     pub sheet: usize,
 }
 
-// The byte i behind another, 0 where there is none.
-fn byte(bytes: &[u8], at: usize, i: usize) -> u8
-    ensures { λ r. ⌜ r ≡ getD (now (bytes .entry)) (at + i) 0 ⌝ }
+fn byte(bytes: &[u8], i: usize) -> u32
+    requires { ⌜ i < length (now bytes) ⌝ }
+    ensures { λ r. ⌜ (r ≡ getD (now (bytes .entry)) i 0) × (r < 256) ⌝ }
 {
-    if bytes.len() <= at {
-        return 0;
-    }
-    if bytes.len() - at <= i {
-        return 0;
-    }
-    bytes[at + i]
-}
-
-fn wide(byte: u8) -> u32
-    ensures { λ r. ⌜ r ≡ byte ⌝ }
-{
-    byte as u32
+    bytes[i] as u32
 }
 
 // The word that starts at a byte: §12.1.
-pub fn word(bytes: &[u8], at: usize) -> u32
+fn word(bytes: &[u8], at: usize) -> u32
+    requires { ⌜ at + 3 < length (now bytes) ⌝ }
     ensures { λ r. ⌜ r ≡ wordFrom (now (bytes .entry)) at ⌝ }
 {
-    let first = wide(byte(bytes, at, 0));
-    let second = wide(byte(bytes, at, 1));
-    let third = wide(byte(bytes, at, 2));
-    let fourth = wide(byte(bytes, at, 3));
+    let first = byte(bytes, at);
+    let second = byte(bytes, at + 1);
+    let third = byte(bytes, at + 2);
+    let fourth = byte(bytes, at + 3);
     first + 256 * second + 65536 * third + 16777216 * fourth
 }
 
@@ -76,7 +72,7 @@ fn measure(bytes: &[u8], most: usize) -> Reading
 }
 
 // Decodes a file into a buffer; of a longer file as many words as the buffer has (§12.3).
-pub fn decode(bytes: &[u8], out: &mut [u32]) -> Reading
+fn decode(bytes: &[u8], out: &mut [u32]) -> Reading
     ensures { λ r. ⌜ FileRead (now (bytes .entry)) (now (out .entry)) r (now (out .exit)) ⌝ }
 {
     let reading = measure(bytes, out.len());
@@ -90,7 +86,7 @@ pub fn decode(bytes: &[u8], out: &mut [u32]) -> Reading
 }
 
 // What is answered for the words of two files, either of which may have had a tail: §12.4.
-pub fn check_read(tails: Tails, net: &[u32], sheet: &[u32]) -> CheckAnswer
+fn check_read(tails: Tails, net: &[u32], sheet: &[u32]) -> CheckAnswer
     ensures { λ r. ⌜ r ≡ readAnswer (tails .net) (tails .sheet) (now (net .entry)) (now (sheet .entry)) ⌝ }
 {
     if tails.net {
@@ -109,16 +105,11 @@ pub fn check_read(tails: Tails, net: &[u32], sheet: &[u32]) -> CheckAnswer
             at: Position::Nothing,
         });
     }
-    judge::checked(net, sheet)
+    judge::check(net, sheet)
 }
 
 // What is answered for the bytes of two files (§12.5), whose words are left in the buffers lent.
-pub fn check_files(
-    netbin: &[u8],
-    sheetbin: &[u8],
-    net: &mut [u32],
-    sheet: &mut [u32],
-) -> FilesAnswer
+fn check_files(netbin: &[u8], sheetbin: &[u8], net: &mut [u32], sheet: &mut [u32]) -> FilesAnswer
     ensures { λ r. ⌜ FilesRead (now (netbin .entry)) (now (sheetbin .entry)) (now (net .entry)) (now (sheet .entry)) r (now (net .exit)) (now (sheet .exit)) ⌝ }
 {
     let first = decode(netbin, net);
@@ -134,5 +125,63 @@ pub fn check_files(
         answer,
         net: n,
         sheet: s,
+    }
+}
+
+// Line 1 of a refusal: §12.6.
+fn print_refusal(refusal: Refusal, out: &mut [u8]) -> usize
+    ensures { λ r. ⌜ Put (now (out .entry)) 0 (refusedText refusal) r (now (out .exit)) ⌝ }
+{
+    let at = refusal.at;
+    text::answer_line(out, 0, refusal.number, at.kind(), at.index())
+}
+
+// All lines for words that are accepted (§12.7), or 22 where their minimal form has too little room.
+fn print_accepted(
+    counts: Counts,
+    net: &[u32],
+    sheet: &[u32],
+    form: &mut [u32],
+    out: &mut [u8],
+) -> usize
+    requires { ⌜ scheduleReply (now net) (now sheet) ≡ Accepted ⌝ }
+    ensures { λ r. ⌜ WordsPrinted (Passed counts) (now (net .entry)) (now (sheet .entry)) (now (form .entry)) (now (out .entry)) r (now (form .exit)) (now (out .exit)) ⌝ }
+{
+    match minimize::form_into(net, sheet, form) {
+        FormAnswer::Refused(r) => print_refusal(r, out),
+        FormAnswer::Written(k) => {
+            let bounds = schedule::bounds(net, sheet);
+            let places = net::places(net) as usize;
+            text::accepted_lines(
+                out,
+                0,
+                counts.nodes,
+                counts.arcs,
+                counts.awaits,
+                &bounds[..places],
+                &form[..k],
+            )
+        }
+    }
+}
+
+// All that is printed for the bytes of two files, at the front of out; their words and those of the minimal form are left in the buffers lent.
+pub fn print_files(
+    netbin: &[u8],
+    sheetbin: &[u8],
+    net: &mut [u32],
+    sheet: &mut [u32],
+    form: &mut [u32],
+    out: &mut [u8],
+) -> usize
+    ensures { λ r. ⌜ FilesPrinted (now (netbin .entry)) (now (sheetbin .entry)) (now (net .entry)) (now (sheet .entry)) (now (form .entry)) (now (out .entry)) r (now (net .exit)) (now (sheet .exit)) (now (form .exit)) (now (out .exit)) ⌝ }
+{
+    let found = check_files(netbin, sheetbin, net, sheet);
+    let n = found.net;
+    let s = found.sheet;
+    let answer = found.answer;
+    match answer {
+        CheckAnswer::Failed(r) => print_refusal(r, out),
+        CheckAnswer::Passed(counts) => print_accepted(counts, &net[..n], &sheet[..s], form, out),
     }
 }

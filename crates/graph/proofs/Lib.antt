@@ -1,3 +1,6 @@
 pub mod Readable
+pub mod HasRow
 pub mod Rows
+pub mod LookUp
+pub mod ArcCount
 pub mod Demands

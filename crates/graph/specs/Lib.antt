@@ -1,3 +1,4 @@
 pub mod Readable
 pub mod Rows
+pub mod LookUp
 pub mod Demands

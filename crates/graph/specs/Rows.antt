@@ -1,52 +1,72 @@
--- The rows of a node that the code answers on any words: the values that one walk along its keys finds; 0 where 6 or 7 refuses the schedule,
--- the net's sizes are out of range, or there is no such node. On readable words these are the node's counts and arcs (proofs/Rows).
+-- The rows of a node that the code answers on any words: what one walk along its keys finds; 0 where 6 or 7 refuses the schedule, the net's sizes
+-- are out of range, or there is no such node. On readable words these are the node's marking and the entries of its arcs and counts (Demands, `RowsRight`).
 use Prim.Native.Nat.{ℕ, zero, suc, _+_, _*_, _≤_, _<_}
+use mathlib.Core.Path.{_≡_}
 use mathlib.Core.List.{List}
 use mathlib.Core.Bool.{Bool, cond, not, _&&_}
-use lib.ListN.{replicate}
+use mathlib.Core.Option.{Option, none}
+use lib.ListN.{length, getD, replicate}
 use lib.Dec.{ltb, leb}
-use Rattle.scan.specs.Scan.{found, tabulate, foundOr}
-use Rattle.table.specs.Row.{rowEntry}
-use Rattle.refusal.specs.Limits.{mostPlaces, mostTransitions}
+use Rattle.scan.specs.Scan.{found}
+use Rattle.table.specs.Bisection.{lowerBound}
+use Rattle.table.specs.Row.{entryCode, entryRow, valueRow}
+use Rattle.refusal.specs.Limits.{mostPlaces, mostTransitions, mostNodes, mostEntries}
 use Rattle.net.specs.Net.{placeCount, transitionCount}
 use Rattle.sequential.specs.Petri.{PetriNet}
-use Rattle.sequential.specs.Words.{nodeCount, entryCount, entryValue, arc}
+use Rattle.sequential.specs.Words.{nodeCount, entryCount, entryValue, entryWithKey, arcKeys, arcEntry}
 use Rattle.sequential.specs.Check.{shapeFault}
-use Rattle.sequential.specs.Known.{ShapePasses}
 
--- an arc as a number: 1 plus the target, or 0
-unfoldable pub arcCode : PetriNet → List ℕ → ℕ → ℕ → ℕ
-arcCode N sheet n t = foundOr 0 (λ m. m + 1) (arc N sheet n t)
+-- ---- entries as numbers, 1 plus the index, and 0 where there is none
 
--- the value of an entry that is told as 1 plus its index
+module _ (N : PetriNet) (sheet : List ℕ) (n : ℕ) where
+  -- the entry of what place p holds at node n: §3.6
+  unfoldable pub countEntry : ℕ → Option ℕ
+  countEntry p = cond (ltb n (nodeCount sheet) && ltb p (N .places)) (entryWithKey sheet (arcKeys N sheet + n * N .places + p)) none
+
+  unfoldable pub arcEntryCode : ℕ → ℕ
+  arcEntryCode t = entryCode (arcEntry N sheet n t)
+
+  unfoldable pub countEntryCode : ℕ → ℕ
+  countEntryCode p = entryCode (countEntry p)
+
+-- the value of an entry that is told so
 unfoldable pub valueTold : List ℕ → ℕ → ℕ
 valueTold sheet zero = 0
 valueTold sheet (suc i) = entryValue sheet i
 
--- 1 plus the node that it leads to
-unfoldable pub arcTold : List ℕ → ℕ → ℕ
-arcTold sheet zero = 0
-arcTold sheet (suc i) = cond (ltb (entryValue sheet i) (nodeCount sheet)) (entryValue sheet i + 1) 0
+-- ---- rows
+
+-- the first key of node n's arcs: §3.5
+unfoldable pub arcsStart : List ℕ → ℕ → ℕ
+arcsStart net n = n * transitionCount net
 
 module _ (net sheet : List ℕ) (n : ℕ) where
-  unfoldable pub countInRow : ℕ → ℕ
-  countInRow p = valueTold sheet (rowEntry sheet 2 (entryCount sheet) (nodeCount sheet * transitionCount net + n * placeCount net) (placeCount net) p)
-
-  unfoldable pub arcInRow : ℕ → ℕ
-  arcInRow t = arcTold sheet (rowEntry sheet 2 (entryCount sheet) (n * transitionCount net) (transitionCount net) t)
+  -- the first key of its counts: §3.6
+  unfoldable pub countsStart : ℕ
+  countsStart = nodeCount sheet * transitionCount net + n * placeCount net
 
   -- the sizes are in range and n is a node
   unfoldable pub hasRow : Bool
   hasRow = leb (placeCount net) mostPlaces && (leb (transitionCount net) mostTransitions && (not (found (shapeFault sheet)) && ltb n (nodeCount sheet)))
 
+  -- the same, as the code reads the words
   pub record HasRow : Type 0 where
     pub few-places : placeCount net ≤ mostPlaces
     pub few-transitions : transitionCount net ≤ mostTransitions
-    pub shape : ShapePasses sheet
-    pub node : n < nodeCount sheet
+    pub few-nodes : getD sheet 0 0 ≤ mostNodes
+    pub few-entries : getD sheet 1 0 ≤ mostEntries
+    pub long : length sheet ≡ 2 + 2 * getD sheet 1 0
+    pub node : n < getD sheet 0 0
 
   unfoldable pub markingRow : List ℕ
-  markingRow = cond hasRow (tabulate countInRow mostPlaces) (replicate mostPlaces 0)
+  markingRow = cond hasRow (valueRow sheet 2 (entryCount sheet) countsStart (placeCount net)) (replicate mostPlaces 0)
 
-  unfoldable pub arcRow : List ℕ
-  arcRow = cond hasRow (tabulate arcInRow mostTransitions) (replicate mostTransitions 0)
+  unfoldable pub arcEntryRow : List ℕ
+  arcEntryRow = cond hasRow (entryRow sheet 2 (entryCount sheet) (arcsStart net n) (transitionCount net)) (replicate mostTransitions 0)
+
+  unfoldable pub countEntryRow : List ℕ
+  countEntryRow = cond hasRow (entryRow sheet 2 (entryCount sheet) countsStart (placeCount net)) (replicate mostPlaces 0)
+
+-- how many entries have a key before those of counts: on keys that rise, the arcs
+unfoldable pub arcCountReply : List ℕ → List ℕ → ℕ
+arcCountReply net sheet = cond (hasRow net sheet 0) (lowerBound sheet 2 (entryCount sheet) (countsStart net sheet 0)) 0

@@ -1,14 +1,15 @@
 // Refusals 6 to 9: the words of a schedule, in the order of §7.56.
 ghost use mathlib.Core.Path.{_≡_};
-ghost use mathlib.Core.Option.{none};
 ghost use Prim.Native.Nat.{_<_};
+ghost use Rattle.scan.specs.Scan.{first};
 ghost use Rattle.refusal.specs.Verdict.{verdictOf};
 ghost use Rattle.net.specs.Check.{netReply};
 ghost use Rattle.refusal.specs.declared.Verdict.the-variants.{Accepted};
 ghost use Rattle.sequential.specs.Petri.{petriNet};
 ghost use Rattle.sequential.specs.Words.{entryCount};
-ghost use Rattle.sequential.specs.Check.{sizesPass, shapeFault, valueFails, entryFault, wordsFault};
-ghost use Rattle.table.specs.Keys.{keyFails};
+ghost use Rattle.sequential.specs.Check.{sizesPass, shapeFault, entryFault};
+ghost use Rattle.sequential.specs.Known.{ShapePasses};
+ghost use Rattle.graph.specs.Readable.{valueTest, faultBy};
 use refusal::Limits;
 use refusal::Position;
 use refusal::Refusal;
@@ -44,32 +45,19 @@ pub(crate) fn shape_fault(sheet: &[u32]) -> Verdict
     Verdict::Accepted
 }
 
-// Whether the key of entry i breaks §3.4.
-fn key_fails(sheet: &[u32], limit: u32, i: usize) -> bool
-    requires { ⌜ shapeFault (now sheet) ≡ none ⌝ }
+// Whether the value of entry i breaks §3.5, or, where counts are asked, §3.6.
+fn value_fails(sheet: &[u32], arcs: u32, counts: bool, i: usize) -> bool
+    requires { ⌜ ShapePasses (now sheet) ⌝ }
     requires { ⌜ i < entryCount (now sheet) ⌝ }
-    ensures { λ r. ⌜ r ≡ keyFails (now (sheet .entry)) 2 limit i ⌝ }
-{
-    let key = sheet[2 + i];
-    if limit <= key {
-        return true;
-    }
-    if i == 0 {
-        return false;
-    }
-    key <= sheet[1 + i]
-}
-
-// Whether the value of entry i breaks §3.5 or §3.6.
-fn value_fails(sheet: &[u32], arcs: u32, i: usize) -> bool
-    requires { ⌜ shapeFault (now sheet) ≡ none ⌝ }
-    requires { ⌜ i < entryCount (now sheet) ⌝ }
-    ensures { λ r. ⌜ r ≡ valueFails (now (sheet .entry)) arcs i ⌝ }
+    ensures { λ r. ⌜ r ≡ valueTest counts (now (sheet .entry)) arcs i ⌝ }
 {
     let entries = sheet[1] as usize;
     let value = sheet[2 + entries + i];
     if sheet[2 + i] < arcs {
         return sheet[0] <= value;
+    }
+    if !counts {
+        return false;
     }
     if value == 0 {
         return true;
@@ -78,24 +66,41 @@ fn value_fails(sheet: &[u32], arcs: u32, i: usize) -> bool
 }
 
 // Refusals 8 and 9 at entry i.
-fn entry_fault(sheet: &[u32], arcs: u32, limit: u32, i: usize) -> Verdict
-    requires { ⌜ shapeFault (now sheet) ≡ none ⌝ }
+fn entry_fault(sheet: &[u32], arcs: u32, limit: u32, counts: bool, i: usize) -> Verdict
+    requires { ⌜ ShapePasses (now sheet) ⌝ }
     requires { ⌜ i < entryCount (now sheet) ⌝ }
-    ensures { λ r. ⌜ r ≡ verdictOf (entryFault (now (sheet .entry)) arcs limit i) ⌝ }
+    ensures { λ r. ⌜ r ≡ verdictOf (entryFault (now (sheet .entry)) limit (valueTest counts (now (sheet .entry)) arcs) i) ⌝ }
 {
-    if key_fails(sheet, limit, i) {
+    if table::key_fails(sheet, 2, limit, i) {
         return refusal::refuse(Refusal::SCHEDULE_ORDER, Position::Entry(i));
     }
-    if value_fails(sheet, arcs, i) {
+    if value_fails(sheet, arcs, counts, i) {
         return refusal::refuse(Refusal::SCHEDULE_VALUE, Position::Entry(i));
     }
     Verdict::Accepted
 }
 
-// Refusals 6 to 9.
-pub(crate) fn words_fault(net: &[u32], sheet: &[u32]) -> Verdict
+// Refusals 8 and 9, entry by entry.
+fn entries_fault(sheet: &[u32], arcs: u32, limit: u32, counts: bool) -> Verdict
+    requires { ⌜ ShapePasses (now sheet) ⌝ }
+    ensures { λ r. ⌜ r ≡ verdictOf (first (entryFault (now (sheet .entry)) limit (valueTest counts (now (sheet .entry)) arcs)) (entryCount (now (sheet .entry)))) ⌝ }
+{
+    let entries = sheet[1] as usize;
+    let mut i = 0;
+    while i < entries {
+        let found = entry_fault(sheet, arcs, limit, counts, i);
+        if let Verdict::Refused(_) = found {
+            return found;
+        }
+        i += 1;
+    }
+    Verdict::Accepted
+}
+
+// Refusals 6 to 9, 9 of counts too or of arcs alone.
+pub(crate) fn words_fault(net: &[u32], sheet: &[u32], counts: bool) -> Verdict
     requires { ⌜ netReply (now net) ≡ Accepted ⌝ }
-    ensures { λ r. ⌜ r ≡ verdictOf (wordsFault (petriNet (now (net .entry))) (now (sheet .entry))) ⌝ }
+    ensures { λ r. ⌜ r ≡ verdictOf (faultBy counts (petriNet (now (net .entry))) (now (sheet .entry))) ⌝ }
 {
     let shape = shape_fault(sheet);
     if let Verdict::Refused(_) = shape {
@@ -105,14 +110,5 @@ pub(crate) fn words_fault(net: &[u32], sheet: &[u32]) -> Verdict
     let transitions = net::transitions(net);
     let arcs = nodes * transitions;
     let limit = nodes * (transitions + net::places(net));
-    let entries = sheet[1] as usize;
-    let mut i = 0;
-    while i < entries {
-        let found = entry_fault(sheet, arcs, limit, i);
-        if let Verdict::Refused(_) = found {
-            return found;
-        }
-        i += 1;
-    }
-    Verdict::Accepted
+    entries_fault(sheet, arcs, limit, counts)
 }

@@ -1,15 +1,14 @@
--- An accepted schedule is readable, and the numbers that go with its verdict.
-use Prim.Native.Nat.{ℕ, _≤_}
+-- An accepted schedule is readable; 1 to 17 one after the other, and the await nodes of what is accepted.
+use Prim.Native.Nat.{ℕ}
 use native.Mathlib.Omega.{arith}
-use mathlib.Core.Path.{_≡_, refl, sym, _∙_}
+use mathlib.Core.Path.{_≡_, refl, sym, ap, _∙_}
 use mathlib.Core.List.{List}
+use mathlib.Core.Bool.{Bool, true, false}
 use mathlib.Core.Option.{Option, none, some}
-use borrow.Author.Tests.{lt-ltb, le-ltb}
-use Rattle.scan.specs.Scan.{orElse}
-use Rattle.scan.proofs.Count.{count-prefix}
-use Rattle.scan.proofs.First.{orElse-left}
-use Rattle.table.specs.Bisection.{lowerBound}
-use Rattle.table.proofs.Bisection.{lower-bound}
+use lib.Dec.{ltb}
+use Rattle.scan.specs.Scan.{orElse, first, bit, count}
+use Rattle.scan.proofs.Count.{count-ext}
+use Rattle.scan.proofs.First.{orElse-left, orElse-right, orElse-assoc}
 use Rattle.refusal.proofs.Verdicts.{answer-none, verdict-next, then-next, then-accepted}
 use Rattle.refusal.specs.Verdict.{verdictOf, andThen}
 use Rattle.net.specs.Check.{netReply}
@@ -17,11 +16,19 @@ use Rattle.refusal.specs.declared.Refusal.{Refusal}
 use Rattle.refusal.specs.declared.Verdict.{Verdict}
 use Rattle.refusal.specs.declared.Verdict.the-variants.{Accepted, Refused}
 use Rattle.sequential.specs.Petri.{PetriNet, petriNet}
-use Rattle.sequential.specs.Words.{entryCount, entryKey, arcKeys, isArc}
-use Rattle.sequential.specs.Check.{arcCount, wordsFault, graphFault, scheduleFault, scheduleReply}
-use Rattle.sequential.specs.Known.{WordsHold}
+use Rattle.sequential.specs.Words.{nodeCount, entryCount, graph}
+use Rattle.sequential.specs.Tests.{isAwait}
+use Rattle.sequential.specs.Check.{startFault, nodeFault, rootFault, arcFault, reachFault, returnFault, awaitCount, wordsFault, graphFault, scheduleFault, scheduleReply}
+use Rattle.sequential.proofs.Words.{words-out}
+use Rattle.sequential.proofs.Faults.{graph-fault}
 use Rattle.graph.specs.Readable.{wordsReply, Readable}
-use Rattle.sequential.proofs.Words.{words-rise, words-fit}
+use Rattle.graph.proofs.Readable.{readable, reply-readable}
+use Rattle.choice.specs.Nodes.{nodesReply}
+use Rattle.choice.specs.declared.NodesAnswer.{NodesAnswer}
+use Rattle.choice.proofs.Right.{verdict-right, awaits-right}
+use Rattle.reach.specs.Reach.{isMarked, AwaitMarks, pathsReply}
+use Rattle.reach.proofs.Demands.{paths-right}
+use Rattle.judge.specs.Answer.{Judged}
 
 then-left : (v : Verdict) (a b : Option Refusal) (r : Refusal) → andThen v (verdictOf a) ≡ Refused r → andThen v (verdictOf a) ≡ andThen v (verdictOf (orElse a b))
 unfolding orElse
@@ -33,7 +40,7 @@ pub accepted-readable : (net sheet : List ℕ) → scheduleReply net sheet ≡ A
 unfolding scheduleReply scheduleFault
 accepted-readable net sheet h =
     let (a, b) = then-accepted _ _ h in
-    record { accepted = a; passes = orElse-left _ _ (answer-none _ b) }
+    readable a (words-out (petriNet net) sheet (orElse-left _ _ (answer-none _ b)))
 
 -- a refusal of the words is the schedule's; readable words leave it to the graph
 pub words-refused : (net sheet : List ℕ) (r : Refusal) → wordsReply net sheet ≡ Refused r → wordsReply net sheet ≡ scheduleReply net sheet
@@ -47,13 +54,64 @@ words-accepted net sheet h =
     let (a, b) = then-accepted (netReply net) (verdictOf faults) h in
     then-next (netReply net) (verdictOf (orElse faults (graphFault (petriNet net) sheet))) a ∙ verdict-next faults (graphFault (petriNet net) sheet) b
 
--- the arcs' keys come first, so bisection for the first key of a count counts them
-pub arc-count-is : (N : PetriNet) (sheet : List ℕ) → WordsHold N sheet → lowerBound sheet 2 (entryCount sheet) (arcKeys N sheet) ≡ arcCount N sheet
-unfolding arcCount isArc entryKey
-arc-count-is N sheet w =
-    let b = lower-bound sheet 2 (entryCount sheet) (arcKeys N sheet) (words-rise N sheet w) (words-fit N sheet w) in
-    sym (count-prefix (isArc N sheet) (entryCount sheet) (lowerBound sheet 2 (entryCount sheet) (arcKeys N sheet)) (b .within)
-    (λ i l. lt-ltb _ _ (b .below i l)) (λ i l m. le-ltb _ _ (b .above i l m)))
+-- ---- 10 to 17, one after the other
 
-pub arc-count-low : (N : PetriNet) (sheet : List ℕ) → WordsHold N sheet → lowerBound sheet 2 (entryCount sheet) (arcKeys N sheet) ≤ entryCount sheet
-arc-count-low N sheet w = lower-bound sheet 2 (entryCount sheet) (arcKeys N sheet) (words-rise N sheet w) (words-fit N sheet w) .within
+-- what comes after checks that refuse nothing
+pub answer-next : (a b : Option Refusal) {v w : Verdict} → v ≡ verdictOf a → v ≡ Accepted → w ≡ verdictOf b → w ≡ verdictOf (orElse a b)
+answer-next a b e h f = f ∙ sym (verdict-next a b (sym e ∙ h))
+
+module _ (N : PetriNet) (sheet : List ℕ) where
+  -- 11 to 13 as one
+  pub graph-chain : graphFault N sheet
+      ≡ orElse (first (startFault N sheet) (N .places)) (orElse (orElse (first (nodeFault N sheet) (nodeCount sheet)) (rootFault N sheet))
+      (orElse (first (arcFault N sheet) (entryCount sheet)) (orElse (first (reachFault N sheet) (nodeCount sheet)) (first (returnFault N sheet) (nodeCount sheet)))))
+  graph-chain = graph-fault N sheet ∙ ap (orElse (first (startFault N sheet) (N .places))) (sym (orElse-assoc _ _ _))
+
+  pub chain-nodes : graphFault N sheet ≡ none → orElse (first (nodeFault N sheet) (nodeCount sheet)) (rootFault N sheet) ≡ none
+  chain-nodes h = orElse-left _ _ (orElse-right _ _ (sym graph-chain ∙ h))
+
+-- ---- the await nodes
+
+bit-mark : (b : Bool) → ltb 0 (bit b) ≡ b
+unfolding bit
+bit-mark true = refl
+bit-mark false = refl
+
+-- what is found at the nodes, and the marks that come where nothing is
+module _ {net sheet : List ℕ} (r : Readable net sheet) {nodes : NodesAnswer} (told : nodes ≡ nodesReply net sheet) where
+  abbrev N : PetriNet
+  N = petriNet net
+
+  pub nodes-told : nodes .verdict ≡ verdictOf (orElse (first (nodeFault N sheet) (nodeCount sheet)) (rootFault N sheet))
+  nodes-told = rw told (verdict-right net sheet (r .arcs))
+
+  await-marks : nodes .verdict ≡ Accepted → AwaitMarks N sheet (nodes .awaits)
+  unfolding isMarked
+  await-marks h n l = rw told (ap (ltb 0) (awaits-right net sheet (r .arcs) (rw told at h) n l) ∙ bit-mark (isAwait N (graph N sheet) n))
+
+  -- 16 and 17 by these marks
+  pub paths-told : nodes .verdict ≡ Accepted → {v : Verdict} → v ≡ pathsReply net sheet (nodes .awaits)
+      → v ≡ verdictOf (orElse (first (reachFault N sheet) (nodeCount sheet)) (first (returnFault N sheet) (nodeCount sheet)))
+  paths-told h e = e ∙ paths-right net sheet (r .arcs) .faults (nodes .awaits) (await-marks h)
+
+  -- where the whole graph passes, the marks are those of the await nodes
+  graph-marks : verdictOf (graphFault N sheet) ≡ Accepted → AwaitMarks N sheet (nodes .awaits)
+  graph-marks h = await-marks (nodes-told ∙ ap verdictOf (chain-nodes N sheet (answer-none _ h)))
+
+-- ---- both as one
+
+module _ {net sheet : List ℕ} where
+  pub judged-words : (r : Refusal) {v : Verdict} {marks : List ℕ} → v ≡ wordsReply net sheet → v ≡ Refused r → Judged net sheet (record { verdict = v; awaits = marks })
+  judged-words r e h =
+      let q = words-refused net sheet r (sym e ∙ h) in
+      record { reply = e ∙ q; marks = λ a. absurd (let z : _≡_ {A = ℕ} 0 1 = cc in omega arith) }
+
+  pub judged-graph : wordsReply net sheet ≡ Accepted → {v : Verdict} {nodes : NodesAnswer} → nodes ≡ nodesReply net sheet → v ≡ verdictOf (graphFault (petriNet net) sheet)
+      → Judged net sheet (record { verdict = v; awaits = nodes .awaits })
+  judged-graph w told e =
+      let q = words-accepted net sheet w in
+      record { reply = e ∙ sym q; marks = λ a. graph-marks (reply-readable net sheet w) told (sym q ∙ a) }
+
+pub await-count-is : (N : PetriNet) (sheet marks : List ℕ) → AwaitMarks N sheet marks → count (isMarked marks) (nodeCount sheet) ≡ awaitCount N sheet
+unfolding awaitCount
+await-count-is N sheet marks h = count-ext (isMarked marks) (isAwait N (graph N sheet)) (nodeCount sheet) h

@@ -1,12 +1,15 @@
 -- What the schedule check answers: §10.3.
 use Prim.Native.Nat.{ℕ}
+use mathlib.Core.Path.{_≡_}
 use mathlib.Core.List.{List, [], _∷_}
 use Rattle.refusal.specs.Refusal.{told}
 use Rattle.refusal.specs.declared.Verdict.{Verdict}
 use Rattle.refusal.specs.declared.Verdict.the-variants.{Accepted, Refused}
 use Rattle.sequential.specs.Petri.{petriNet}
 use Rattle.sequential.specs.Words.{nodeCount}
-use Rattle.sequential.specs.Check.{arcCount, awaitCount}
+use Rattle.sequential.specs.Check.{arcCount, awaitCount, scheduleReply}
+use Rattle.choice.specs.declared.NodesAnswer.{NodesAnswer}
+use Rattle.reach.specs.Reach.{AwaitMarks}
 use Rattle.judge.specs.declared.Counts.{Counts}
 use Rattle.judge.specs.declared.CheckAnswer.{CheckAnswer}
 use Rattle.judge.specs.declared.CheckAnswer.the-variants.{Passed, Failed}
@@ -22,3 +25,9 @@ checkAnswer (Refused r) numbers = Failed r
 abbrev pub plainCheck : CheckAnswer → List ℕ
 plainCheck (Passed c) = 0 ∷ 0 ∷ 0 ∷ c .nodes ∷ c .arcs ∷ c .awaits ∷ []
 plainCheck (Failed r) = told r 3
+
+-- ---- what both functions stand on: the verdict, and marks at the await nodes of what is accepted
+
+pub record Judged (net sheet : List ℕ) (answer : NodesAnswer) : Type 0 where
+  pub reply : answer .verdict ≡ scheduleReply net sheet
+  pub marks : scheduleReply net sheet ≡ Accepted → AwaitMarks (petriNet net) sheet (answer .awaits)

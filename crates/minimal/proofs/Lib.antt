@@ -1,11 +1,3 @@
-pub mod Lists
-pub mod Gather
-pub mod Encoding
-pub mod Entries
-pub mod Encoded
-pub mod Reading
-pub mod Decoded
-pub mod Recoded
 pub mod Length
 pub mod Schedule
 pub mod Minimal

@@ -21,11 +21,11 @@ use Rattle.sequential.specs.Known.{WordsHold}
 use Rattle.refusal.specs.declared.Verdict.the-variants as verdict
 use Rattle.sequential.specs.Check.{scheduleReply}
 use Rattle.sequential.proofs.Accepted.{accepted-exactly, accepts, some-transition}
-use Rattle.minimal.specs.Encoding.{held, encode, Encodable}
+use Rattle.encoding.specs.Encoding.{held, encode, Encodable}
 use Rattle.minimal.specs.Minimal.{minimalForm, QuotientForm, Fewest}
-use Rattle.minimal.proofs.Encoded.{encoded-length, encoded-entries, encoded-passes}
-use Rattle.minimal.proofs.Decoded.{decode-encode}
-use Rattle.minimal.proofs.Recoded.{encode-decode, decoded-encodable}
+use Rattle.encoding.proofs.Encoded.{encoded-length, encoded-entries, encoded-passes}
+use Rattle.encoding.proofs.Decoded.{decode-encode}
+use Rattle.encoding.proofs.Recoded.{encode-decode, decoded-encodable}
 use Rattle.minimal.proofs.Length.{minimal-keys}
 use Rattle.minimal.proofs.Schedule.{schedule-fires, quotient-schedule}
 
@@ -110,10 +110,10 @@ module _ (net sheet : List ℕ) (h : Accepted net sheet) where
   form-length = encoded-length N (minimal A)
 
   pub form-no-longer : length (minimalForm net sheet) ≤ length sheet
-  form-no-longer = omega (arith, form-length, form-entries, accepts net sheet h .words .shape .whole)
+  form-no-longer = omega (arith, form-length, form-entries, accepts net sheet h .words .arcs .shape .whole)
 
   pub form-short : length (minimalForm net sheet) ≤ 8194
-  form-short = omega (arith, form-length, form-entries, accepts net sheet h .words .shape .few-entries)
+  form-short = omega (arith, form-length, form-entries, accepts net sheet h .words .arcs .shape .few-entries)
 
   -- ---- its graph
 
@@ -131,7 +131,7 @@ module _ (net sheet : List ℕ) (h : Accepted net sheet) where
       let E = decoded-encodable N form (some-transition net sheet h) some-place w in
       sym (encode-decode N form (some-transition net sheet h) some-place w)
       ∙ ap (encode N) (quotient-unique (fire N) A accepted-closed accepted-fires (graph N form) (q .number) (q .quotient) (q .breadthFirst)
-      (E .confined) (E .closed .bounded) (unfold graph in refl))
+      (E .confined) (E .closed .bounded) (refl))
 
   pub form-twice : minimalForm net (minimalForm net sheet) ≡ minimalForm net sheet
   unfolding minimalForm
@@ -147,7 +147,6 @@ module _ (net x y : List ℕ) (hx : Accepted net x) (hy : Accepted net y) where
   one-start = accepts net x hx .schedule .starts ∙ sym (accepts net y hy .schedule .starts)
 
   one-net : (G x) .transitions ≡ (G y) .transitions
-  unfolding graph
   one-net = refl
 
   automata : (minimal (G x) ≡ minimal (G y)) ↔ SameLists (G x) (G y) 0 0
@@ -169,7 +168,7 @@ module _ (net x y : List ℕ) (hx : Accepted net x) (hy : Accepted net y) where
     renumbered = λ e. (
       number (G y),
       subst (λ (M : Automaton). Renumbering (G y) M (number (G y))) (sym (form-graph net x hx))
-          (fewest-renumbering F (G x) (G y) (accepted-closed net x hx) (accepted-closed net y hy) (accepted-fires net x hx) (accepted-fires net y hy) one-net same (unfold graph in (e ∙ nodes))),
+          (fewest-renumbering F (G x) (G y) (accepted-closed net x hx) (accepted-closed net y hy) (accepted-fires net x hx) (accepted-fires net y hy) one-net same ((e ∙ nodes))),
     );
   }
     where
@@ -180,7 +179,7 @@ module _ (net x y : List ℕ) (hx : Accepted net x) (hy : Accepted net y) where
       same = record { labels = one-start; lists = s }
 
       fewer : (minimal (G x)) .nodes ≤ nodeCount y
-      fewer = unfold graph in (minimal-fewest F (G x) (G y) (accepted-closed net x hx) (accepted-closed net y hy) (accepted-fires net x hx) (accepted-fires net y hy) same)
+      fewer = (minimal-fewest F (G x) (G y) (accepted-closed net x hx) (accepted-closed net y hy) (accepted-fires net x hx) (accepted-fires net y hy) same)
 
       nodes : nodeCount (minimalForm net x) ≡ (minimal (G x)) .nodes
-      nodes = unfold graph in (ap (λ (M : Automaton). M .nodes) (form-graph net x hx))
+      nodes = (ap (λ (M : Automaton). M .nodes) (form-graph net x hx))

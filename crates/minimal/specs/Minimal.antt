@@ -6,7 +6,7 @@ use Rattle.automaton.specs.BreadthFirst.{BreadthFirst}
 use Rattle.automaton.specs.Quotient.{minimal, Quotient, Renumbering}
 use Rattle.sequential.specs.Petri.{PetriNet, petriNet}
 use Rattle.sequential.specs.Words.{nodeCount, graph}
-use Rattle.minimal.specs.Encoding.{encode}
+use Rattle.encoding.specs.Encoding.{encode}
 
 unfoldable pub minimalForm : List ℕ → List ℕ → List ℕ
 minimalForm net sheet = encode (petriNet net) (minimal (graph (petriNet net) sheet))

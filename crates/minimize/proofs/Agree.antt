@@ -163,12 +163,12 @@ module _ {net sheet : List ℕ} (readable : Readable net sheet) where
 
   pub rows : {classes : List ℕ} {counts : Bool} {width a b i j : ℕ} → Row sheet classes counts width a i → Row sheet classes counts width b j
       → Rows sheet classes counts width a b i j
-  rows l r = record { whole = w .shape .whole; rising = words-rise N sheet w; left = l; right = r }
+  rows l r = record { whole = w .arcs .shape .whole; rising = words-rise N sheet (w .arcs); left = l; right = r }
 
   pub laid : {base width : ℕ} → base ≤ 4096 → width ≤ 32 → Laid sheet base width
   laid b l =
-      let h = w .shape in
-      record { whole = h .whole; rising = words-rise N sheet w; few-entries = h .few-entries; few-nodes = h .few-nodes; low = b; narrow = l }
+      let h = w .arcs .shape in
+      record { whole = h .whole; rising = words-rise N sheet (w .arcs); few-entries = h .few-entries; few-nodes = h .few-nodes; low = b; narrow = l }
 
   -- ---- arcs, with T as the code reads it
 
@@ -200,7 +200,7 @@ module _ {net sheet : List ℕ} (readable : Readable net sheet) where
 
     pub arcs-walked : (classes : List ℕ) {n m : ℕ} → n < nodeCount sheet → m < nodeCount sheet
         → all (keysAgree sheet (valuesAgree classes false) (n * T) (m * T)) T ≡ all (agree (graph N sheet) (sameClass (classIn classes)) n m) (N .transitions)
-    unfolding valuesAgree keysAgree agree graph
+    unfolding valuesAgree keysAgree agree
     arcs-walked classes {n} {m} ln lm = rw e (all-ext _ _ (N .transitions) (λ t l. rw (arc-value n ln t l, arc-value m lm t l)))
 
   -- ---- counts, with T and P as the code reads them
@@ -214,7 +214,7 @@ module _ {net sheet : List ℕ} (readable : Readable net sheet) where
         → Row sheet classes true P (nodeCount sheet * T + n * P) i
     unfolding rowStart arcKeys
     count-row {classes} {n} {i} l p = record {
-      low = unfold nodeCount in (count-key-low net sheet readable T e P f n P l (omega arith));
+      low = (count-key-low net sheet readable T e P f n P l (omega arith));
       start = rw (e, f) p;
       valued = λ t k m h. record { within = has-within sheet k _ h; target = λ z. true-false true refl z };
     }
@@ -231,7 +231,7 @@ module _ {net sheet : List ℕ} (readable : Readable net sheet) where
 
     pub counts-walked : (classes : List ℕ) {n m : ℕ} → n < nodeCount sheet → m < nodeCount sheet
         → all (keysAgree sheet (valuesAgree classes true) (nodeCount sheet * T + n * P) (nodeCount sheet * T + m * P)) P ≡ sameIn (graph N sheet) 0 n m
-    unfolding valuesAgree sameIn graph keysAgree keyValue
+    unfolding valuesAgree sameIn keysAgree keyValue
     counts-walked classes {n} {m} ln lm =
         rw (e, f) (all-ext _ (λ p. eqb (count N sheet n p) (count N sheet m p)) (N .places) (λ p l. sym (rw (count-value n p ln l, count-value m p lm l)
         (unfold arcKeys in (value-test sheet _ _ (λ i z. count-some (nodeCount sheet * N .transitions + n * N .places + p) i (unfold arcKeys in (omega arith)) z)

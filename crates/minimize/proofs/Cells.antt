@@ -33,13 +33,13 @@ use Rattle.sequential.specs.Known.{WordsHold}
 use Rattle.sequential.proofs.Words.{words-rise, words-fit}
 use Rattle.sequential.proofs.Entries.{graph-closed, marking-at}
 use Rattle.graph.specs.Rows.{valueTold}
-use Rattle.judge.specs.Rows.{present}
+use Rattle.choice.specs.Rows.{present}
 use Rattle.graph.specs.Readable.{Readable}
 use Rattle.graph.proofs.Readable.{known, words}
 use Rattle.graph.proofs.Rows.{count-told, arc-of-told}
-use Rattle.minimal.specs.Encoding.{gather, keyOfArc, held, keyOfCount, valueOfCount}
-use Rattle.minimal.proofs.Encoding.{found-when}
-use Rattle.minimal.proofs.Gather.{finds, gather-length}
+use Rattle.encoding.specs.Encoding.{gather, keyOfArc, held, keyOfCount, valueOfCount}
+use Rattle.encoding.proofs.Encoding.{found-when}
+use Rattle.encoding.proofs.Gather.{finds, gather-length}
 use Rattle.minimize.specs.Tables.{Numbered}
 use Rattle.minimize.specs.Sections.{widthOf, cellOf, toldRow, firstKey, wordOf, toldCell, Told}
 use Rattle.minimize.proofs.Gathered.{gather-ext}
@@ -71,18 +71,18 @@ module _ (sheet numbers : List ℕ) (counts values : Bool) (first : ℕ) (told :
 module _ (N : PetriNet) (sheet : List ℕ) (w : WordsHold N sheet) (n : ℕ) (l : n < nodeCount sheet) where
   node-arc : (t : ℕ) → t < 32 → arc N sheet n t ≡ when (ltb 0 (getD (toldRow N sheet false n) t 0)) (valueTold sheet (getD (toldRow N sheet false n) t 0))
   unfolding toldRow widthOf
-  node-arc t h = arc-of-told N sheet w n l t h
+  node-arc t h = arc-of-told N sheet (w .arcs) n l t h
 
   count-of-told : (p : ℕ) → p < 32 → words-of.count N sheet n p ≡ valueTold sheet (getD (toldRow N sheet true n) p 0)
   unfolding toldRow widthOf
-  count-of-told p h = sym (count-told N sheet w n l p h)
+  count-of-told p h = sym (count-told N sheet (w .arcs) n l p h)
 
   -- the entry of a count has a value above 0
   count-some : (p : ℕ) → p < 32 → p < N .places → 0 < getD (toldRow N sheet true n) p 0 → 0 < valueTold sheet (getD (toldRow N sheet true n) p 0)
   unfolding toldRow widthOf
   count-some p h m z =
       go (entryOf sheet 2 (entryCount sheet) (arcKeys N sheet + n * N .places + p)) refl
-      (row-entry sheet 2 (entryCount sheet) (arcKeys N sheet + n * N .places) (N .places) (words-rise N sheet w) (words-fit N sheet w) p h m) z
+      (row-entry sheet 2 (entryCount sheet) (arcKeys N sheet + n * N .places) (N .places) (words-rise N sheet (w .arcs)) (words-fit N sheet (w .arcs)) p h m) z
     where
       go : (o : Option ℕ) → entryOf sheet 2 (entryCount sheet) (arcKeys N sheet + n * N .places + p) ≡ o → {x : ℕ}
           → x ≡ entryCode (entryOf sheet 2 (entryCount sheet) (arcKeys N sheet + n * N .places + p)) → 0 < x → 0 < valueTold sheet x
@@ -112,24 +112,21 @@ module _ (net sheet reps numbers : List ℕ) (rows : ℕ) (r : Readable net shee
   W = words net sheet r
 
   closed : Closed A
-  closed = graph-closed N sheet (known net sheet r .some-transition) W
+  closed = graph-closed N sheet (known net sheet r .some-transition) (W .arcs)
 
   pub new-nodes : minimal (graph (petriNet net) sheet) .nodes ≡ rows
   new-nodes = minimal-nodes A ∙ sym (h .size)
 
   pub few-rows : rows ≤ nodeCount sheet
-  unfolding graph
   few-rows = omega (arith, h .size, order-short (same A) A closed (same-equivalence A .reflexive))
 
   pub rows-most : rows ≤ 128
-  unfolding nodeCount
   rows-most = omega (arith, few-rows, known net sheet r .few-nodes)
 
   represents : (i : ℕ) → i < rows → node i ≡ representative A i
   represents i l = sym (getD-take rows reps i 0 l) ∙ ap (λ (xs : List ℕ). getD xs i 0) (h .represent)
 
   pub node-low : (i : ℕ) → i < rows → getD reps i 0 < nodeCount sheet
-  unfolding graph
   node-low i l = rw (represents i l) (order-explored (same A) A closed (same-equivalence A .reflexive) .node i (rw (h .size) at l))
 
   abbrev toldAt : Bool → ℕ → ℕ → ℕ
@@ -138,14 +135,12 @@ module _ (net sheet reps numbers : List ℕ) (rows : ℕ) (r : Readable net shee
   -- ---- arcs
 
   arc-row : (i t : ℕ) → i < rows → t < 32 → A .arc (representative A i) t ≡ when (ltb 0 (toldAt false i t)) (valueTold sheet (toldAt false i t))
-  unfolding graph
   arc-row i t l m = rw (← represents i l) (node-arc N sheet W (node i) (node-low i l) t m)
 
   target : (i t : ℕ) → i < rows → t < 32 → 0 < toldAt false i t → A .arc (representative A i) t ≡ some (valueTold sheet (toldAt false i t))
   target i t l m z = arc-row i t l m ∙ when-hit _ _ (lt-ltb _ _ z)
 
   target-low : (i t : ℕ) → i < rows → t < 32 → 0 < toldAt false i t → valueTold sheet (toldAt false i t) < nodeCount sheet
-  unfolding graph
   target-low i t l m z = closed .lands (representative A i) t _ (rw (← represents i l) (node-low i l)) (target i t l m z)
 
   target-met : (i t : ℕ) → i < rows → t < 32 → 0 < toldAt false i t → number A (valueTold sheet (toldAt false i t)) < rows
@@ -157,7 +152,7 @@ module _ (net sheet reps numbers : List ℕ) (rows : ℕ) (r : Readable net shee
   target-number : (i t : ℕ) → i < rows → t < 32 → 0 < toldAt false i t
       → number A (valueTold sheet (toldAt false i t)) ≡ getD numbers (valueTold sheet (toldAt false i t)) 0
   target-number i t l m z =
-      let low : valueTold sheet (toldAt false i t) < A .nodes = unfold graph in (target-low i t l m z) in
+      let low : valueTold sheet (toldAt false i t) < A .nodes = (target-low i t l m z) in
       sym (h .number (valueTold sheet (toldAt false i t)) low (target-met i t l m z))
 
   new-arc : (i t : ℕ) → i < rows → t < 32 → minimal A .arc i t ≡ when (ltb 0 (toldAt false i t)) (getD numbers (valueTold sheet (toldAt false i t)) 0)
@@ -174,7 +169,7 @@ module _ (net sheet reps numbers : List ℕ) (rows : ℕ) (r : Readable net shee
   -- ---- counts
 
   new-held : (i p : ℕ) → i < rows → p < N .places → held N (minimal A) i p ≡ valueTold sheet (toldAt true i p)
-  unfolding held graph
+  unfolding held
   new-held i p l m =
       ap (λ (xs : List ℕ). getD xs p 0) (minimal-label A i (rw new-nodes l)) ∙ rw (← represents i l) (marking-at N sheet (node i) p (node-low i l) m
       ∙ count-of-told N sheet W (node i) (node-low i l) p (omega (arith, known net sheet r .few-places)))
@@ -233,7 +228,7 @@ module _ (net sheet reps numbers : List ℕ) (rows : ℕ) (r : Readable net shee
   pub row-told : (counts : Bool) (i : ℕ) → i < rows → (c : ℕ) → c < 32 → Told sheet counts (getD (toldRow N sheet counts (getD reps i 0)) c 0)
   row-told counts i l c m = record {
     entry = told-entry N sheet W (node i) (node-low i l) counts c m;
-    node = λ e z. let b : nodeCount sheet ≤ 128 = unfold nodeCount in (known net sheet r .few-nodes) in omega (arith, low counts e z);
+    node = λ e z. let b : nodeCount sheet ≤ 128 = (known net sheet r .few-nodes) in omega (arith, low counts e z);
   }
     where
       low : (b : Bool) → b ≡ false → 0 < toldAt b i c → valueTold sheet (toldAt b i c) < nodeCount sheet

@@ -6,8 +6,8 @@ use mathlib.Core.Path.{_≡_, refl, ap, _∙_}
 use mathlib.Core.List.{List, [], _∷_, _++_, append-nil}
 use mathlib.Core.Option.{Option, none, some}
 use lib.ListN.{length, set, length-append}
-use Rattle.minimal.specs.Encoding.{listOf, gather, gatherRows}
-use Rattle.minimal.proofs.Gather.{gather-more, rows-more}
+use Rattle.encoding.specs.Encoding.{listOf, gather, gatherRows}
+use Rattle.encoding.proofs.Gather.{gather-more, rows-more}
 use Rattle.minimize.specs.Sections.{placed}
 use Rattle.minimize.proofs.Placed.{placed-append, placed-one}
 

@@ -15,10 +15,9 @@ use Rattle.graph.proofs.Readable.{known, words}
 
 module _ (net sheet : List ℕ) (r : Readable net sheet) where
   pub closed : Closed (graph (petriNet net) sheet)
-  closed = graph-closed (petriNet net) sheet (known net sheet r .some-transition) (words net sheet r)
+  closed = graph-closed (petriNet net) sheet (known net sheet r .some-transition) (words net sheet r .arcs)
 
   pub node-low : (n : ℕ) → n < nodeCount sheet → n < 128
-  unfolding nodeCount
   node-low n l = omega (arith, l, known net sheet r .few-nodes)
 
   -- T is the number of transitions as the code reads it

@@ -12,13 +12,13 @@ use Rattle.automaton.specs.Automaton.{Automaton}
 use Rattle.automaton.specs.Quotient.{minimal}
 use Rattle.sequential.specs.Petri.{PetriNet, petriNet}
 use Rattle.sequential.specs.Words.{graph}
-use Rattle.judge.specs.Rows.{present}
+use Rattle.choice.specs.Rows.{present}
 use Rattle.graph.specs.Readable.{Readable}
 use Rattle.graph.proofs.Readable.{known}
-use Rattle.minimal.specs.Encoding.{gather, gatherRows, keys, values, encode}
+use Rattle.encoding.specs.Encoding.{gather, gatherRows, keys, values, encode}
 use Rattle.minimal.specs.Minimal.{minimalForm}
-use Rattle.minimal.proofs.Encoded.{encoded-length, encoded-entries}
-use Rattle.minimal.proofs.Gather.{rows-none, rows-more}
+use Rattle.encoding.proofs.Encoded.{encoded-length, encoded-entries}
+use Rattle.encoding.proofs.Gather.{rows-none, rows-more}
 use Rattle.minimize.specs.Tables.{Numbered}
 use Rattle.minimize.specs.Sections.{placed, widthOf, cellOf, partTo, partOf, toldRow, firstKey, toldCell}
 use Rattle.minimize.proofs.Gathered.{row-next, row-words, row-room}

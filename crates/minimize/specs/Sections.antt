@@ -13,7 +13,7 @@ use Rattle.automaton.specs.Automaton.{Automaton}
 use Rattle.sequential.specs.Petri.{PetriNet}
 use Rattle.sequential.specs.Words.{entryCount, arcKeys}
 use Rattle.graph.specs.Rows.{valueTold}
-use Rattle.minimal.specs.Encoding.{gatherRows, keyOfArc, keyOfCount, valueOfCount}
+use Rattle.encoding.specs.Encoding.{gatherRows, keyOfArc, keyOfCount, valueOfCount}
 
 -- words written one after the other from a place on
 unfoldable pub placed : List ℕ → ℕ → List ℕ → List ℕ

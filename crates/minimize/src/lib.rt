@@ -12,7 +12,7 @@ use schedule::Walker;
 pub fn form_into(net: &[u32], sheet: &[u32], out: &mut [u32]) -> FormAnswer
     ensures { λ r. ⌜ FormWritten (now (net .entry)) (now (sheet .entry)) (now (out .entry)) r (now (out .exit)) ⌝ }
 {
-    let found = judge::judge(net, sheet);
+    let found = judge::verdict(net, sheet);
     if let Verdict::Refused(r) = found {
         return FormAnswer::Refused(r);
     }

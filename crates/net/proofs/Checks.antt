@@ -4,22 +4,25 @@ use mathlib.Core.Path.{_≡_, sym, ap, _∙_}
 use mathlib.Core.Logic.{_↔_}
 use mathlib.Core.List.{List}
 use mathlib.Core.Bool.{false, not}
+use mathlib.Core.Option.{none}
 use borrow.Author.Tests.{ltb-false, le-ltb, eqb-true, eq-eqb}
-use Rattle.scan.specs.Scan.{orElse, when}
-use Rattle.scan.proofs.First.{orElse-assoc}
+use Rattle.scan.specs.Scan.{orElse, when, first}
+use Rattle.scan.proofs.First.{orElse-next, orElse-assoc}
 use Rattle.scan.proofs.Tests.{decides-not}
 use Rattle.scan.proofs.Every.{all-in, all-out, any-in, any-out}
 use Rattle.table.proofs.Keys.{key-passes}
 use Rattle.refusal.specs.Refusal.{refusal}
+use Rattle.refusal.specs.Verdict.{verdictOf}
 use Rattle.refusal.specs.Finding.{foundAt, foundBy, lineFinds, finding}
 use Rattle.refusal.specs.declared.Position.the-variants.{Nothing}
 use Rattle.refusal.proofs.Checks.{Decides, Decided, Lawful, finding-tells}
 use Rattle.refusal.proofs.Judges.{Judges, judges-found}
-use Rattle.net.specs.Net.{placeCount, transitionCount, keyLimit, takesNothing, isSource, hasSource}
+use Rattle.net.specs.Net.{placeCount, transitionCount, entryCount, keyLimit, takesNothing, isSource, hasSource}
 use Rattle.net.specs.Checks.{HasSource, netChecks, IsNet}
-use Rattle.net.specs.Check.{shapeFault, entryFault, entriesFault, netTests, netReply}
+use Rattle.net.specs.Check.{shapeFault, entryFault, netTests, netReply}
 use Rattle.net.proofs.Shape.{sizes-out, sizes-in}
-use Rattle.net.proofs.Entries.{EntriesPass, weight-out, weight-in}
+use Rattle.net.specs.Known.{EntriesPass}
+use Rattle.net.proofs.Entries.{weight-out, weight-in}
 
 module _ (net : List ℕ) where
   source-decided : (not (hasSource net) ≡ false) ↔ HasSource net
@@ -50,9 +53,16 @@ module _ (net : List ℕ) where
   net-judged = judges-found _ (netChecks net) (finding-tells Unit (netChecks net) (netTests net) lawful tt)
 
   -- the functions' parts, one after the other
-  pub net-fault : finding (netChecks net) (netTests net) ≡ orElse (entriesFault net) (when (not (hasSource net)) (refusal 5 Nothing))
-  unfolding finding foundBy lineFinds foundAt entriesFault shapeFault entryFault
-  net-fault = sym (orElse-assoc _ _ _ ∙ orElse-assoc _ _ _ ∙ ap (orElse _) (orElse-assoc _ _ _))
+  pub net-fault : finding (netChecks net) (netTests net) ≡ orElse (shapeFault net) (orElse (first (entryFault net) (entryCount net)) (when (not (hasSource net)) (refusal 5 Nothing)))
+  unfolding finding foundBy lineFinds foundAt shapeFault entryFault
+  net-fault = sym (orElse-assoc _ _ _ ∙ ap (orElse _) (orElse-assoc _ _ _))
+
+  pub after-shape : shapeFault net ≡ none → netReply net ≡ verdictOf (orElse (first (entryFault net) (entryCount net)) (when (not (hasSource net)) (refusal 5 Nothing)))
+  unfolding netReply
+  after-shape s = ap verdictOf (net-fault ∙ orElse-next _ _ s)
+
+  pub after-entries : shapeFault net ≡ none → first (entryFault net) (entryCount net) ≡ none → netReply net ≡ verdictOf (when (not (hasSource net)) (refusal 5 Nothing))
+  after-entries s e = after-shape s ∙ ap verdictOf (orElse-next _ _ e)
 
   -- a net is all that passes 1 to 4, with a source
   pub net-entries : IsNet net → EntriesPass net

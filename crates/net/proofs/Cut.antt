@@ -15,7 +15,7 @@ use Rattle.scan.proofs.First.{orElse-hit}
 use Rattle.refusal.specs.Refusal.{refusal}
 use Rattle.net.specs.Net.{placeCount, transitionCount, entryCount}
 use Rattle.refusal.specs.Finding.{foundBy, finding}
-use Rattle.net.specs.Check.{sizesPass, shapeFault, entriesFault, netReply}
+use Rattle.net.specs.Check.{sizesPass, shapeFault, netReply}
 use Rattle.refusal.specs.Verdict.{verdictOf}
 use Rattle.refusal.specs.declared.Position.the-variants.{Nothing}
 use Rattle.refusal.specs.declared.Refusal.{Refusal}
@@ -41,8 +41,8 @@ module _ (net : List ℕ) (l : 4164 ≤ length net) where
       byTest (sizesPass (placeCount net) (transitionCount net) (entryCount net)) (λ h. rw (a, h, not-whole h)) (λ h. rw (a, h))
 
   pub overlong : netReply net ≡ Refused (overlongFault (placeCount net) (transitionCount net) (entryCount net))
-  unfolding netReply entriesFault
-  overlong = ap verdictOf (net-fault net ∙ orElse-hit _ _ _ (orElse-hit _ _ _ shape-overlong))
+  unfolding netReply
+  overlong = ap verdictOf (net-fault net ∙ orElse-hit _ _ _ shape-overlong)
 
 module _ (n : ℕ) (l : 4164 ≤ n) (net : List ℕ) where
   cut-overlong : n < length net → netReply (take n net) ≡ netReply net

@@ -1,5 +1,5 @@
 -- 3 and 4: the keys and weights of a net. Its keys rise, so each weight is found at its key.
-use Prim.Native.Nat.{ℕ, _+_, _≤_, _<_}
+use Prim.Native.Nat.{ℕ, _+_, _≤_}
 use native.Mathlib.Omega.{arith}
 use mathlib.Core.Path.{_≡_, refl}
 use mathlib.Core.List.{List}
@@ -14,13 +14,13 @@ use Rattle.table.specs.Table.{Rising, entryOf}
 use Rattle.table.proofs.Table.{entry-some}
 use Rattle.refusal.specs.Limits.{mostCount}
 use Rattle.net.specs.Net.{entryCount, entryWeight, keyLimit, weightAt}
-use Rattle.table.specs.Table.{KeyPasses}
 use Rattle.table.proofs.Keys.{key-passes, keys-rise}
 use Rattle.refusal.specs.Finding.{foundAt, lineFinds}
 use Rattle.net.specs.Checks.{WeightPasses}
-use Rattle.net.specs.Check.{weightFails, entryFault, entriesFault}
-use Rattle.net.proofs.Shape.{ShapePasses, shape-out}
-use Rattle.scan.specs.Scan.{foundOr}
+use Rattle.net.specs.Known.{EntryPasses, EntriesPass}
+use Rattle.net.specs.Check.{weightFails, shapeFault, entryFault}
+use Rattle.net.proofs.Shape.{shape-out}
+use Rattle.scan.specs.Scan.{foundOr, first}
 
 pub weight-out : (net : List ℕ) (i : ℕ) → weightFails (entryWeight net i) ≡ false → WeightPasses net i
 unfolding weightFails
@@ -35,10 +35,6 @@ weight-in net i w =
     let a = w .some in
     rw (ne-eqb (entryWeight net i) 0 (λ e. omega arith), le-ltb mostCount (entryWeight net i) (w .most))
 
-pub record EntryPasses (net : List ℕ) (i : ℕ) : Type 0 where
-  pub key : KeyPasses net 3 (keyLimit net) i
-  pub weight : WeightPasses net i
-
 pub entry-out : (net : List ℕ) (i : ℕ) → entryFault net i ≡ none → EntryPasses net i
 unfolding entryFault lineFinds foundAt
 entry-out net i h = record {
@@ -46,14 +42,8 @@ entry-out net i h = record {
   weight = weight-out net i (when-none _ _ (orElse-right _ _ h));
 }
 
--- a net that passes 1 to 4
-pub record EntriesPass (net : List ℕ) : Type 0 where
-  pub shape : ShapePasses net
-  pub each : (i : ℕ) → i < entryCount net → EntryPasses net i
-
-pub entries-out : (net : List ℕ) → entriesFault net ≡ none → EntriesPass net
-unfolding entriesFault
-entries-out net h = record { shape = shape-out net (orElse-left _ _ h); each = λ i l. entry-out net i (first-all _ _ (orElse-right _ _ h) i l) }
+pub entries-out : (net : List ℕ) → shapeFault net ≡ none → first (entryFault net) (entryCount net) ≡ none → EntriesPass net
+entries-out net s h = record { shape = shape-out net s; each = λ i l. entry-out net i (first-all _ _ h i l) }
 
 pub entries-rise : (net : List ℕ) → EntriesPass net → Rising net 3 (entryCount net)
 entries-rise net e = keys-rise net 3 (keyLimit net) (entryCount net) (λ i l. e .each i l .key)

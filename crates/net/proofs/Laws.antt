@@ -13,7 +13,8 @@ use Rattle.net.specs.Checks.{SizesPass, IsNet, HasSource}
 use Rattle.refusal.specs.declared.Verdict.the-variants.{Accepted}
 use Rattle.net.specs.Demands.{AccessorsRight}
 use Rattle.net.proofs.Accessors.{accessors-right}
-use Rattle.net.proofs.Entries.{EntriesPass, weight-small}
+use Rattle.net.specs.Known.{EntriesPass}
+use Rattle.net.proofs.Entries.{weight-small}
 use Rattle.net.proofs.Checks.{net-judged, net-entries}
 use lib.Dec.{ltb}
 

@@ -1,7 +1,6 @@
 pub mod Shape
 pub mod Entries
 pub mod Source
-pub mod Rows
 pub mod Accessors
 pub mod Checks
 pub mod Examples

@@ -6,7 +6,7 @@ use mathlib.Core.Path.{_≡_}
 use mathlib.Core.List.{List}
 use mathlib.Core.Bool.{true}
 use mathlib.Core.Option.{none}
-use lib.ListN.{length, getD}
+use lib.ListN.{length}
 use borrow.Author.Tests.{leb-true, eqb-true, not-false, le-leb, le-ltb, eq-eqb}
 use Rattle.scan.specs.Scan.{orElse, when}
 use Rattle.scan.proofs.Tests.{and-left, and-right, and-both}
@@ -14,6 +14,7 @@ use Rattle.scan.proofs.First.{orElse-left, orElse-right, when-none}
 use Rattle.net.specs.Net.{placeCount, transitionCount, entryCount, keyLimit}
 use Rattle.refusal.specs.Finding.{foundBy, finding}
 use Rattle.net.specs.Checks.{SizesPass}
+use Rattle.net.specs.Known.{ShapePasses, Known}
 use Rattle.net.specs.Check.{sizesPass, shapeFault}
 
 pub sizes-out : (net : List ℕ) → sizesPass (placeCount net) (transitionCount net) (entryCount net) ≡ true → SizesPass net
@@ -36,10 +37,6 @@ sizes-in net s =
     let e = le-leb _ _ (s .few-entries) in
     search and-both depth 12
 
-pub record ShapePasses (net : List ℕ) : Type 0 where
-  pub sizes : SizesPass net
-  pub whole : length net ≡ 3 + 2 * entryCount net
-
 pub shape-out : (net : List ℕ) → shapeFault net ≡ none → ShapePasses net
 unfolding shapeFault finding foundBy
 shape-out net h = record {
@@ -57,16 +54,7 @@ pub limit-high : (net : List ℕ) → SizesPass net → keyLimit net ≤ 2080
 unfolding keyLimit
 limit-high net s = let a : 2 * transitionCount net + 1 ≤ 65 = omega (arith, s .few-transitions) in mul-le-mul a (s .few-places)
 
--- the same about the words themselves, as the code reads them
-pub record Known (net : List ℕ) : Type 0 where
-  pub long : length net ≡ 3 + 2 * getD net 2 0
-  pub some-place : 1 ≤ getD net 0 0
-  pub few-places : getD net 0 0 ≤ 32
-  pub some-transition : 1 ≤ getD net 1 0
-  pub few-transitions : getD net 1 0 ≤ 32
-  pub few-keys : (2 * getD net 1 0 + 1) * getD net 0 0 ≤ 2080
-  pub few-entries : getD net 2 0 ≤ 2080
-
+-- the same about the words themselves
 pub known : (net : List ℕ) → shapeFault net ≡ none → Known net
 unfolding placeCount transitionCount entryCount keyLimit
 known net h =

@@ -13,7 +13,8 @@ use Rattle.table.specs.Bisection.{lowerBound}
 use Rattle.table.proofs.Table.{rising, entry-at, entry-absent}
 use Rattle.table.proofs.Bisection.{LowerBound, lower-bound}
 use Rattle.net.specs.Net.{placeCount, transitionCount, entryCount, entryWeight, weightAt, taken, takesNothing, isSource}
-use Rattle.net.proofs.Entries.{EntriesPass, entries-rise, entries-fit}
+use Rattle.net.specs.Known.{EntriesPass}
+use Rattle.net.proofs.Entries.{entries-rise, entries-fit}
 use Rattle.scan.specs.Scan.{foundOr}
 
 pub taken-within : (net : List ℕ) (t p : ℕ) → t < transitionCount net → p < placeCount net → taken net t p ≡ weightAt net (t * placeCount net + p)

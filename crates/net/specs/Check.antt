@@ -6,19 +6,18 @@ use mathlib.Core.Bool.{Bool, not, _&&_, _||_}
 use mathlib.Core.Option.{Option}
 use lib.ListN.{length, take}
 use lib.Dec.{ltb, leb, eqb}
-use Rattle.scan.specs.Scan.{orElse, first}
 use Rattle.table.specs.Keys.{keyFails}
 use Rattle.refusal.specs.Limits.{mostPlaces, mostTransitions, mostCount}
 use Rattle.refusal.specs.Verdict.{verdictOf}
 use Rattle.refusal.specs.Finding.{Tests, asked, lineFinds, finding}
 use Rattle.refusal.specs.declared.Refusal.{Refusal}
 use Rattle.refusal.specs.declared.Verdict.{Verdict}
-use Rattle.net.specs.Net.{placeCount, transitionCount, entryCount, entryWeight, keyLimit, hasSource}
+use Rattle.net.specs.Net.{keyCount, placeCount, transitionCount, entryCount, entryWeight, keyLimit, hasSource}
 use Rattle.net.specs.Checks.{netChecks}
 
 -- §2.2
 unfoldable pub sizesPass : ℕ → ℕ → ℕ → Bool
-sizesPass p t k = leb 1 p && (leb p mostPlaces && (leb 1 t && (leb t mostTransitions && leb k ((2 * t + 1) * p))))
+sizesPass p t k = leb 1 p && (leb p mostPlaces && (leb 1 t && (leb t mostTransitions && leb k (keyCount p t))))
 
 -- §2.4
 unfoldable pub weightFails : ℕ → Bool
@@ -46,10 +45,6 @@ module _ (net : List ℕ) where
   -- 3 and 4 at one entry
   unfoldable pub entryFault : ℕ → Option Refusal
   entryFault i = lineFinds (netChecks net) netTests 3 i
-
-  -- 1 to 4
-  unfoldable pub entriesFault : Option Refusal
-  entriesFault = orElse shapeFault (first entryFault (entryCount net))
 
 -- what the net check answers: §10.1
 unfoldable pub netReply : List ℕ → Verdict

@@ -7,6 +7,10 @@ use lib.Dec.{ltb, eqb}
 use Rattle.scan.specs.Scan.{foundOr, all, any}
 use Rattle.table.specs.Table.{keyAt, valueAt, entryOf}
 
+-- how many keys there are, in 2 × T + 1 rows of P: §2.2
+abbrev pub keyCount : ℕ → ℕ → ℕ
+keyCount places transitions = (2 * transitions + 1) * places
+
 -- §2.1; a word that is missing counts as 0
 module _ (net : List ℕ) where
   unfoldable pub placeCount : ℕ
@@ -26,7 +30,7 @@ module _ (net : List ℕ) where
 
   -- the bound of K (§2.2) and of the keys (§2.3)
   unfoldable pub keyLimit : ℕ
-  keyLimit = (2 * transitionCount + 1) * placeCount
+  keyLimit = keyCount placeCount transitionCount
 
   -- the weight of a key, 0 where it is absent: §2.8
   unfoldable pub weightAt : ℕ → ℕ

@@ -1,17 +1,28 @@
 // Refusals 1 to 4: the sizes and the length of the words, and their entries one by one.
 ghost use mathlib.Core.Path.{_≡_};
-ghost use mathlib.Core.Option.{none};
-ghost use Prim.Native.Nat.{_<_};
-ghost use Rattle.net.specs.Net.{entryCount, keyLimit};
-ghost use Rattle.net.specs.Check.{sizesPass, shapeFault, weightFails, entryFault, entriesFault};
+ghost use Prim.Native.Nat.{_+_, _≤_, _<_};
+ghost use lib.ListN.{length};
+ghost use Rattle.scan.specs.Scan.{first};
+ghost use Rattle.net.specs.Net.{keyCount, entryCount, keyLimit};
+ghost use Rattle.net.specs.Known.{Known};
+ghost use Rattle.net.specs.Check.{sizesPass, shapeFault, weightFails, entryFault};
+ghost use Rattle.refusal.specs.Limits.{mostPlaces, mostTransitions};
 ghost use Rattle.refusal.specs.Verdict.{verdictOf};
-ghost use Rattle.table.specs.Keys.{keyFails};
 use refusal::Limits;
 use refusal::Position;
 use refusal::Refusal;
 use refusal::Verdict;
 
-// Whether P, T and K lie in their ranges (§2.2). P and T come first, so that the product cannot overflow.
+// How many keys there are: as many entries may be (§2.2), and below it every key lies (§2.3).
+fn key_count(places: u32, transitions: u32) -> u32
+    requires { ⌜ places ≤ mostPlaces ⌝ }
+    requires { ⌜ transitions ≤ mostTransitions ⌝ }
+    ensures { λ r. ⌜ r ≡ keyCount places transitions ⌝ }
+{
+    (2 * transitions + 1) * places
+}
+
+// Whether P, T and K lie in their ranges (§2.2). P and T come first, so that the number of keys cannot overflow.
 fn sizes_pass(places: u32, transitions: u32, entries: u32) -> bool
     ensures { λ r. ⌜ r ≡ sizesPass places transitions entries ⌝ }
 {
@@ -27,7 +38,7 @@ fn sizes_pass(places: u32, transitions: u32, entries: u32) -> bool
     if Limits::TRANSITIONS < transitions {
         return false;
     }
-    entries <= (2 * transitions + 1) * places
+    entries <= key_count(places, transitions)
 }
 
 // Refusals 1 and 2.
@@ -47,23 +58,6 @@ pub(crate) fn shape_fault(net: &[u32]) -> Verdict
     Verdict::Accepted
 }
 
-// Whether the key of entry i breaks §2.3.
-fn key_fails(net: &[u32], limit: u32, i: usize) -> bool
-    requires { ⌜ shapeFault (now net) ≡ none ⌝ }
-    requires { ⌜ limit ≡ keyLimit (now net) ⌝ }
-    requires { ⌜ i < entryCount (now net) ⌝ }
-    ensures { λ r. ⌜ r ≡ keyFails (now (net .entry)) 3 (keyLimit (now (net .entry))) i ⌝ }
-{
-    let key = net[3 + i];
-    if limit <= key {
-        return true;
-    }
-    if i == 0 {
-        return false;
-    }
-    key <= net[2 + i]
-}
-
 // Whether a weight breaks §2.4.
 fn weight_fails(weight: u32) -> bool
     ensures { λ r. ⌜ r ≡ weightFails weight ⌝ }
@@ -75,35 +69,31 @@ fn weight_fails(weight: u32) -> bool
 }
 
 // Refusals 3 and 4 at entry i.
-fn entry_fault(net: &[u32], limit: u32, i: usize) -> Verdict
-    requires { ⌜ shapeFault (now net) ≡ none ⌝ }
+fn entry_fault(net: &[u32], entries: usize, limit: u32, i: usize) -> Verdict
+    requires { ⌜ 3 + entries + i < length (now net) ⌝ }
+    requires { ⌜ entries ≡ entryCount (now net) ⌝ }
     requires { ⌜ limit ≡ keyLimit (now net) ⌝ }
-    requires { ⌜ i < entryCount (now net) ⌝ }
     ensures { λ r. ⌜ r ≡ verdictOf (entryFault (now (net .entry)) i) ⌝ }
 {
-    if key_fails(net, limit, i) {
+    if table::key_fails(net, 3, limit, i) {
         return refusal::refuse(Refusal::NET_ORDER, Position::Entry(i));
     }
-    let entries = net[2] as usize;
     if weight_fails(net[3 + entries + i]) {
         return refusal::refuse(Refusal::NET_WEIGHT, Position::Entry(i));
     }
     Verdict::Accepted
 }
 
-// Refusals 1 to 4.
+// Refusals 3 and 4.
 pub(crate) fn entries_fault(net: &[u32]) -> Verdict
-    ensures { λ r. ⌜ r ≡ verdictOf (entriesFault (now (net .entry))) ⌝ }
+    requires { ⌜ Known (now net) ⌝ }
+    ensures { λ r. ⌜ r ≡ verdictOf (first (entryFault (now (net .entry))) (entryCount (now (net .entry)))) ⌝ }
 {
-    let shape = shape_fault(net);
-    if let Verdict::Refused(_) = shape {
-        return shape;
-    }
-    let limit = (2 * net[1] + 1) * net[0];
+    let limit = key_count(net[0], net[1]);
     let entries = net[2] as usize;
     let mut i = 0;
     while i < entries {
-        let found = entry_fault(net, limit, i);
+        let found = entry_fault(net, entries, limit, i);
         if let Verdict::Refused(_) = found {
             return found;
         }

@@ -7,3 +7,4 @@ pub mod Greatest
 pub mod Least
 pub mod Tabulate
 pub mod Front
+pub mod Placed

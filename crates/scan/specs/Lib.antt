@@ -1,2 +1,3 @@
 pub mod Scan
 pub mod Front
+pub mod Placed

@@ -36,7 +36,6 @@ module _ (net sheet : List ℕ) (accepted : scheduleReply net sheet ≡ Accepted
   -- along the arcs
   pub chain-along : (σ : List ℕ) (w : Walker) (n m : ℕ) → Kept w n → follow (graph (petriNet net) sheet) n σ ≡ some m
       → (y : Walker) × Chain (petriNet net) sheet w σ y × Kept y m
-  unfolding graph
   chain-along [] w n m k e = let q : n ≡ m = unfold follow in (cc) in (w, stays w, rw q at k)
   chain-along (t ∷ σ) w n m k e =
       let (x, a, f) = follow-first (graph (petriNet net) sheet) n t m σ e in
@@ -48,7 +47,7 @@ module _ (net sheet : List ℕ) (accepted : scheduleReply net sheet ≡ Accepted
   -- and only along them
   pub along-chain : (σ : List ℕ) (w y : Walker) (n : ℕ) → Kept w n → Chain (petriNet net) sheet w σ y
       → (m : ℕ) × (follow (graph (petriNet net) sheet) n σ ≡ some m) × Kept y m
-  unfolding graph follow
+  unfolding follow
   along-chain [] w y n k (stays x) = (n, refl, k)
   along-chain (t ∷ σ) w y n k (goes x z u τ s c) =
       let (a, (b, ((m, o), v))) = step-tells (petriNet net) sheet w t .passes .0 s in

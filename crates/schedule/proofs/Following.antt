@@ -48,7 +48,7 @@ module _ (N : PetriNet) (sheet firings : List ℕ) where
 
   -- while the firings pass, following them leads where the run stands
   leads : (i : ℕ) → i ≤ length firings → ((j : ℕ) → j < i → firingFault N sheet firings j ≡ none) → follow (graph N sheet) 0 (take i firings) ≡ some (nodeAfter N sheet firings i)
-  unfolding follow nodeAfter graph
+  unfolding follow nodeAfter
   leads zero l h = refl
   leads (suc i) l h =
       let k : i < length firings = omega arith in
@@ -64,13 +64,11 @@ module _ (N : PetriNet) (sheet firings : List ℕ) where
   -- the next firing, where those before it pass
   next-leads : (i : ℕ) → i < length firings → ((j : ℕ) → j < i → firingFault N sheet firings j ≡ none)
       → follow (graph N sheet) 0 (take (suc i) firings) ≡ arc N sheet (nodeAfter N sheet firings i) (getD firings i 0)
-  unfolding graph
   next-leads i l before =
       ap (follow (graph N sheet) 0) (take-next i l) ∙ follow-snoc (graph N sheet) (take i firings) 0 _ (getD firings i 0) (leads i (omega arith) before)
 
   -- each firing of an allowed list passes
   allowed-before : (i : ℕ) → i ≤ length firings → allows (graph N sheet) 0 (take i firings) ≡ true → (j : ℕ) → j < i → firingFault N sheet firings j ≡ none
-  unfolding graph
   allowed-before zero l a j k = absurd (omega arith)
   allowed-before (suc i) l a j k =
       let before = allowed-before i (omega arith) (allows-prefix (graph N sheet) (take i firings) (getD firings i 0 ∷ []) 0 (ap (allows (graph N sheet) 0) (sym (take-next i l)) ∙ a)) in
@@ -84,7 +82,7 @@ module _ (N : PetriNet) (sheet firings : List ℕ) where
 
   stops-out : (r : Refusal) → runFault N sheet firings ≡ some r
       → FailFirst (length firings) Record ((λ i. allows (graph N sheet) 0 (take (suc i) firings) ≡ true) else 20 ∷ []) r
-  unfolding runFault graph
+  unfolding runFault
   stops-out r h =
       let (i, l, f, before) = first-at (firingFault N sheet firings) (length firings) r h in
       let (x, q) = firing-says i r .1 .0 f in
@@ -96,7 +94,7 @@ module _ (N : PetriNet) (sheet firings : List ℕ) where
       }
 
   stops-in : (r : Refusal) → FailFirst (length firings) Record ((λ i. allows (graph N sheet) 0 (take (suc i) firings) ≡ true) else 20 ∷ []) r → runFault N sheet firings ≡ some r
-  unfolding runFault graph
+  unfolding runFault
   stops-in r s =
       let l = s .within in
       let before : (j : ℕ) → j < s .index → firingFault N sheet firings j ≡ none = λ j k. allowed-before (suc j) (omega arith) (s .below j k .0) j (omega arith) in
@@ -141,7 +139,7 @@ pub record Ends (net sheet firings : List ℕ) (n : ℕ) : Type 0 where
 
 pub run-ends : (net sheet firings : List ℕ) → scheduleReply net sheet ≡ Accepted → runFault (petriNet net) sheet firings ≡ none
     → Ends net sheet firings (nodeAfter (petriNet net) sheet firings (length firings))
-unfolding endCounts graph
+unfolding endCounts
 run-ends net sheet firings h ok =
     let N = petriNet net in
     let c = closed net sheet h in

@@ -4,3 +4,4 @@ pub mod Walkers
 pub mod Following
 pub mod Folded
 pub mod Done
+pub mod Demands

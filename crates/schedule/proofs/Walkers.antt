@@ -42,7 +42,7 @@ count-past N sheet n p l = rw (le-ltb p (N .places) l, and-false (ltb n (nodeCou
 
 -- an arc that is found is offered
 pub offered↔ : (N : PetriNet) (sheet : List ℕ) (n t : ℕ) → (found (arc N sheet n t) ≡ true) ↔ Offers N (graph N sheet) n t
-unfolding graph found
+unfolding found
 offered↔ N sheet n t = (λ e. found-some (arc N sheet n t) e, λ (m, e). rw e)
 
 module _ (N : PetriNet) (sheet : List ℕ) (w : Walker) where
@@ -95,7 +95,7 @@ module _ (net sheet : List ℕ) (accepted : scheduleReply net sheet ≡ Accepted
 
   -- the counts of node 0 are the starting ones, at every place
   start-count : (p : ℕ) → petriNet net .start p ≡ count (petriNet net) sheet 0 p
-  unfolding graph initial
+  unfolding initial
   start-count p = ⊎-elim inside outside (below-or-not p (petriNet net .places))
     where
       inside : p < petriNet net .places → petriNet net .start p ≡ count (petriNet net) sheet 0 p
@@ -107,7 +107,6 @@ module _ (net sheet : List ℕ) (accepted : scheduleReply net sheet ≡ Accepted
       outside l = start-no-place net p l ∙ sym (count-past (petriNet net) sheet 0 p l)
 
   pub fresh-passes : walkerFault (petriNet net) sheet (freshWalker (netReply net) net) ≡ none
-  unfolding graph
   fresh-passes = rw (accepts net sheet accepted .net-accepted) (walker-in (petriNet net) sheet (freshWalker Accepted net) (record {
     node = closed net sheet accepted .root;
     holds = λ p l. tabulate-at (petriNet net .start) 0 32 p l ∙ start-count p;
@@ -127,16 +126,14 @@ module _ (net sheet : List ℕ) (accepted : scheduleReply net sheet ≡ Accepted
     held p l = passes .holds p (omega (arith, few-places)) ∙ sym (marking-at (petriNet net) sheet (w .node) p (passes .node) l)
 
     pub fires-enabled : Enabled (petriNet net) (w .counts) t
-    unfolding graph
     fires-enabled = record { holds = λ p l. rw (held p l) (accepts net sheet accepted .schedule .enables (w .node) t m (passes .node) e .holds p l) }
 
     pub target-node : m < nodeCount sheet
-    unfolding graph
     target-node = closed net sheet accepted .lands (w .node) t m (passes .node) e
 
     -- the target's counts are what firing gives, at every place
     target-count : (p : ℕ) → p < 32 → firedCount (petriNet net) (w .counts) t p ≡ count (petriNet net) sheet m p
-    unfolding graph firedCount fire
+    unfolding firedCount fire
     target-count p k = ⊎-elim inside outside (below-or-not p (petriNet net .places))
       where
         inside : p < petriNet net .places → getD (w .counts) p 0 - petriNet net .taken t p + petriNet net .put t p ≡ count (petriNet net) sheet m p

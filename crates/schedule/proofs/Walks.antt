@@ -1,23 +1,17 @@
--- Walks along the arcs: the entry of an arc, the faults of a walker, a single firing, and a list of firings from node 0.
-use Prim.Native.Nat.{ℕ, _+_, _*_, _≤_, _<_}
+-- Walks along the arcs: where an arc's entry leads, the faults of a walker, a single firing, and a list of firings from node 0.
+use Prim.Native.Nat.{ℕ, _+_, _≤_, _<_}
 use native.Mathlib.Omega.{arith}
 use native.Mathlib.Numerals.{add-one}
 use native.Mathlib.Decide.{decLt}
 use mathlib.Core.Path.{_≡_, refl, sym, ap, _∙_}
 use mathlib.Core.List.{List, []}
-use mathlib.Core.Bool.{Bool, true, false, cond, not, _&&_}
-use mathlib.Core.Option.{Option, none, some}
+use mathlib.Core.Bool.{not}
+use mathlib.Core.Option.{none, some}
 use lib.ListN.{getD}
-use lib.Dec.{ltb}
-use borrow.Author.Tests.{lt-ltb, le-ltb, le-leb, lt-leb, leb-false, eq-eqb, ne-eqb, eqb-true, not-false}
+use borrow.Author.Tests.{le-leb, lt-leb, leb-false, eq-eqb, ne-eqb, eqb-true, not-false}
 use Rattle.scan.specs.Scan.{found, first, tabulate}
-use Rattle.scan.proofs.Tests.{byTest}
-use Rattle.scan.proofs.First.{none-some, orElse-left, orElse-right, orElse-next, orElse-hit, when-hit, when-miss, when-none, first-hit, first-all}
+use Rattle.scan.proofs.First.{orElse-left, orElse-right, orElse-next, orElse-hit, when-hit, when-miss, when-none, first-hit, first-all}
 use Rattle.scan.proofs.Tabulate.{tabulate-at, tabulate-ext}
-use Rattle.table.specs.Bisection.{lookUp, foundOf}
-use Rattle.table.specs.declared.Found.the-variants.{At, Nothing as NotFound}
-use Rattle.table.proofs.Table.{entry-some}
-use Rattle.table.proofs.Bisection.{look-up}
 use Rattle.net.specs.Net.{placeCount}
 use Rattle.refusal.specs.Refusal.{refusal}
 use Rattle.refusal.specs.declared.Position.the-variants.{Nothing, Place, Record}
@@ -26,9 +20,13 @@ use Rattle.refusal.specs.declared.Verdict.{Verdict}
 use Rattle.refusal.specs.declared.Verdict.the-variants.{Accepted, Refused}
 use Rattle.net.proofs.Laws.{put-no-place, sizes}
 use Rattle.sequential.specs.Petri.{PetriNet, petriNet, fire, firedCount}
-use Rattle.sequential.specs.Words.{nodeCount, entryCount, entryValue, entryWithKey, arcEntry, arc, count, graph}
+use Rattle.sequential.specs.Words.{nodeCount, entryValue, arcEntry, arc, count}
 use Rattle.sequential.specs.Check.{scheduleReply}
-use Rattle.sequential.specs.Known.{WordsHold}
+use Rattle.sequential.specs.Known.{ArcsHold}
+use Rattle.graph.specs.Readable.{Readable}
+use Rattle.graph.specs.Rows.{markingRow}
+use Rattle.graph.proofs.Rows.{marking-right}
+use Rattle.judge.proofs.Judged.{accepted-readable}
 use Rattle.refusal.specs.Verdict.{verdictOf}
 use Rattle.refusal.proofs.Verdicts.{answer-some, then-next}
 use Rattle.call.specs.Call.{WordsDone}
@@ -37,7 +35,6 @@ use Rattle.schedule.specs.Calls.{fireCore}
 use Rattle.schedule.specs.Walker.{walker}
 use Rattle.schedule.specs.Firing.{countFault, walkerFault, stepFault, follows, nodeAfter, firingFault}
 use Rattle.schedule.specs.declared.Walker.{Walker}
-use Rattle.sequential.proofs.Words.{words-rise, words-fit}
 use Rattle.sequential.proofs.Entries.{graph-closed, marking-at}
 use Rattle.sequential.proofs.Accepted.{accepts}
 use Rattle.schedule.proofs.Walkers.{count-past, step-fault}
@@ -46,36 +43,9 @@ use Rattle.refusal.specs.Finding.{foundAt, foundBy, lineFinds, finding}
 pub refused-accepted {ℓ} : {C : Type ℓ} (v : Verdict) (r : Refusal) → v ≡ Refused r → v ≡ Accepted → C
 refused-accepted v r p q = let z : _≡_ {A = ℕ} 0 1 = cc in absurd (omega arith)
 
--- ---- the entry of an arc
-
-pub found-at : (o : Option ℕ) (i : ℕ) → foundOf o ≡ At i → o ≡ some i
-found-at none i h = cc
-found-at (some j) i h = cc
-
-pub found-nothing : (o : Option ℕ) → foundOf o ≡ NotFound → o ≡ none
-found-nothing none h = refl
-found-nothing (some j) h = cc
+-- ---- where the entry of an arc leads
 
 module _ (N : PetriNet) (sheet : List ℕ) (n t : ℕ) where
-  pub entry-outside : N .transitions ≤ t → NotFound ≡ foundOf (arcEntry N sheet n t)
-  unfolding arcEntry
-  entry-outside l = byTest (ltb n (nodeCount sheet)) (λ e. rw (e, le-ltb t (N .transitions) l)) (λ e. rw e)
-
-  pub entry-looked-up : WordsHold N sheet → n < nodeCount sheet → t < N .transitions
-      → lookUp sheet 2 (entryCount sheet) (n * N .transitions + t) ≡ foundOf (arcEntry N sheet n t)
-  unfolding arcEntry entryWithKey
-  entry-looked-up w l m =
-      rw (lt-ltb n (nodeCount sheet) l, lt-ltb t (N .transitions) m)
-      (look-up sheet 2 (entryCount sheet) (n * N .transitions + t) (words-rise N sheet w) (words-fit N sheet w))
-
-  pub entry-low : (i : ℕ) → arcEntry N sheet n t ≡ some i → i < entryCount sheet
-  unfolding arcEntry
-  entry-low i e = go (ltb n (nodeCount sheet) && ltb t (N .transitions)) e
-    where
-      go : (a : Bool) → cond a (entryWithKey sheet (n * N .transitions + t)) none ≡ some i → i < entryCount sheet
-      go true h = entry-some sheet 2 (entryCount sheet) (n * N .transitions + t) i (unfold entryWithKey in h) .0
-      go false h = none-some none i refl h
-
   pub entry-leads : (i : ℕ) → arcEntry N sheet n t ≡ some i → arc N sheet n t ≡ some (entryValue sheet i)
   unfolding arc
   entry-leads i e = rw e
@@ -84,8 +54,7 @@ module _ (N : PetriNet) (sheet : List ℕ) (n t : ℕ) where
   unfolding arc
   entry-stays e = rw e
 
-  pub target-node : 0 < N .transitions → WordsHold N sheet → n < nodeCount sheet → (i : ℕ) → arcEntry N sheet n t ≡ some i → entryValue sheet i < nodeCount sheet
-  unfolding graph
+  pub target-node : 0 < N .transitions → ArcsHold N sheet → n < nodeCount sheet → (i : ℕ) → arcEntry N sheet n t ≡ some i → entryValue sheet i < nodeCount sheet
   target-node T w l i e = graph-closed N sheet T w .lands n t (entryValue sheet i) l (entry-leads i e)
 
 -- ---- 18 and 19
@@ -123,6 +92,11 @@ module _ (N : PetriNet) (sheet : List ℕ) (w : Walker) where
     unfolding walkerFault countFault finding foundBy lineFinds foundAt
     walker-counts p l = eqb-true _ _ (not-false _ (when-none _ _ (first-all _ _ (orElse-right _ _ h) p l)))
 
+-- what the code reads of a node
+pub held-at : (net sheet : List ℕ) → Readable net sheet → (n : ℕ) → n < nodeCount sheet → (held : List ℕ) → held ≡ markingRow net sheet n
+    → (p : ℕ) → p < 32 → getD held p 0 ≡ count (petriNet net) sheet n p
+held-at net sheet r n l held e p k = ap (λ (x : List ℕ). getD x p 0) (e ∙ marking-right net sheet (r .arcs) n l) ∙ tabulate-at _ 0 32 p k
+
 -- ---- a single firing
 
 module _ (N : PetriNet) (sheet : List ℕ) (w : Walker) (t : ℕ) (h : walkerFault N sheet w ≡ none) where
@@ -138,7 +112,7 @@ module _ (net sheet : List ℕ) (w : Walker) (t : ℕ) (a : scheduleReply net sh
   -- the target's counts are what firing gives
   counts-fired : (m : ℕ) → m < nodeCount sheet → arc (petriNet net) sheet (w .node) t ≡ some m → (p : ℕ) → p < 32
       → count (petriNet net) sheet m p ≡ firedCount (petriNet net) (w .counts) t p
-  unfolding firedCount graph fire
+  unfolding firedCount fire
   counts-fired m k e p l =
       let N = petriNet net in
       let n = walker-node N sheet w h in
@@ -161,7 +135,7 @@ module _ (net sheet : List ℕ) (w : Walker) (t : ℕ) (a : scheduleReply net sh
   step-lands i e =
       let N = petriNet net in
       let b = accepts net sheet a in
-      let k = target-node N sheet (w .node) t (sizes net (b .net-accepted) .some-transition) (b .words) (walker-node N sheet w h) i e in
+      let k = target-node N sheet (w .node) t (sizes net (b .net-accepted) .some-transition) (b .words .arcs) (walker-node N sheet w h) i e in
       rw (entry-leads N sheet (w .node) t i e) (ap (walker (entryValue sheet i)) (tabulate-ext _ _ 32 (counts-fired (entryValue sheet i) k (entry-leads N sheet (w .node) t i e))))
 
 -- ---- a single firing without scratch
@@ -181,10 +155,12 @@ module _ (net sheet : List ℕ) (w : Walker) (t : ℕ) (a : scheduleReply net sh
     not-offered v e q = step-refuses v _ e (step-refused (petriNet net) sheet w t h q)
 
     pub follows-on : (i m : ℕ) (counts : List ℕ) → arcEntry (petriNet net) sheet (w .node) t ≡ some i → m ≡ entryValue sheet i
-        → counts ≡ tabulate (count (petriNet net) sheet m) 32 → WordsDone (fireCore net sheet w t) [] (Accepted, walker m counts) []
+        → counts ≡ markingRow net sheet m → WordsDone (fireCore net sheet w t) [] (Accepted, walker m counts) []
     follows-on i m counts q e k =
+        let r = accepted-readable net sheet a in
+        let l = target-node (petriNet net) sheet (w .node) t (r .arcs .sizes .some-transition) (r .arcs .holds) (walker-node (petriNet net) sheet w h) i q in
         answered-none refl (then-next _ _ a ∙ ap verdictOf (step-goes (petriNet net) sheet w t h i q))
-        (ap (λ (x : Walker). (Accepted, x)) (rw (k, e) (step-lands net sheet w t a h i q)))
+        (ap (λ (x : Walker). (Accepted, x)) (rw (k, e) (ap (walker (entryValue sheet i)) (marking-right net sheet (r .arcs) _ l) ∙ step-lands net sheet w t a h i q)))
 
 -- ---- a list of firings
 

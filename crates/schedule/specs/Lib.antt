@@ -4,3 +4,4 @@ pub mod Calls
 pub mod Plain
 pub mod Walks
 pub mod Rows
+pub mod Demands

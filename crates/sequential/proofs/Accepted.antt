@@ -19,17 +19,16 @@ use Rattle.sequential.specs.Words.{nodeCount, entryCount, entryValue, ar
 use Rattle.sequential.specs.Schedule.{IsSchedule}
 use Rattle.sequential.specs.Checks.{wordChecks, graphChecks, sheetChecks}
 use Rattle.sequential.specs.Check.{scheduleFault, scheduleReply}
-use Rattle.sequential.specs.Known.{WordsHold, Accepts}
+use Rattle.sequential.specs.Known.{ArcsHold, WordsHold, Accepts}
 use Rattle.sequential.proofs.Words.{words-tell, words-hold, words-pass}
 use Rattle.sequential.proofs.Entries.{arc-entry, entry-arc, entry-node, graph-closed}
-use Rattle.sequential.proofs.Clauses.{choice-refl}
+use Rattle.sequential.proofs.Choices.{choice-refl}
 use Rattle.sequential.proofs.Faults.{start-marking, isArc↔, graph-tells}
 
 -- ---- the clauses on the words are those on the graph
 
-module _ (N : PetriNet) (sheet : List ℕ) (T : 0 < N .transitions) (w : WordsHold N sheet) where
+module _ (N : PetriNet) (sheet : List ℕ) (T : 0 < N .transitions) (w : ArcsHold N sheet) where
   pub passes-schedule : AllPass (graphChecks N sheet) → IsSchedule N (graph N sheet)
-  unfolding graph
   passes-schedule (a, (b, (c, (d, (e, (f, u)))))) = record {
     starts = start-marking N sheet (w .shape .some-node) .1 (λ p l. a p l .0);
     choices = λ n l. b n l .1 .0;
@@ -45,7 +44,6 @@ module _ (N : PetriNet) (sheet : List ℕ) (T : 0 < N .transitions) (w : WordsHo
   }
 
   pub schedule-passes : IsSchedule N (graph N sheet) → AllPass (graphChecks N sheet)
-  unfolding graph
   schedule-passes s = (
     λ p l. (start-marking N sheet (w .shape .some-node) .0 (s .starts) p l, tt),
     (
@@ -74,13 +72,13 @@ module _ (N : PetriNet) (sheet : List ℕ) (T : 0 < N .transitions) (w : WordsHo
 module _ (N : PetriNet) (sheet : List ℕ) (T : 0 < N .transitions) where
   pub sheet-tells : Tells (scheduleFault N sheet) (sheetChecks N sheet)
   unfolding scheduleFault
-  sheet-tells = tells-append _ _ (wordChecks N sheet) (graphChecks N sheet) (words-tell N sheet) (λ p. graph-tells N sheet T (words-hold N sheet p))
+  sheet-tells = tells-append _ _ (wordChecks N sheet) (graphChecks N sheet) (words-tell N sheet) (λ p. graph-tells N sheet T (words-hold N sheet p .arcs))
 
   pub sheet-schedule : AllPass (sheetChecks N sheet) ↔ (WordsHold N sheet × IsSchedule N (graph N sheet))
   sheet-schedule =
       let (f, g) = pass-append (wordChecks N sheet) (graphChecks N sheet) in (
-        λ p. let (a, b) = f p in let w = words-hold N sheet a in (w, passes-schedule N sheet T w b),
-        λ (w, s). g (words-pass N sheet w, schedule-passes N sheet T w s),
+        λ p. let (a, b) = f p in let w = words-hold N sheet a in (w, passes-schedule N sheet T (w .arcs) b),
+        λ (w, s). g (words-pass N sheet w, schedule-passes N sheet T (w .arcs) s),
       )
 
 module _ (net sheet : List ℕ) where
@@ -110,4 +108,4 @@ module _ (net sheet : List ℕ) (h : scheduleReply net sheet ≡ Accepted) where
   some-transition = sizes net (accepts .net-accepted) .some-transition
 
   pub closed : Closed (graph (petriNet net) sheet)
-  closed = graph-closed (petriNet net) sheet some-transition (accepts .words)
+  closed = graph-closed (petriNet net) sheet some-transition (accepts .words .arcs)

@@ -14,7 +14,7 @@ use Rattle.sequential.specs.Petri.{PetriNet, fireAll, initial}
 use Rattle.sequential.specs.Words.{nodeCount, count, graph}
 use Rattle.sequential.specs.Schedule.{IsSchedule}
 use Rattle.sequential.specs.Bounds.{heldAt, bound, bounds}
-use Rattle.sequential.specs.Known.{WordsHold}
+use Rattle.sequential.specs.Known.{ArcsHold}
 use Rattle.sequential.specs.Runs.{LeastBound}
 use Rattle.sequential.proofs.Entries.{graph-closed, marking-at}
 use Rattle.sequential.proofs.Runs.{from-root}
@@ -28,10 +28,9 @@ module _ (N : PetriNet) (sheet : List ℕ) where
   unfolding bounds
   bounds-at p l = tabulate-at (bound N sheet) 0 (N .places) p l
 
-  module _ (T : 0 < N .transitions) (w : WordsHold N sheet) (s : IsSchedule N (graph N sheet)) (p : ℕ) (l : p < N .places) where
+  module _ (T : 0 < N .transitions) (w : ArcsHold N sheet) (s : IsSchedule N (graph N sheet)) (p : ℕ) (l : p < N .places) where
     -- after an allowed list the place holds what it holds at the node where the list ends
     held : (σ : List ℕ) (n : ℕ) → follow (graph N sheet) 0 σ ≡ some n → (n < nodeCount sheet) × (getD (fireAll N (initial N) σ) p 0 ≡ count N sheet n p)
-    unfolding graph
     held σ n e =
         let c = graph-closed N sheet T w in
         let k = follow-lands (graph N sheet) c σ 0 n (c .root) e in
@@ -45,7 +44,7 @@ module _ (N : PetriNet) (sheet : List ℕ) where
         rw q (greatest-bounds (heldAt N sheet p) (nodeCount sheet) n k)
 
     as-much : (σ : List ℕ) × (allows (graph N sheet) 0 σ ≡ true) × (getD (fireAll N (initial N) σ) p 0 ≡ bound N sheet p)
-    unfolding bound heldAt graph Reachable
+    unfolding bound heldAt Reachable
     as-much =
         let (n, k, q) = greatest-attained (heldAt N sheet p) (nodeCount sheet) (w .shape .some-node) in
         let (σ, e) = s .reached n k in

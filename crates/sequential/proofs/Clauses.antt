@@ -5,16 +5,17 @@ use mathlib.Core.Path.{_≡_, refl, sym, _∙_}
 use mathlib.Core.Logic.{_↔_}
 use mathlib.Core.List.{List}
 use mathlib.Core.Bool.{Bool, true, false, Bool·beq}
-use borrow.Author.Tests.{leb-true, le-leb, eqb-true, eq-eqb}
+use borrow.Author.Tests.{leb-true, le-leb}
 use Rattle.scan.specs.Scan.{found}
 use Rattle.scan.proofs.Tests.{iff→eq}
 use Rattle.scan.proofs.First.{found-some}
 use Rattle.scan.proofs.Every.{all-in, all-out, any-in, any-out}
 use Rattle.scan.proofs.Least.{least-hit, least-of}
 use Rattle.automaton.specs.Automaton.{Automaton}
-use Rattle.sequential.specs.Petri.{PetriNet, Enabled, Source, SameChoice}
-use Rattle.sequential.specs.Tests.{holdsEnough, enabled, takesNothing, isSource, takesAlike, sameChoice, offers, offersAsSource, isAwait, offersSome, firstOffered, offersAsChoice, offersOneChoiceSet}
+use Rattle.sequential.specs.Petri.{PetriNet, Enabled, SameChoice}
+use Rattle.sequential.specs.Tests.{holdsEnough, enabled, offers, offersAsSource, isAwait, offersSome, firstOffered, offersAsChoice, offersOneChoiceSet}
 use Rattle.sequential.specs.Schedule.{Offers, Await, OneChoiceSet}
+use Rattle.sequential.proofs.Choices.{source↔, choice↔, choice-refl, choice-sym, choice-trans}
 
 -- ---- two tests that agree
 
@@ -44,34 +45,6 @@ module _ (N : PetriNet) where
     λ e. record { holds = λ p l. leb-true _ _ (all-out (holdsEnough N m t) (N .places) e p l) },
     λ h. all-in (holdsEnough N m t) (N .places) (λ p l. le-leb _ _ (h .holds p l)),
   )
-
-  pub source↔ : (t : ℕ) → (isSource N t ≡ true) ↔ Source N t
-  unfolding isSource takesNothing
-  source↔ t = (
-    λ e p l. eqb-true _ _ (all-out (takesNothing N t) (N .places) e p l),
-    λ h. all-in (takesNothing N t) (N .places) (λ p l. eq-eqb _ _ (h p l)),
-  )
-
-  pub choice↔ : (t u : ℕ) → (sameChoice N t u ≡ true) ↔ SameChoice N t u
-  unfolding sameChoice takesAlike
-  choice↔ t u = (
-    λ e p l. eqb-true _ _ (all-out (takesAlike N t u) (N .places) e p l),
-    λ h. all-in (takesAlike N t u) (N .places) (λ p l. eq-eqb _ _ (h p l)),
-  )
-
-  -- ---- choice sets
-
-  pub choice-refl : (t : ℕ) → SameChoice N t t
-  choice-refl t p l = refl
-
-  pub choice-sym : (t u : ℕ) → SameChoice N t u → SameChoice N u t
-  choice-sym t u h p l = sym (h p l)
-
-  pub choice-trans : (t u v : ℕ) → SameChoice N t u → SameChoice N u v → SameChoice N t v
-  choice-trans t u v h k p l = h p l ∙ k p l
-
-  pub choice-source : (t u : ℕ) → Source N t → SameChoice N t u ↔ Source N u
-  choice-source t u s = (λ h p l. sym (h p l) ∙ s p l, λ h p l. s p l ∙ sym (h p l))
 
 -- ---- the nodes
 

@@ -45,7 +45,6 @@ module _ (N : PetriNet) (sheet : List ℕ) (l : 8195 ≤ length sheet) where
 
 module _ (N : PetriNet) (m : ℕ) (l : 8195 ≤ m) (sheet : List ℕ) where
   cut-overlong : m < length sheet → scheduleFault N (take m sheet) ≡ scheduleFault N sheet
-  unfolding nodeCount entryCount
   cut-overlong k =
       let e : length (take m sheet) ≡ m = length-take-le m sheet (omega arith) in
       sheet-overlong N (take m sheet) (omega arith)

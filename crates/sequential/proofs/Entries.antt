@@ -1,6 +1,7 @@
 -- The entries of arcs and the arcs of the graph are the same thing, and counts are in range.
 use Prim.Native.Nat.{ℕ, _+_, _*_, _/_, _%_, _≤_, _<_}
 use native.Mathlib.Omega.{arith}
+use native.Mathlib.Decide.{decLt}
 use native.Mathlib.Nat.{div-lt-iff-lt-mul, mul-add-div-right, mul-add-mod-self-right, div-eq-of-lt, mod-eq-of-lt, mod-lt, add-zero, mul-le-mul-right, div-add-mod'}
 use mathlib.Core.Path.{_≡_, refl, sym, ap, _∙_}
 use mathlib.Core.List.{List}
@@ -14,12 +15,12 @@ use Rattle.scan.proofs.Tests.{byTest}
 use Rattle.scan.proofs.First.{none-some}
 use Rattle.scan.proofs.Tabulate.{tabulate-at}
 use Rattle.table.specs.Table.{keyAt}
-use Rattle.table.proofs.Table.{entry-at, entry-some}
+use Rattle.table.proofs.Table.{rising, entry-at, entry-some}
 use Rattle.automaton.specs.Automaton.{Closed}
 use Rattle.refusal.specs.Limits.{mostCount}
 use Rattle.sequential.specs.Petri.{PetriNet}
 use Rattle.sequential.specs.Words.{nodeCount, entryCount, entryKey, entryValue, entryWithKey, arcKeys, arcEntry, arc, count, marking, graph, isArc, arcNode, arcTransition}
-use Rattle.sequential.specs.Known.{WordsHold}
+use Rattle.sequential.specs.Known.{ArcsHold, WordsHold}
 use Rattle.sequential.proofs.Words.{words-rise}
 
 -- ---- rows
@@ -41,7 +42,7 @@ pub record ArcEntry (N : PetriNet) (sheet : List ℕ) (i n t m : ℕ) : Type 0 w
   pub transition : arcTransition N sheet i ≡ t
   pub target : entryValue sheet i ≡ m
 
-module _ (N : PetriNet) (sheet : List ℕ) (T : 0 < N .transitions) (w : WordsHold N sheet) where
+module _ (N : PetriNet) (sheet : List ℕ) (T : 0 < N .transitions) (w : ArcsHold N sheet) where
   -- an arc of the graph stands at an entry
   pub arc-entry : (n t m : ℕ) → arc N sheet n t ≡ some m → (i : ℕ) × ArcEntry N sheet i n t m
   unfolding arc arcEntry
@@ -82,7 +83,15 @@ module _ (N : PetriNet) (sheet : List ℕ) (T : 0 < N .transitions) (w : WordsHo
 
   pub entry-target : (i : ℕ) → i < entryCount sheet → isArc N sheet i ≡ true → entryValue sheet i < nodeCount sheet
   unfolding isArc
-  entry-target i l h = w .values i l .target (ltb-true _ _ h)
+  entry-target i l h = w .targets i l (ltb-true _ _ h)
+
+  -- the keys rise, so after a key of a count come only counts
+  pub counts-follow : (i : ℕ) → arcKeys N sheet ≤ entryKey sheet i → (j : ℕ) → i ≤ j → j < entryCount sheet → isArc N sheet j ≡ false
+  unfolding isArc entryKey
+  counts-follow i h j l m = elim (decLt i j) [
+    | yes p ↦ le-ltb (keyAt sheet 2 j) (arcKeys N sheet) (let z = rising sheet 2 (entryCount sheet) (words-rise N sheet w) i j p m in omega arith)
+    | no p ↦ let e : j ≡ i = omega arith in rw e (le-ltb _ _ h)
+  ]
 
   -- ---- the graph is closed
 
@@ -91,15 +100,15 @@ module _ (N : PetriNet) (sheet : List ℕ) (T : 0 < N .transitions) (w : WordsHo
   arc-outside n t l = byTest (ltb n (nodeCount sheet)) (λ e. rw (e, le-ltb t (N .transitions) l)) (λ e. rw e)
 
   pub graph-closed : Closed (graph N sheet)
-  unfolding graph
   graph-closed = record {
     root = w .shape .some-node;
     lands = λ n t m l e. let (i, a) = arc-entry n t m e in rw (← a .target) (entry-target i (a .entry) (a .arc));
     bounded = arc-outside;
   }
 
-  -- ---- counts
+-- ---- counts
 
+module _ (N : PetriNet) (sheet : List ℕ) (w : WordsHold N sheet) where
   pub count-most : (n p : ℕ) → count N sheet n p ≤ mostCount
   unfolding count
   count-most n p = go (ltb n (nodeCount sheet)) (ltb p (N .places)) (entryWithKey sheet (arcKeys N sheet + n * N .places + p)) refl

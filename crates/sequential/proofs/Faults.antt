@@ -27,7 +27,7 @@ use Rattle.sequential.specs.Schedule.{Offers, ToAwait}
 use Rattle.sequential.specs.Tests.{isAwait, offersSome}
 use Rattle.sequential.specs.Checks.{graphChecks}
 use Rattle.sequential.specs.Check.{startFault, nodeFault, rootFault, arcEnabled, landsAt, arcLands, arcFault, reachFault, returnFault, graphTests, graphFault}
-use Rattle.sequential.specs.Known.{WordsHold}
+use Rattle.sequential.specs.Known.{ArcsHold}
 use Rattle.sequential.proofs.Entries.{graph-closed, entry-target, marking-node, marking-at}
 use Rattle.sequential.proofs.Clauses.{enabled↔, await↔, some-out, some-in, one-out, one-in}
 
@@ -81,7 +81,7 @@ module _ (N : PetriNet) (sheet : List ℕ) where
   unfolding graphFault finding foundBy startFault nodeFault rootFault arcFault reachFault returnFault lineFinds
   graph-fault = rw (first-one)
 
-  module _ (T : 0 < N .transitions) (w : WordsHold N sheet) where
+  module _ (T : 0 < N .transitions) (w : ArcsHold N sheet) where
     arcLands↔ : (i : ℕ) → i < entryCount sheet → entryKey sheet i < arcKeys N sheet
         → (arcLands N sheet i ≡ true) ↔ (marking N sheet (entryValue sheet i) ≡ fire N (marking N sheet (arcNode N sheet i)) (arcTransition N sheet i))
     unfolding arcLands landsAt
@@ -92,15 +92,12 @@ module _ (N : PetriNet) (sheet : List ℕ) where
         )
 
     offers-in : (n t : ℕ) → Offers N (graph N sheet) n t → offersSome N (graph N sheet) n ≡ true
-    unfolding graph
     offers-in n t (m, e) = some-in N (graph N sheet) n t (arc-transition (graph N sheet) (graph-closed N sheet T w) n t m e) (m, e)
 
     pub reached↔ : (n : ℕ) → (reachedIn (graph N sheet) (nodeCount sheet - 1) n ≡ true) ↔ Reachable (graph N sheet) n
-    unfolding graph
     reached↔ n = reached↔reachable (graph N sheet) (graph-closed N sheet T w) n
 
     pub leads↔ : (n : ℕ) → n < nodeCount sheet → (leadsIn (graph N sheet) (isAwait N (graph N sheet)) (nodeCount sheet - 1) n ≡ true) ↔ ToAwait N (graph N sheet) n
-    unfolding graph
     leads↔ n l =
         let (f, g) = leadsIn↔leads (graph N sheet) (isAwait N (graph N sheet)) (graph-closed N sheet T w) n l in
         (λ h. leads-await N (graph N sheet) n .0 (f h), λ a. g (leads-await N (graph N sheet) n .1 a))

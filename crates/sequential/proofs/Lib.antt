@@ -1,5 +1,6 @@
 pub mod Words
 pub mod Entries
+pub mod Choices
 pub mod Clauses
 pub mod Faults
 pub mod Accepted

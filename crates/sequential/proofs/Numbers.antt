@@ -17,7 +17,7 @@ use Rattle.sequential.specs.Petri.{PetriNet}
 use Rattle.sequential.specs.Words.{nodeCount, entryCount, entryKey, arcKeys, graph, isArc, arcNode, arcTransition}
 use Rattle.sequential.specs.Tests.{offers}
 use Rattle.sequential.specs.Check.{arcCount}
-use Rattle.sequential.specs.Known.{WordsHold}
+use Rattle.sequential.specs.Known.{ArcsHold}
 use Rattle.sequential.proofs.Words.{words-rise}
 use Rattle.sequential.proofs.Entries.{arc-entry, entry-arc}
 use Rattle.sequential.proofs.Clauses.{offers↔}
@@ -65,13 +65,13 @@ module _ (key : ℕ → ℕ) where
 
 -- ---- arcs
 
-module _ (N : PetriNet) (sheet : List ℕ) (T : 0 < N .transitions) (w : WordsHold N sheet) where
+module _ (N : PetriNet) (sheet : List ℕ) (T : 0 < N .transitions) (w : ArcsHold N sheet) where
   -- by key: the node that a key of an arc names offers the transition that it names
   abbrev pub offersKey : ℕ → Bool
   offersKey k = offers N (graph N sheet) (k / N .transitions) (k % N .transitions)
 
   key-offered : (k : ℕ) → k < arcKeys N sheet → isKey (entryKey sheet) (entryCount sheet) k ≡ true → offersKey k ≡ true
-  unfolding graph arcNode arcTransition
+  unfolding arcNode arcTransition
   key-offered k l h =
       let (i, m, q) = any-out (is (entryKey sheet) k) (entryCount sheet) h in
       let e = eqb-true (entryKey sheet i) k q in
@@ -79,7 +79,7 @@ module _ (N : PetriNet) (sheet : List ℕ) (T : 0 < N .transitions) (w : WordsHo
       offers↔ N (graph N sheet) _ _ .1 (_, rw e at a)
 
   offered-key : (k : ℕ) → offersKey k ≡ true → isKey (entryKey sheet) (entryCount sheet) k ≡ true
-  unfolding graph arcNode arcTransition
+  unfolding arcNode arcTransition
   offered-key k h =
       let (m, a) = offers↔ N (graph N sheet) _ _ .0 h in
       let (i, r) = arc-entry N sheet T w (k / N .transitions) (k % N .transitions) m a in

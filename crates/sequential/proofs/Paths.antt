@@ -6,15 +6,14 @@ use Rattle.automaton.proofs.Lead.{leads-short}
 use Rattle.sequential.specs.Petri.{PetriNet}
 use Rattle.sequential.specs.Words.{nodeCount, graph}
 use Rattle.sequential.specs.Tests.{isAwait}
-use Rattle.sequential.specs.Known.{WordsHold}
+use Rattle.sequential.specs.Known.{ArcsHold}
 use Rattle.sequential.specs.Runs.{ShortWhereAny}
 use Rattle.sequential.proofs.Entries.{graph-closed}
 use Rattle.sequential.proofs.Clauses.{await↔}
 use Rattle.sequential.proofs.Faults.{leads-await}
 
-module _ (N : PetriNet) (sheet : List ℕ) (T : 0 < N .transitions) (w : WordsHold N sheet) where
+module _ (N : PetriNet) (sheet : List ℕ) (T : 0 < N .transitions) (w : ArcsHold N sheet) where
   pub short-where : (n : ℕ) → n < nodeCount sheet → ShortWhereAny N (graph N sheet) n
-  unfolding graph
   short-where n l = record {
     reached = reachable-short (graph N sheet) (graph-closed N sheet T w) n;
     returns = λ a.

@@ -10,7 +10,7 @@ use Rattle.automaton.proofs.Automaton.{arc-transition, follow-first, follow-lan
 use Rattle.sequential.specs.Petri.{PetriNet, initial, fireAll, FiresEnabled, Source, SameChoice}
 use Rattle.sequential.specs.Schedule.{Offers, Await, OneChoiceSet, IsSchedule}
 use Rattle.sequential.specs.Published.{SequentialSchedule}
-use Rattle.sequential.proofs.Clauses.{choice-sym, choice-trans, choice-source}
+use Rattle.sequential.proofs.Choices.{choice-sym, choice-trans, choice-source}
 use Rattle.sequential.proofs.Runs.{arc-below, from-root}
 
 -- ---- a schedule in the published sense

@@ -9,7 +9,7 @@ use Rattle.automaton.proofs.Automaton.{arc-transition, follow-first, follow-on,
 use Rattle.sequential.specs.Petri.{PetriNet, initial, SameChoice, fireAll, FiresEnabled, fires-none, fires-first}
 use Rattle.sequential.specs.Schedule.{Await, IsSchedule}
 use Rattle.sequential.specs.Runs.{Runs, GoesOn}
-use Rattle.sequential.proofs.Clauses.{choice-refl}
+use Rattle.sequential.proofs.Choices.{choice-refl}
 
 module _ (N : PetriNet) (A : Automaton) (c : Closed A) (same : A .transitions ≡ N .transitions) (s : IsSchedule N A) where
   -- only a transition of the net has an arc

@@ -3,8 +3,8 @@ use Prim.Native.Nat.{ℕ, _+_, _≤_}
 use native.Mathlib.Omega.{arith}
 use mathlib.Core.Path.{_≡_, sym, ap, _∙_}
 use mathlib.Core.Logic.{_↔_}
-use mathlib.Core.List.{List}
-use mathlib.Core.Bool.{true, false}
+use mathlib.Core.List.{List, [], _∷_, _++_}
+use mathlib.Core.Bool.{Bool, true, false}
 use mathlib.Core.Option.{none}
 use lib.ListN.{length}
 use lib.Dec.{ltb, eqb}
@@ -12,16 +12,18 @@ use borrow.Author.Tests.{leb-true, leb-false, ltb-true, ltb-false, eqb-true, eqb
 use Rattle.scan.specs.Scan.{orElse, first}
 use Rattle.scan.proofs.Tests.{byTest, decides-not, and-left, and-right, and-both, or-none-left, or-none-right}
 use Rattle.scan.proofs.First.{orElse-assoc}
-use Rattle.table.specs.Table.{Rising}
+use Rattle.table.specs.Table.{KeyPasses, Rising}
 use Rattle.table.proofs.Keys.{key-passes, keys-rise}
 use Rattle.refusal.specs.Limits.{mostCount}
-use Rattle.refusal.specs.Finding.{foundBy, finding}
+use Rattle.refusal.specs.Checks.{_else_, Check, each, AllPass}
+use Rattle.refusal.specs.Finding.{foundAt, foundBy, finding}
+use Rattle.refusal.specs.declared.Position.the-variants.{Entry}
 use Rattle.refusal.proofs.Checks.{Decides, Decided, Lawful, Tells, finding-tells}
 use Rattle.sequential.specs.Petri.{PetriNet}
 use Rattle.sequential.specs.Words.{nodeCount, entryCount, entryKey, entryValue, arcKeys, keyLimit}
-use Rattle.sequential.specs.Checks.{SizesPass, ValuePasses, shapeChecks, wordChecks, WordsPass}
-use Rattle.sequential.specs.Check.{sizesPass, shapeTests, targetFails, countFails, valueFails, shapeFault, entryFault, wordTests, wordsFault}
-use Rattle.sequential.specs.Known.{ShapePasses, WordsHold}
+use Rattle.sequential.specs.Checks.{SizesPass, ArcValuePasses, ValuePasses, shapeChecks, wordChecks, arcWordChecks, WordsPass}
+use Rattle.sequential.specs.Check.{sizesPass, shapeTests, targetFails, countFails, valueFails, arcValueFails, shapeFault, entryFault, wordTests, wordsFault, arcWordsFault}
+use Rattle.sequential.specs.Known.{ShapePasses, ArcsHold, WordsHold}
 
 -- ---- sizes and length
 
@@ -82,38 +84,86 @@ module _ (sheet : List ℕ) (arcs i : ℕ) where
         (λ e. rw e (count-in (v .some (ltb-false _ _ e)) (v .most (ltb-false _ _ e)))),
   )
 
--- ---- the words
+  pub arc-value-passes : (arcValueFails sheet arcs i ≡ false) ↔ ArcValuePasses sheet arcs i
+  unfolding arcValueFails targetFails
+  arc-value-passes = (
+    λ h l. leb-false _ _ (rw (lt-ltb _ _ l) at h),
+    λ v. byTest (ltb (entryKey sheet i) arcs) (λ e. rw (e, lt-leb (nodeCount sheet) (entryValue sheet i) (v (ltb-true _ _ e)))) (λ e. rw e),
+  )
 
-module _ (N : PetriNet) (sheet : List ℕ) where
-  words-lawful : Lawful Unit (wordChecks N sheet) (wordTests N sheet)
+-- ---- the words, for any clause of an entry's value and its test
+
+module _ (N : PetriNet) (sheet : List ℕ) (Value : ℕ → Type 0) (fails : ℕ → Bool) (decided : (i : ℕ) → (fails i ≡ false) ↔ Value i) where
+  abbrev checks : List Check
+  checks = shapeChecks sheet ++ (each (entryCount sheet) Entry (KeyPasses sheet 2 (keyLimit N sheet) else 8 ∷ Value else 9 ∷ []) ∷ [])
+
+  lawful : Lawful Unit checks (wordTests N sheet fails)
   unfolding Lawful Decided Decides
-  words-lawful = (
+  lawful = (
     λ h. (ltb-false _ _, le-ltb _ _),
     (
       λ h. decides-not _ (sizes-decided sheet .0) (sizes-decided sheet .1),
       (
         λ h. decides-not _ (eqb-true _ _) (eq-eqb _ _),
-        (λ h i l. (key-passes sheet 2 (keyLimit N sheet) i, λ k. (value-passes sheet (arcKeys N sheet) i, λ v. tt)), tt),
+        (λ h i l. (key-passes sheet 2 (keyLimit N sheet) i, λ k. (decided i, λ v. tt)), tt),
       ),
     ),
   )
 
+  tell : Tells (finding checks (wordTests N sheet fails)) checks
+  tell = finding-tells Unit checks (wordTests N sheet fails) lawful tt
+
+  -- the functions' parts, one after the other
+  parts : finding checks (wordTests N sheet fails) ≡ orElse (shapeFault sheet) (first (entryFault sheet (keyLimit N sheet) fails) (entryCount sheet))
+  unfolding shapeFault entryFault finding foundBy foundAt
+  parts = sym (orElse-assoc _ _ _ ∙ ap (orElse _) (orElse-assoc _ _ _))
+
+module _ (N : PetriNet) (sheet : List ℕ) where
   pub words-tell : Tells (wordsFault N sheet) (wordChecks N sheet)
   unfolding wordsFault
-  words-tell = finding-tells Unit (wordChecks N sheet) (wordTests N sheet) words-lawful tt
+  words-tell = tell N sheet _ _ (value-passes sheet (arcKeys N sheet))
+
+  pub words-fault : wordsFault N sheet ≡ orElse (shapeFault sheet) (first (entryFault sheet (keyLimit N sheet) (valueFails sheet (arcKeys N sheet))) (entryCount sheet))
+  unfolding wordsFault
+  words-fault = parts N sheet _ _ (value-passes sheet (arcKeys N sheet))
+
+  pub arcs-tell : Tells (arcWordsFault N sheet) (arcWordChecks N sheet)
+  unfolding arcWordsFault
+  arcs-tell = tell N sheet _ _ (arc-value-passes sheet (arcKeys N sheet))
+
+  pub arcs-fault : arcWordsFault N sheet ≡ orElse (shapeFault sheet) (first (entryFault sheet (keyLimit N sheet) (arcValueFails sheet (arcKeys N sheet))) (entryCount sheet))
+  unfolding arcWordsFault
+  arcs-fault = parts N sheet _ _ (arc-value-passes sheet (arcKeys N sheet))
+
+  -- ---- what they hold
+
+  pub arcs-hold : AllPass (arcWordChecks N sheet) → ArcsHold N sheet
+  arcs-hold (a, (b, (c, (d, u)))) = record {
+    shape = record { some-node = b .0; few-nodes = b .1; few-entries = b .2; whole = c };
+    keys = λ i l. d i l .0;
+    targets = λ i l. d i l .1 .0;
+  }
+
+  pub arcs-pass : ArcsHold N sheet → AllPass (arcWordChecks N sheet)
+  arcs-pass w =
+      let s = w .shape in
+      let e = s .whole in
+      (omega arith, ((s .some-node, s .few-nodes, s .few-entries), (e, (λ i l. (w .keys i l, (w .targets i l, tt)), tt))))
 
   pub words-hold : WordsPass N sheet → WordsHold N sheet
   words-hold (a, (b, (c, (d, u)))) = record {
-    shape = record { some-node = b .0; few-nodes = b .1; few-entries = b .2; whole = c };
-    keys = λ i l. d i l .0;
+    arcs = arcs-hold (a, (b, (c, (λ i l. (d i l .0, (d i l .1 .0 .target, tt)), tt))));
     values = λ i l. d i l .1 .0;
   }
 
   pub words-pass : WordsHold N sheet → WordsPass N sheet
-  words-pass w =
-      let s = w .shape in
-      let e = s .whole in
-      (omega arith, ((s .some-node, s .few-nodes, s .few-entries), (e, (λ i l. (w .keys i l, (w .values i l, tt)), tt))))
+  words-pass w = let (a, (b, (c, (d, u)))) = arcs-pass (w .arcs) in (a, (b, (c, (λ i l. (d i l .0, (w .values i l, tt)), tt))))
+
+  pub arcs-out : arcWordsFault N sheet ≡ none → ArcsHold N sheet
+  arcs-out h = arcs-hold (arcs-tell .passes .0 h)
+
+  pub arcs-in : ArcsHold N sheet → arcWordsFault N sheet ≡ none
+  arcs-in w = arcs-tell .passes .1 (arcs-pass w)
 
   pub words-out : wordsFault N sheet ≡ none → WordsHold N sheet
   words-out h = words-hold (words-tell .passes .0 h)
@@ -121,14 +171,9 @@ module _ (N : PetriNet) (sheet : List ℕ) where
   pub words-in : WordsHold N sheet → wordsFault N sheet ≡ none
   words-in w = words-tell .passes .1 (words-pass w)
 
-  -- the functions' parts, one after the other
-  pub words-fault : wordsFault N sheet ≡ orElse (shapeFault sheet) (first (entryFault sheet (arcKeys N sheet) (keyLimit N sheet)) (entryCount sheet))
-  unfolding wordsFault shapeFault entryFault finding foundBy
-  words-fault = sym (orElse-assoc _ _ _ ∙ ap (orElse _) (orElse-assoc _ _ _))
-
   -- the keys rise, and lie within the words
-  pub words-rise : WordsHold N sheet → Rising sheet 2 (entryCount sheet)
+  pub words-rise : ArcsHold N sheet → Rising sheet 2 (entryCount sheet)
   words-rise w = keys-rise sheet 2 (keyLimit N sheet) (entryCount sheet) (w .keys)
 
-  pub words-fit : WordsHold N sheet → 2 + entryCount sheet ≤ length sheet
+  pub words-fit : ArcsHold N sheet → 2 + entryCount sheet ≤ length sheet
   words-fit w = omega (arith, w .shape .whole)

@@ -5,14 +5,13 @@ use mathlib.Core.Bool.{Bool, cond, not, _&&_, _||_}
 use mathlib.Core.Option.{Option}
 use lib.ListN.{length}
 use lib.Dec.{ltb, leb, eqb}
-use Rattle.scan.specs.Scan.{orElse, all, count}
-use Rattle.table.specs.Table.{KeyPasses}
+use Rattle.scan.specs.Scan.{orElse, when, all, count}
 use Rattle.table.specs.Keys.{keyFails}
 use Rattle.automaton.specs.Reach.{reachedIn, leadsIn}
 use Rattle.refusal.specs.Limits.{mostNodes, mostEntries, mostCount}
 use Rattle.refusal.specs.Verdict.{verdictOf, andThen}
-use Rattle.refusal.specs.Checks.{_else_}
-use Rattle.refusal.specs.Finding.{Tests, asked, foundAt, lineFinds, finding}
+use Rattle.refusal.specs.Refusal.{refusal}
+use Rattle.refusal.specs.Finding.{Tests, asked, lineFinds, finding}
 use Rattle.refusal.specs.declared.Position.the-variants.{Entry}
 use Rattle.refusal.specs.declared.Refusal.{Refusal}
 use Rattle.refusal.specs.declared.Verdict.{Verdict}
@@ -20,7 +19,7 @@ use Rattle.net.specs.Check.{netReply}
 use Rattle.sequential.specs.Petri.{PetriNet, petriNet, firedCount}
 use Rattle.sequential.specs.Words.{nodeCount, entryCount, entryKey, entryValue, arcKeys, keyLimit, marking, graph, isArc, arcNode, arcTransition, count as countAt}
 use Rattle.sequential.specs.Tests.{enabled, isAwait, offersSome, offersOneChoiceSet}
-use Rattle.sequential.specs.Checks.{ValuePasses, shapeChecks, wordChecks, graphChecks}
+use Rattle.sequential.specs.Checks.{shapeChecks, wordChecks, arcWordChecks, graphChecks}
 
 -- ---- the words
 
@@ -47,24 +46,30 @@ countFails value = eqb value 0 || ltb mostCount value
 unfoldable pub valueFails : List ℕ → ℕ → ℕ → Bool
 valueFails sheet arcs i = cond (ltb (entryKey sheet i) arcs) (targetFails (nodeCount sheet) (entryValue sheet i)) (countFails (entryValue sheet i))
 
-abbrev pub entryTests : List ℕ → ℕ → ℕ → Tests
-entryTests sheet arcs limit = keyFails sheet 2 limit ∷ valueFails sheet arcs ∷ []
+-- of arcs alone
+unfoldable pub arcValueFails : List ℕ → ℕ → ℕ → Bool
+arcValueFails sheet arcs i = ltb (entryKey sheet i) arcs && targetFails (nodeCount sheet) (entryValue sheet i)
 
 -- 6 and 7
 unfoldable pub shapeFault : List ℕ → Option Refusal
 shapeFault sheet = finding (shapeChecks sheet) (shapeTests sheet)
 
--- 8 and 9 at one entry
-unfoldable pub entryFault : List ℕ → ℕ → ℕ → ℕ → Option Refusal
-entryFault sheet arcs limit i = foundAt Entry (KeyPasses sheet 2 limit else 8 ∷ ValuePasses sheet arcs else 9 ∷ []) (entryTests sheet arcs limit) i
+-- 8 and 9 at one entry, given the test of its value
+unfoldable pub entryFault : List ℕ → ℕ → (ℕ → Bool) → ℕ → Option Refusal
+entryFault sheet limit fails i = orElse (when (keyFails sheet 2 limit i) (refusal 8 (Entry i))) (when (fails i) (refusal 9 (Entry i)))
 
 module _ (N : PetriNet) (sheet : List ℕ) where
-  abbrev pub wordTests : List Tests
-  wordTests = shapeTests sheet ++ (entryTests sheet (arcKeys N sheet) (keyLimit N sheet) ∷ [])
+  -- given the test of an entry's value
+  abbrev pub wordTests : (ℕ → Bool) → List Tests
+  wordTests fails = shapeTests sheet ++ ((keyFails sheet 2 (keyLimit N sheet) ∷ fails ∷ []) ∷ [])
 
   -- 6 to 9, in the order of §7.56
   unfoldable pub wordsFault : Option Refusal
-  wordsFault = finding (wordChecks N sheet) wordTests
+  wordsFault = finding (wordChecks N sheet) (wordTests (valueFails sheet (arcKeys N sheet)))
+
+  -- 6 to 8, and 9 of arcs alone
+  unfoldable pub arcWordsFault : Option Refusal
+  arcWordsFault = finding (arcWordChecks N sheet) (wordTests (arcValueFails sheet (arcKeys N sheet)))
 
   -- ---- the graph
 

@@ -18,9 +18,13 @@ use Rattle.sequential.specs.Schedule.{Offers, Await, OneChoiceSet, ToAwa
 abbrev pub SizesPass : List ℕ → Type 0
 SizesPass sheet = (1 ≤ nodeCount sheet) × (nodeCount sheet ≤ mostNodes) × (entryCount sheet ≤ mostEntries)
 
--- §3.5 for an arc, §3.6 for a count, with the limit of §1.5; keys below `arcs` are those of arcs
+-- §3.5; keys below `arcs` are those of arcs
+abbrev pub ArcValuePasses : List ℕ → ℕ → ℕ → Type 0
+ArcValuePasses sheet arcs i = entryKey sheet i < arcs → entryValue sheet i < nodeCount sheet
+
+-- and §3.6 for a count, with the limit of §1.5
 pub record ValuePasses (sheet : List ℕ) (arcs i : ℕ) : Type 0 where
-  pub target : entryKey sheet i < arcs → entryValue sheet i < nodeCount sheet
+  pub target : ArcValuePasses sheet arcs i
   pub some : arcs ≤ entryKey sheet i → 1 ≤ entryValue sheet i
   pub most : arcs ≤ entryKey sheet i → entryValue sheet i ≤ mostCount
 
@@ -36,6 +40,10 @@ module _ (N : PetriNet) (sheet : List ℕ) where
   -- then §7.8 and §7.9 at each entry, in the order of §7.56; positions are those of §7.53
   abbrev pub wordChecks : List Check
   wordChecks = shapeChecks sheet ++ (each (entryCount sheet) Entry (KeyPasses sheet 2 (keyLimit N sheet) else 8 ∷ ValuePasses sheet (arcKeys N sheet) else 9 ∷ []) ∷ [])
+
+  -- the same with §7.9 of arcs alone, whatever the counts are
+  abbrev pub arcWordChecks : List Check
+  arcWordChecks = shapeChecks sheet ++ (each (entryCount sheet) Entry (KeyPasses sheet 2 (keyLimit N sheet) else 8 ∷ ArcValuePasses sheet (arcKeys N sheet) else 9 ∷ []) ∷ [])
 
   -- the words are right: §3.1 to §3.6
   abbrev pub WordsPass : Type 0

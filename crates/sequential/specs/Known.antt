@@ -10,7 +10,7 @@ use Rattle.net.specs.Check.{netReply}
 use Rattle.sequential.specs.Petri.{PetriNet, petriNet}
 use Rattle.sequential.specs.Words.{nodeCount, entryCount, arcKeys, keyLimit, graph}
 use Rattle.sequential.specs.Schedule.{IsSchedule}
-use Rattle.sequential.specs.Checks.{ValuePasses}
+use Rattle.sequential.specs.Checks.{ArcValuePasses, ValuePasses}
 
 -- 6 and 7 refuse nothing
 pub record ShapePasses (sheet : List ℕ) : Type 0 where
@@ -19,10 +19,15 @@ pub record ShapePasses (sheet : List ℕ) : Type 0 where
   pub few-entries : entryCount sheet ≤ mostEntries
   pub whole : length sheet ≡ 2 + 2 * entryCount sheet
 
--- 6 to 9 refuse nothing
-pub record WordsHold (N : PetriNet) (sheet : List ℕ) : Type 0 where
+-- 6 to 8 refuse nothing, and 9 no arc
+pub record ArcsHold (N : PetriNet) (sheet : List ℕ) : Type 0 where
   pub shape : ShapePasses sheet
   pub keys : (i : ℕ) → i < entryCount sheet → KeyPasses sheet 2 (keyLimit N sheet) i
+  pub targets : (i : ℕ) → i < entryCount sheet → ArcValuePasses sheet (arcKeys N sheet) i
+
+-- 6 to 9 refuse nothing
+pub record WordsHold (N : PetriNet) (sheet : List ℕ) : Type 0 where
+  pub arcs : ArcsHold N sheet
   pub values : (i : ℕ) → i < entryCount sheet → ValuePasses sheet (arcKeys N sheet) i
 
 -- 1 to 17 refuse nothing

@@ -11,10 +11,10 @@ use Rattle.automaton.specs.Automaton.{Automaton}
 use Rattle.sequential.specs.Petri.{PetriNet}
 
 module _ (sheet : List ℕ) where
-  unfoldable pub nodeCount : ℕ
+  abbrev pub nodeCount : ℕ
   nodeCount = getD sheet 0 0
 
-  unfoldable pub entryCount : ℕ
+  abbrev pub entryCount : ℕ
   entryCount = getD sheet 1 0
 
   unfoldable pub entryKey : ℕ → ℕ
@@ -51,7 +51,7 @@ module _ (N : PetriNet) (sheet : List ℕ) where
   marking n = cond (ltb n (nodeCount sheet)) (tabulate (count n) (N .places)) []
 
   -- the graph that the words say, each node with its marking
-  unfoldable pub graph : Automaton
+  abbrev pub graph : Automaton
   graph = record { nodes = nodeCount sheet; transitions = N .transitions; arc = arc; label = marking }
 
   -- ---- the arc that an entry says

@@ -1,15 +1,21 @@
 -- Keys in order: what the test of a key says, and that keys which all pass it rise.
-use Prim.Native.Nat.{ℕ, _+_, _-_, _<_}
+use Prim.Native.Nat.{ℕ, _+_, _-_, _≤_, _<_}
 use native.Mathlib.Omega.{arith}
-use mathlib.Core.Path.{_≡_}
+use mathlib.Core.Path.{_≡_, sym}
 use mathlib.Core.Logic.{_↔_}
 use mathlib.Core.List.{List}
 use mathlib.Core.Bool.{false}
+use lib.ListN.{length, List·getD-eq-default}
 use lib.Dec.{ltb, leb}
 use borrow.Author.Tests.{leb-false, ltb-true, lt-ltb, lt-leb}
 use Rattle.scan.proofs.Tests.{byTest, or-none-left, or-none-right}
 use Rattle.table.specs.Table.{keyAt, Rising, KeyPasses}
 use Rattle.table.specs.Keys.{keyFails}
+
+-- past the end of the words a key is 0
+pub key-past : (words : List ℕ) (offset i : ℕ) → length words ≤ offset + i → 0 ≡ keyAt words offset i
+unfolding keyAt
+key-past words offset i h = sym (List·getD-eq-default words 0 h)
 
 module _ (words : List ℕ) (offset limit : ℕ) where
   abbrev key : ℕ → ℕ

@@ -1,17 +1,12 @@
--- A walk along keys that rise: from the lower bound of a key to that of the next, and the entry met on the way.
+-- A walk along keys that rise: from the lower bound of a key to that of the next.
 use Prim.Native.Nat.{ℕ, suc, _+_, _<_}
 use native.Mathlib.Decide.{decLt}
 use native.Mathlib.Omega.{arith}
 use mathlib.Core.Path.{_≡_}
 use mathlib.Core.List.{List}
-use mathlib.Core.Bool.{_&&_}
-use mathlib.Core.Option.{none, some}
-use lib.Dec.{ltb, eqb}
-use borrow.Author.Tests.{ltb-true, lt-ltb, eqb-true, eq-eqb}
-use Rattle.scan.proofs.Tests.{byTest, and-left, and-right}
-use Rattle.table.specs.Table.{keyAt, entryOf, Rising}
+use Rattle.table.specs.Table.{keyAt, Rising}
 use Rattle.table.proofs.Table.{rising}
-use Rattle.table.proofs.Bisection.{LowerBound, lower-bound-entry}
+use Rattle.table.proofs.Bisection.{LowerBound}
 
 module _ (words : List ℕ) (offset entries : ℕ) (up : Rising words offset entries) where
   pub next-hit : (k r : ℕ) → r < entries → keyAt words offset r ≡ k → LowerBound words offset entries k r → LowerBound words offset entries (suc k) (r + 1)
@@ -31,12 +26,3 @@ module _ (words : List ℕ) (offset entries : ℕ) (up : Rising words offset ent
           rw z (elim (decLt k (keyAt words offset r)) [ yes g ↦ g | no g ↦ absurd (h (omega arith) (omega arith)) ])
     ];
   }
-
-  -- the entry at the lower bound has the key, or none has
-  pub entry-hit : (k r : ℕ) → r < entries → keyAt words offset r ≡ k → LowerBound words offset entries k r → entryOf words offset entries k ≡ some r
-  entry-hit k r l e b = rw (lower-bound-entry words offset entries k up r b, lt-ltb r entries l, eq-eqb (keyAt words offset r) k e)
-
-  pub entry-miss : (k r : ℕ) → (r < entries → keyAt words offset r ≡ k → ⊥) → LowerBound words offset entries k r → entryOf words offset entries k ≡ none
-  entry-miss k r h b =
-      rw (lower-bound-entry words offset entries k up r b) (byTest (ltb r entries && eqb (keyAt words offset r) k)
-      (λ t. absurd (h (ltb-true r entries (and-left (ltb r entries) _ t)) (eqb-true _ k (and-right (ltb r entries) _ t)))) (λ t. rw t))

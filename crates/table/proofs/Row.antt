@@ -1,125 +1,128 @@
--- The walk through a run of keys: its turns, what holds of any words, and, where the keys rise, that it finds each key's entry.
-use Prim.Native.Nat.{ℕ, zero, suc, _+_, _≤_, _<_}
-use native.Mathlib.Nat.{add-zero}
-use native.Mathlib.Numerals.{add-one}
+-- The rows of a run of keys: on any words each place is 0 or has an entry with its key; where the keys rise, the walk meets every entry of the run.
+use Prim.Native.Nat.{ℕ, zero, suc, _+_, _*_, _-_, _≤_, _<_}
+use native.Mathlib.Decide.{ℕ-discrete, decLt}
 use native.Mathlib.Omega.{arith}
 use mathlib.Core.Path.{_≡_, refl, sym, ap, _∙_}
 use mathlib.Core.List.{List}
-use mathlib.Core.Bool.{Bool, true, false, cond, _&&_}
-use mathlib.Core.Option.{none, some}
-use lib.ListN.{length, getD}
-use lib.Dec.{ltb, eqb}
-use borrow.Author.Tests.{ltb-true, lt-ltb, le-ltb, eqb-true, eq-eqb}
-use Rattle.scan.proofs.Tests.{byTest, true-false, and-left, and-right, and-both}
-use Rattle.scan.proofs.Tabulate.{tabulate-at}
-use Rattle.table.specs.Table.{keyAt, entryOf, Rising}
+use mathlib.Core.Logic.{⊎-elim}
+use mathlib.Core.Bool.{cond}
+use mathlib.Core.Option.{Option, none, some}
+use lib.ListN.{length, getD, set, replicate, length-set, getD-replicate}
+use lib.Seq.{getD-set-same}
+use lib.Dec.{ltb, leb}
+use borrow.Author.Tests.{ltb-true, ltb-false, lt-ltb, le-leb, lt-leb}
+use Rattle.scan.specs.Scan.{tabulate, foundOr}
+use Rattle.scan.proofs.Tests.{byTest}
+use Rattle.scan.proofs.Tabulate.{tabulate-is}
+use Rattle.table.specs.Table.{keyAt, valueAt, entryOf, Rising}
 use Rattle.table.specs.Bisection.{lowerBound}
-use Rattle.table.specs.Row.{rowHit, rowPointer, rowEntry, entryRow, entryCode}
-use Rattle.table.proofs.Bisection.{LowerBound, lower-bound, lower-bound-fits, lower-bound-entry}
-use Rattle.table.proofs.Next.{next-hit, next-miss}
+use Rattle.table.specs.Row.{entryTold, entryCode, walk, runRow, entryRow, valueRow}
+use Rattle.table.proofs.Table.{rising, entry-unique, entry-some, entry-none}
+use Rattle.table.proofs.Bisection.{lower-bound}
+use Rattle.table.proofs.Walk.{AtPlace, place-is, walk-at, run-length, run-at, run-past}
 
-code-cond : (b : Bool) (i : ℕ) → cond b (i + 1) 0 ≡ entryCode (cond b (some i) none)
-code-cond true i = refl
-code-cond false i = refl
+-- ---- keys that rise
+
+module _ (words : List ℕ) (offset entries first width : ℕ) (told : ℕ → ℕ) (up : Rising words offset entries) where
+  abbrev key : ℕ → ℕ
+  key = keyAt words offset
+
+  abbrev HasPlace : ℕ → ℕ → Type 0
+  HasPlace = AtPlace words offset entries first width
+
+  abbrev walked : ℕ → ℕ → List ℕ → List ℕ
+  walked = walk words offset first width told
+
+  abbrev endRow : List ℕ
+  endRow = runRow words offset entries first width told
+
+  -- the walk meets each entry of the run that is still to come
+  walk-meets : (left i j p : ℕ) (row : List ℕ) → left ≤ entries - i → length row ≡ 32 → p < 32 → HasPlace j p → i ≤ j → j < i + left → first ≤ key i
+      → getD (walked left i row) p 0 ≡ told j
+  unfolding walk
+  walk-meets zero i j p row m w l a h k b = absurd (omega arith)
+  walk-meets (suc left) i j p row m w l a h k b = elim (ℕ-discrete i j) [
+    | yes q ↦ rw (q, place-is words offset entries first width j p a, lt-ltb p 32 l) (⊎-elim (λ e. e ∙ getD-set-same row p (told j) 0 (omega arith))
+        (λ (u, c, e). e ∙ ap told (entry-unique words offset entries up u j (c .entry) (a .entry) (c .has ∙ sym (a .has))))
+        (walk-at words offset entries first width told left (j + 1) p (set row p (told j)) (omega arith) (length-set row p (told j) ∙ w)))
+    | no q ↦
+        let r = rising words offset entries up i j (omega arith) (a .entry) in
+        let s : HasPlace i (key i - first) = record { entry = omega arith; has = omega arith; wide = omega (arith, a .wide, a .has) } in
+        rw (place-is words offset entries first width i _ s, lt-ltb (key i - first) 32 (omega (arith, a .has)))
+        (walk-meets left (i + 1) j p _ (omega arith) (length-set row _ _ ∙ w) l a (omega arith) (omega arith)
+        (omega (arith, rising words offset entries up i (i + 1) (omega arith) (omega (arith, a .entry)))))
+  ]
+
+  module _ (fits : offset + entries ≤ length words) where
+    -- below the width a row has what the key's entry tells, 0 where there is none, and past it 0
+    pub run-right : (p : ℕ) → p < 32 → getD endRow p 0 ≡ cond (ltb p width) (foundOr 0 told (entryOf words offset entries (first + p))) 0
+    unfolding runRow
+    run-right p l = byTest (ltb p width)
+        (λ h. rw h (go (ltb-true _ _ h) (entryOf words offset entries (first + p)) refl))
+        (λ h. rw h (run-past words offset entries first width told p l (ltb-false p width h)))
+      where
+        start : ℕ
+        start = lowerBound words offset entries first
+
+        go : p < width → (o : Option ℕ) → entryOf words offset entries (first + p) ≡ o → getD endRow p 0 ≡ foundOr 0 told o
+        go m none e = ⊎-elim (λ z. z) (λ (j, a, z). absurd (entry-none words offset entries (first + p) e j (a .entry) (a .has))) (run-at words offset entries first width told p l)
+        go m (some j) e =
+            let (k, h) = entry-some words offset entries (first + p) j e in
+            let b = lower-bound words offset entries first up fits in
+            let from : start ≤ j = elim (decLt j start) [ yes q ↦ absurd (let z = b .below j q in omega arith) | no q ↦ omega arith ] in
+            walk-meets (entries - start) start j p (replicate 32 0) (omega arith) refl l (record { entry = k; has = h; wide = m }) from (omega arith)
+            (b .above start (omega arith) (omega arith))
+
+    pub run-is : (f : ℕ → ℕ) → ((p : ℕ) → p < 32 → f p ≡ cond (ltb p width) (foundOr 0 told (entryOf words offset entries (first + p))) 0) → endRow ≡ tabulate f 32
+    run-is f h = tabulate-is f 0 32 endRow (run-length words offset entries first width told) (λ p l. run-right p l ∙ sym (h p l))
+
+-- ---- the two rows
 
 module _ (words : List ℕ) (offset entries first width : ℕ) where
-  abbrev hit : ℕ → ℕ → Bool
-  hit = rowHit words offset entries first width
+  pub value-row-unfit : length words < offset + 2 * entries → replicate 32 0 ≡ valueRow words offset entries first width
+  unfolding valueRow
+  value-row-unfit h = rw (lt-leb (offset + 2 * entries) (length words) h)
 
-  abbrev pointer : ℕ → ℕ
-  pointer = rowPointer words offset entries first width
-
-  abbrev entry : ℕ → ℕ
-  entry = rowEntry words offset entries first width
-
-  -- ---- the turns of the loop
-
-  pub pointer-start : lowerBound words offset entries first ≡ pointer 0
-  unfolding rowPointer
-  pointer-start = refl
-
-  pub pointer-hit : (p i : ℕ) → i ≡ pointer p → hit p i ≡ true → i + 1 ≡ pointer (p + 1)
-  unfolding rowPointer
-  pointer-hit p i e h = rw (add-one p, ← e, h)
-
-  pub pointer-miss : (p i : ℕ) → i ≡ pointer p → hit p i ≡ false → i ≡ pointer (p + 1)
-  unfolding rowPointer
-  pointer-miss p i e h = rw (add-one p, ← e, h)
-
-  pub entry-hit : (p i : ℕ) → i ≡ pointer p → hit p i ≡ true → i + 1 ≡ entry p
-  unfolding rowEntry
-  entry-hit p i e h = rw (← e, h)
-
-  pub entry-miss : (p i : ℕ) → i ≡ pointer p → hit p i ≡ false → 0 ≡ entry p
-  unfolding rowEntry
-  entry-miss p i e h = rw (← e, h)
+  pub value-row-fits : offset + 2 * entries ≤ length words → runRow words offset entries first width (valueAt words offset entries) ≡ valueRow words offset entries first width
+  unfolding valueRow
+  value-row-fits h = rw (le-leb (offset + 2 * entries) (length words) h)
 
   -- ---- any words
 
-  pub hit-within : (p i : ℕ) → hit p i ≡ true → i < entries
-  unfolding rowHit
-  hit-within p i h = ltb-true i entries (and-left (ltb i entries) _ (and-right (ltb p width) _ h))
-
-  -- the walk does not go back
-  pointer-from : (p : ℕ) → lowerBound words offset entries first ≤ pointer p
-  unfolding rowPointer
-  pointer-from zero = omega arith
-  pointer-from (suc p) =
-      let a = pointer-from p in
-      byTest (hit p (pointer p)) (λ h. rw h (omega arith)) (λ h. rw h a)
-
-  pub pointer-fits : (p : ℕ) → pointer p < entries → offset + entries ≤ length words
-  pointer-fits p l = lower-bound-fits words offset entries first (let a = pointer-from p in omega arith)
-
-  entry-most : (p : ℕ) → entry p ≤ entries
-  unfolding rowEntry
-  entry-most p = byTest (hit p (pointer p)) (λ h. rw h (let l = hit-within p (pointer p) h in omega arith)) (λ h. rw h (omega arith))
-
-  entry-fits : (p : ℕ) → 0 < entry p → offset + entries ≤ length words
-  unfolding rowEntry
-  entry-fits p l = byTest (hit p (pointer p)) (λ h. pointer-fits p (hit-within p (pointer p) h)) (λ h. absurd (omega (arith, rw h at l)))
-
-  pub entry-past : (p : ℕ) → width ≤ p → entry p ≡ 0
-  unfolding rowEntry rowHit
-  entry-past p l = rw (le-ltb p width l)
-
-  pub row-at : (p : ℕ) → p < 32 → getD (entryRow words offset entries first width) p 0 ≡ entry p
-  unfolding entryRow
-  row-at p l = tabulate-at entry 0 32 p l
-
-  -- each of the row is 0, or 1 plus an entry
+  -- each of a row of entries is 0, or 1 plus an entry
   pub row-most : (p : ℕ) → p < 32 → getD (entryRow words offset entries first width) p 0 ≤ entries
-  row-most p l = rw (row-at p l) (entry-most p)
+  unfolding entryRow
+  row-most p l = ⊎-elim (λ e. omega arith) (λ (j, a, e). omega (arith, a .entry)) (run-at words offset entries first width entryTold p l)
 
-  -- an entry that is found tells that the keys fit the words
-  pub row-fits : (p : ℕ) → p < 32 → 0 < getD (entryRow words offset entries first width) p 0 → offset + entries ≤ length words
-  row-fits p l h = entry-fits p (rw (row-at p l) at h)
-
-  -- past the width the row is 0
+  -- past the width a row is 0
   pub row-past : (p : ℕ) → p < 32 → width ≤ p → getD (entryRow words offset entries first width) p 0 ≡ 0
-  row-past p l h = row-at p l ∙ entry-past p h
+  unfolding entryRow
+  row-past p l h = run-past words offset entries first width entryTold p l h
+
+  pub value-past : (p : ℕ) → p < 32 → width ≤ p → getD (valueRow words offset entries first width) p 0 ≡ 0
+  unfolding valueRow
+  value-past p l h = byTest (leb (offset + 2 * entries) (length words))
+      (λ e. rw e (run-past words offset entries first width (valueAt words offset entries) p l h)) (λ e. rw e (getD-replicate 32 p 0 0 l))
 
   -- ---- keys that rise
 
-  module _ (up : Rising words offset entries) (fits : offset + entries ≤ length words) where
-    pointer-bound : (p : ℕ) → p ≤ width → LowerBound words offset entries (first + p) (pointer p)
-    unfolding rowPointer rowHit
-    pointer-bound zero l = rw add-zero (lower-bound words offset entries first up fits)
-    pointer-bound (suc p) l =
-        let b = pointer-bound p (omega arith) in
-        let r = pointer p in
-        let e : first + suc p ≡ suc (first + p) = omega arith in
-        rw (e, lt-ltb p width (omega arith)) (byTest (ltb r entries && eqb (keyAt words offset r) (first + p))
-        (λ h. rw h (next-hit words offset entries up (first + p) r (ltb-true r entries (and-left (ltb r entries) _ h)) (eqb-true _ _ (and-right (ltb r entries) _ h)) b))
-        (λ h. rw h (next-miss words offset entries up (first + p) r (λ m q. true-false _ (and-both _ _ (lt-ltb r entries m) (eq-eqb _ _ q)) h) b)))
+  module _ (up : Rising words offset entries) where
+    -- below the width a row has the entry with the key, or its value
+    pub row-entry : offset + entries ≤ length words → (p : ℕ) → p < 32 → p < width → getD (entryRow words offset entries first width) p 0 ≡ entryCode (entryOf words offset entries (first + p))
+    unfolding entryRow
+    row-entry fits p l h = run-right words offset entries first width entryTold up fits p l ∙ rw (lt-ltb p width h)
 
-    pub entry-right : (p : ℕ) → p < width → entry p ≡ entryCode (entryOf words offset entries (first + p))
-    unfolding rowEntry rowHit
-    entry-right p l =
-        let r = pointer p in
-        rw (lt-ltb p width l) (code-cond (ltb r entries && eqb (keyAt words offset r) (first + p)) r
-        ∙ ap entryCode (sym (lower-bound-entry words offset entries (first + p) up r (pointer-bound p (omega arith)))))
+    pub value-at : offset + 2 * entries ≤ length words → (p : ℕ) → p < 32 → p < width
+        → getD (valueRow words offset entries first width) p 0 ≡ foundOr 0 (valueAt words offset entries) (entryOf words offset entries (first + p))
+    value-at fits p l h = rw (← value-row-fits fits) (run-right words offset entries first width (valueAt words offset entries) up (omega arith) p l ∙ rw (lt-ltb p width h))
 
-    -- below the width the row has the entry with the key
-    pub row-entry : (p : ℕ) → p < 32 → p < width → getD (entryRow words offset entries first width) p 0 ≡ entryCode (entryOf words offset entries (first + p))
-    row-entry p l h = row-at p l ∙ entry-right p h
+    -- as a table
+    pub entry-row-is : offset + entries ≤ length words → (f : ℕ → ℕ)
+        → ((p : ℕ) → p < 32 → f p ≡ cond (ltb p width) (entryCode (entryOf words offset entries (first + p))) 0) → entryRow words offset entries first width ≡ tabulate f 32
+    unfolding entryRow
+    entry-row-is fits = run-is words offset entries first width entryTold up fits
+
+    pub value-row-is : offset + 2 * entries ≤ length words → (f : ℕ → ℕ)
+        → ((p : ℕ) → p < 32 → f p ≡ cond (ltb p width) (foundOr 0 (valueAt words offset entries) (entryOf words offset entries (first + p))) 0)
+        → valueRow words offset entries first width ≡ tabulate f 32
+    value-row-is fits f h = sym (value-row-fits fits) ∙ run-is words offset entries first width (valueAt words offset entries) up (omega arith) f h

@@ -1,10 +1,12 @@
-// Keyed words (§2.1, §3.1): from an offset on, as many keys as there are entries and then as many values. The look-up of a key by bisection,
-// and of a run of keys by one walk.
+// Keyed words (§2.1, §3.1): from an offset on, as many keys as there are entries and then as many values. The test of a key, the look-up of
+// a key by bisection, and of a run of keys by one walk over its entries.
 ghost use mathlib.Core.Path.{_≡_};
-ghost use Prim.Native.Nat.{_+_, _≤_, _<_};
+ghost use Prim.Native.Nat.{_+_, _<_};
 ghost use lib.ListN.{length};
+ghost use Rattle.table.specs.Table.{keyAt};
+ghost use Rattle.table.specs.Keys.{keyFails};
 ghost use Rattle.table.specs.Bisection.{lowerBound, lookUp};
-ghost use Rattle.table.specs.Row.{rowHit, entryRow};
+ghost use Rattle.table.specs.Row.{runPlace, entryRow, valueRow};
 
 // The entry that a key stands at.
 pub enum Found {
@@ -50,31 +52,51 @@ pub fn find(words: &[u32], offset: usize, entries: usize, key: u32) -> Found
     Found::Nothing
 }
 
-// Whether there is an entry i and it has key p of a run. The sum is taken in usize: first + p may not fit a u32.
-fn row_hit(
-    words: &[u32],
-    offset: usize,
-    entries: usize,
-    first: u32,
-    width: usize,
-    p: usize,
-    i: usize,
-) -> bool
-    requires { ⌜ (i < entries → offset + entries ≤ length (now words)) ⌝ }
-    requires { ⌜ p < 32 ⌝ }
-    ensures { λ r. ⌜ r ≡ rowHit (now (words .entry)) offset entries first width p i ⌝ }
+// The key of entry i, 0 past the end of the words.
+fn key_at(words: &[u32], offset: usize, i: usize) -> u32
+    ensures { λ r. ⌜ r ≡ keyAt (now (words .entry)) offset i ⌝ }
 {
-    if width <= p {
+    if words.len() <= offset {
+        return 0;
+    }
+    if words.len() - offset <= i {
+        return 0;
+    }
+    words[offset + i]
+}
+
+// Whether the key of entry i is too large, or not above the one before it: §2.3, §3.4.
+pub fn key_fails(words: &[u32], offset: usize, limit: u32, i: usize) -> bool
+    ensures { λ r. ⌜ r ≡ keyFails (now (words .entry)) offset limit i ⌝ }
+{
+    let key = key_at(words, offset, i);
+    if limit <= key {
+        return true;
+    }
+    if i == 0 {
         return false;
     }
-    if entries <= i {
-        return false;
+    key <= key_at(words, offset, i - 1)
+}
+
+// The place of entry i's key in a run of keys, and 32 where it is not of the run.
+fn run_place(words: &[u32], offset: usize, first: u32, width: usize, i: usize) -> usize
+    requires { ⌜ offset + i < length (now words) ⌝ }
+    ensures { λ r. ⌜ r ≡ runPlace (now (words .entry)) offset first width i ⌝ }
+{
+    let key = words[offset + i];
+    if key < first {
+        return 32;
     }
-    words[offset + i] as usize == first as usize + p
+    let place = (key - first) as usize;
+    if width <= place {
+        return 32;
+    }
+    place
 }
 
 // For a run of at most 32 keys from the first on: at p, 1 plus the entry with key p of the run, or 0 where there is none or the
-// run is no wider than p. The keys rise, so one walk meets them all. Where they do not fit the words, it starts at its end.
+// run is no wider than p. The walk is over the entries, of which a run may have few.
 pub fn entry_row(
     words: &[u32],
     offset: usize,
@@ -86,16 +108,42 @@ pub fn entry_row(
 {
     let mut row = [0; 32];
     let mut i = lower_bound(words, offset, entries, first);
-    let mut p = 0;
-    while p < 32 {
-        if row_hit(words, offset, entries, first, width, p, i) {
-            i += 1;
-            row[p] = i;
-            p += 1;
-        } else {
-            row[p] = 0;
-            p += 1;
+    while i < entries {
+        let place = run_place(words, offset, first, width, i);
+        if 32 <= place {
+            return row;
         }
+        i += 1;
+        row[place] = i;
+    }
+    row
+}
+
+// The same walk: at p the value of the entry with key p of the run. All are 0 where keys and values do not fit the words.
+pub fn value_row(
+    words: &[u32],
+    offset: usize,
+    entries: usize,
+    first: u32,
+    width: usize,
+) -> [u32; 32]
+    ensures { λ r. ⌜ r ≡ valueRow (now (words .entry)) offset entries first width ⌝ }
+{
+    let mut row = [0u32; 32];
+    if words.len() < offset {
+        return row;
+    }
+    if (words.len() - offset) / 2 < entries {
+        return row;
+    }
+    let mut i = lower_bound(words, offset, entries, first);
+    while i < entries {
+        let place = run_place(words, offset, first, width, i);
+        if 32 <= place {
+            return row;
+        }
+        row[place] = words[offset + entries + i];
+        i += 1;
     }
     row
 }

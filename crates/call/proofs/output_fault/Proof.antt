@@ -6,9 +6,6 @@ use Rattle.call.specs.Call.{roomFault}
 use Rattle.call.proofs.output_fault.Statement.{statement}
 use Rattle.call.proofs.output_fault.Tie as tie
 
-refuse-requires : tie.Need-refuse-requires
-refuse-requires c κs = search needs
-
 returns : tie.Need-returns
 unfolding roomFault when
 returns c = rw (lt-ltb _ _ (c .before .if1 .taken)) (c .refuse .ensures)
@@ -18,4 +15,4 @@ unfolding roomFault when
 returns-2 c = rw (le-ltb _ _ (c .if1 .left))
 
 pub output-fault-spec : {M : Type 1} → statement M
-output-fault-spec = tie.close (tie.spec refuse-requires returns returns-2)
+output-fault-spec = tie.close (tie.spec (λ c κs. search needs) returns returns-2)

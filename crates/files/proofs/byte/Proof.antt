@@ -1,29 +1,15 @@
 -- `files::byte` meets its contract.
-use Prim.Native.Nat.{_+_}
 use native.Mathlib.Omega.{arith}
-use Rattle.files.proofs.Decoding.{past-end}
+use mathlib.Core.Path.{refl}
 use borrow.Author.Needs.{needs}
 use Rattle.files.proofs.byte.Statement.{statement}
 use Rattle.files.proofs.byte.Tie as tie
 
+cast-result : tie.Need-cast-result
+cast-result c = omega (arith, c .shared-slice-known .given (c .before .args .i))
+
 returns : tie.Need-returns
-returns c = let a = c .before .args in past-end (a .bytes .now) (a .at + a .i) (omega arith)
-
-sub-if2 : tie.Need-sub-if2
-sub-if2 c = search needs
-
-returns-2 : tie.Need-returns-2
-returns-2 c = let a = c .before .before .args in past-end (a .bytes .now) (a .at + a .i) (omega arith)
-
-add-result : tie.Need-add-result
-add-result c = search needs
-
-shared-slice-read-result : tie.Need-shared-slice-read-result
-shared-slice-read-result c = search needs
-
-returns-3 : tie.Need-returns-3
-returns-3 c = search needs
+returns c = (refl, omega (arith, c .shared-slice-known .given (c .before .args .i)))
 
 pub byte-spec : {M : Type 1} → statement M
-byte-spec =
-    tie.close (tie.spec returns sub-if2 returns-2 add-result shared-slice-read-result returns-3)
+byte-spec = tie.close (tie.spec (λ c. search needs) cast-result returns)

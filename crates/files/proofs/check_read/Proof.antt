@@ -8,36 +8,24 @@ use Rattle.files.proofs.check_read.Tie as tie
 returns : tie.Need-returns
 returns c = net-tail _ _ _ _ ((c .if1) .taken)
 
-check-requires : tie.Need-check-requires
-check-requires c κs = search needs
-
-enum-known-found : tie.Need-enum-known-found
-enum-known-found c = search needs
-
 returns-2 : tie.Need-returns-2
 returns-2 c = net-refused _ _ _ _ ((c .before .before .before .before .before .if1) .left) _ (sym ((c .before .before .before .check) .ensures) ∙ (c .before .found) .given .1)
-
-enum-told : tie.Need-enum-told
-enum-told c = search needs
 
 returns-3 : tie.Need-returns-3
 returns-3 c = sheet-tail _ _ _ _ ((c .before .before .before .before .if1) .left) ((c .before .before .before .if2) .taken) (sym ((c .before .before .check) .ensures) ∙ (c .enum-told) .given .1)
 
-checked-requires : tie.Need-checked-requires
-checked-requires c κs = search needs
-
 returns-4 : tie.Need-returns-4
-returns-4 c = (c .checked) .ensures ∙ no-tail _ _ _ _ ((c .before .before .if1) .left) ((c .before .if2) .left)
+returns-4 c = (c .check2) .ensures ∙ no-tail _ _ _ _ ((c .before .before .if1) .left) ((c .before .if2) .left)
 
 pub check-read-spec : {M : Type 1} → statement M
 check-read-spec =
     tie.close
     (tie.spec
     returns
-    check-requires
-    enum-known-found
+    (λ c κs. search needs)
+    (λ c. search needs)
     returns-2
-    enum-told
+    (λ c. search needs)
     returns-3
-    checked-requires
+    (λ c κs. search needs)
     returns-4)

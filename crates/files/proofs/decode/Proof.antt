@@ -18,9 +18,6 @@ Inv-loop bytes out₀ reading words i₀ out i =
 abbrev μ-loop : tie.MeasureT-loop
 μ-loop bytes out₀ reading words i₀ out i = words - i
 
-measure-requires : tie.Need-measure-requires Inv-loop μ-loop
-measure-requires c κs = search needs
-
 loop-holds : tie.Need-loop-holds Inv-loop μ-loop
 unfolding tabulate
 loop-holds c = (omega arith, c .measure .ensures .0, refl, refl)
@@ -29,19 +26,13 @@ mul-word : tie.Need-mul-word Inv-loop μ-loop
 mul-word c = let a = c .before .before .before .before .before .args in let f = count-fits (length (a .out .now)) (a .bytes .now) in omega arith
 
 word-requires : tie.Need-word-requires Inv-loop μ-loop
-word-requires c κs = search needs
+word-requires c κs = let a = c .before .before .before .before .before .args in let f = count-fits (length (a .out .now)) (a .bytes .now) in omega arith
 
 mul-out : tie.Need-mul-out Inv-loop μ-loop
 mul-out c = let a = c .before .before .before .before .before .before .args in let f = count-fits (length (a .out .now)) (a .bytes .now) in omega arith
 
 slice-write-out : tie.Need-slice-write-out Inv-loop μ-loop
 slice-write-out c = let a = c .before .before .before .before .before .before .args in let f = count-fits (length (a .out .now)) (a .bytes .now) in omega arith
-
-add-i : tie.Need-add-i Inv-loop μ-loop
-add-i c = search needs
-
-loop-less : tie.Need-loop-less Inv-loop μ-loop
-loop-less c = search needs
 
 loop-again : tie.Need-loop-again Inv-loop μ-loop
 unfolding wordAt
@@ -55,9 +46,6 @@ loop-again c = let w = c .before .before .loop in
           ∙ front-more (wordAt (a .bytes .now)) (w .i) (a .out .now) (omega arith),
       simp length-set (w .inv .3),
     )
-
-same-length : tie.Need-same-length Inv-loop μ-loop
-same-length c = search needs
 
 returns : tie.Need-returns Inv-loop μ-loop
 unfolding wordsOf decoded
@@ -73,14 +61,14 @@ decode-spec =
     (tie.spec
     Inv-loop
     μ-loop
-    measure-requires
+    (λ c κs. search needs)
     loop-holds
     mul-word
     word-requires
     mul-out
     slice-write-out
-    add-i
-    loop-less
+    (λ c. search needs)
+    (λ c. search needs)
     loop-again
-    same-length
+    (λ c. search needs)
     returns)

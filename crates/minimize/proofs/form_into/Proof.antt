@@ -6,29 +6,17 @@ use borrow.Author.Needs.{needs}
 use Rattle.minimize.proofs.form_into.Statement.{statement}
 use Rattle.minimize.proofs.form_into.Tie as tie
 
-judge-requires : tie.Need-judge-requires
-judge-requires c κs = search needs
-
-enum-known-found : tie.Need-enum-known-found
-enum-known-found c = search needs
-
 returns : tie.Need-returns
-returns c = refused-words (sym (c .before .before .before .judge .ensures) ∙ (c .before .found .given .1)) refl
-
-enum-told : tie.Need-enum-told
-enum-told c = search needs
+returns c = refused-words (sym (c .before .before .before .verdict .ensures) ∙ (c .before .found .given .1)) refl
 
 classes-requires : tie.Need-classes-requires
-classes-requires c κs = accepted-readable _ _ (sym (c .before .before .judge .ensures) ∙ (c .enum-told .given .1))
+classes-requires c κs = accepted-readable _ _ (sym (c .before .before .verdict .ensures) ∙ (c .enum-told .given .1))
 
 numbering-requires : tie.Need-numbering-requires
-numbering-requires c κs = (accepted-readable _ _ (sym (c .before .before .before .judge .ensures) ∙ (c .before .enum-told .given .1)), c .classes .ensures)
+numbering-requires c κs = (accepted-readable _ _ (sym (c .before .before .before .verdict .ensures) ∙ (c .before .enum-told .given .1)), c .classes .ensures)
 
 write-requires : tie.Need-write-requires
-write-requires c κs = (sym (c .before .before .before .before .before .before .before .judge .ensures) ∙ (c .before .before .before .before .before .enum-told .given .1), c .before .before .before .numbering .ensures)
-
-same-length : tie.Need-same-length
-same-length c = search needs
+write-requires c κs = (sym (c .before .before .before .before .before .before .before .verdict .ensures) ∙ (c .before .before .before .before .before .enum-told .given .1), c .before .before .before .numbering .ensures)
 
 returns-2 : tie.Need-returns-2
 returns-2 c = c .before .before .write .ensures
@@ -37,12 +25,12 @@ pub form-into-spec : {M : Type 1} → statement M
 form-into-spec =
     tie.close
     (tie.spec
-    judge-requires
-    enum-known-found
+    (λ c κs. search needs)
+    (λ c. search needs)
     returns
-    enum-told
+    (λ c. search needs)
     classes-requires
     numbering-requires
     write-requires
-    same-length
+    (λ c. search needs)
     returns-2)

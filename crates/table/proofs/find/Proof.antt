@@ -6,9 +6,6 @@ use Rattle.table.proofs.Bisection.{lower-bound-fits, look-up-hit, look-
 use Rattle.table.proofs.find.Statement.{statement}
 use Rattle.table.proofs.find.Tie as tie
 
-lower-bound-requires : tie.Need-lower-bound-requires
-lower-bound-requires c κs = search needs
-
 returns : tie.Need-returns
 returns c = look-up-miss _ _ _ _ _ (c .before .lower-bound .ensures) (λ l. absurd (omega arith))
 
@@ -30,13 +27,4 @@ unfolding keyAt
 returns-3 c = look-up-miss _ _ _ _ _ (c .before .before .before .lower-bound .ensures) (λ l. c .if2 .left)
 
 pub find-spec : {M : Type 1} → statement M
-find-spec =
-    tie.close
-    (tie.spec
-    lower-bound-requires
-    returns
-    add-if2
-    mul-if2
-    shared-slice-read-if2
-    returns-2
-    returns-3)
+find-spec = tie.close (tie.spec (λ c κs. search needs) returns add-if2 mul-if2 shared-slice-read-if2 returns-2 returns-3)

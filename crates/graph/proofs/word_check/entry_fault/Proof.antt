@@ -1,44 +1,31 @@
 -- `graph::word_check::entry_fault` meets its contract.
 use Rattle.scan.specs.Scan.{orElse, when}
-use Rattle.refusal.specs.Finding.{foundAt}
 use Rattle.sequential.specs.Check.{entryFault}
 use borrow.Author.Needs.{needs}
 use mathlib.Core.Path.{sym, _∙_}
 use Rattle.graph.proofs.word_check.entry_fault.Statement.{statement}
 use Rattle.graph.proofs.word_check.entry_fault.Tie as tie
 
-key-fails-requires : tie.Need-key-fails-requires
-key-fails-requires c κs = search needs
-
-refuse-requires : tie.Need-refuse-requires
-refuse-requires c κs = search needs
-
 returns : tie.Need-returns
-unfolding entryFault foundAt orElse when
+unfolding entryFault orElse when
 returns c = (c .refuse .ensures) ∙ rw (sym (c .before .before .key-fails .ensures) ∙ (c .before .if1 .taken))
 
-value-fails-requires : tie.Need-value-fails-requires
-value-fails-requires c κs = search needs
-
-refuse-requires-2 : tie.Need-refuse-requires-2
-refuse-requires-2 c κs = search needs
-
 returns-2 : tie.Need-returns-2
-unfolding entryFault foundAt orElse when
+unfolding entryFault orElse when
 returns-2 c = (c .refuse2 .ensures) ∙ rw (sym (c .before .before .before .before .key-fails .ensures) ∙ (c .before .before .before .if1 .left), sym (c .before .before .value-fails .ensures) ∙ (c .before .if2 .taken))
 
 returns-3 : tie.Need-returns-3
-unfolding entryFault foundAt orElse when
+unfolding entryFault orElse when
 returns-3 c = rw (sym (c .before .before .before .key-fails .ensures) ∙ (c .before .before .if1 .left), sym (c .before .value-fails .ensures) ∙ (c .if2 .left))
 
 pub entry-fault-spec : {M : Type 1} → statement M
 entry-fault-spec =
     tie.close
     (tie.spec
-    key-fails-requires
-    refuse-requires
+    (λ c κs. search needs)
+    (λ c κs. search needs)
     returns
-    value-fails-requires
-    refuse-requires-2
+    (λ c κs. search needs)
+    (λ c κs. search needs)
     returns-2
     returns-3)

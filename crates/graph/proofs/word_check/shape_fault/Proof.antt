@@ -1,7 +1,6 @@
 -- `graph::word_check::shape_fault` meets its contract.
 use borrow.Author.Tests.{le-ltb, lt-ltb, eq-eqb, ne-eqb, not-true, not-false}
 use Rattle.scan.specs.Scan.{orElse, when}
-use Rattle.sequential.specs.Words.{nodeCount, entryCount}
 use Rattle.refusal.specs.Finding.{foundBy, finding}
 use Rattle.sequential.specs.Check.{shapeFault}
 use borrow.Author.Needs.{needs}
@@ -10,27 +9,12 @@ use mathlib.Core.Path.{sym, _∙_}
 use Rattle.graph.proofs.word_check.shape_fault.Statement.{statement}
 use Rattle.graph.proofs.word_check.shape_fault.Tie as tie
 
-refuse-requires : tie.Need-refuse-requires
-refuse-requires c κs = search needs
-
 returns : tie.Need-returns
 unfolding shapeFault finding foundBy orElse when
 returns c = (c .refuse .ensures) ∙ rw (lt-ltb _ _ (c .before .if1 .taken))
 
-shared-slice-read-entries : tie.Need-shared-slice-read-entries
-shared-slice-read-entries c = search needs
-
-shared-slice-read-sizes-pass : tie.Need-shared-slice-read-sizes-pass
-shared-slice-read-sizes-pass c = search needs
-
-sizes-pass-requires : tie.Need-sizes-pass-requires
-sizes-pass-requires c κs = search needs
-
-refuse-requires-2 : tie.Need-refuse-requires-2
-refuse-requires-2 c κs = search needs
-
 returns-2 : tie.Need-returns-2
-unfolding shapeFault finding foundBy orElse when nodeCount entryCount
+unfolding shapeFault finding foundBy orElse when
 returns-2 c = (c .refuse2 .ensures) ∙ rw (le-ltb _ _ (c .before .before .before .before .before .if1 .left), sym (c .before .before .sizes-pass .ensures) ∙ not-true _ (c .before .if2 .taken))
 
 cast-if3 : tie.Need-cast-if3
@@ -42,31 +26,28 @@ mul-if3 c = omega (arith, (c .before .before .before .before .before .shared-sli
 add-if3 : tie.Need-add-if3
 add-if3 c = omega (arith, (c .before .before .before .before .before .shared-slice-known .given) 1)
 
-refuse-requires-3 : tie.Need-refuse-requires-3
-refuse-requires-3 c κs = search needs
-
 returns-3 : tie.Need-returns-3
-unfolding shapeFault finding foundBy orElse when nodeCount entryCount
+unfolding shapeFault finding foundBy orElse when
 returns-3 c = (c .refuse3 .ensures) ∙ rw (le-ltb _ _ (c .before .before .before .before .before .before .if1 .left), sym (c .before .before .before .sizes-pass .ensures) ∙ not-false _ (c .before .before .if2 .left), ne-eqb _ _ (c .before .if3 .taken))
 
 returns-4 : tie.Need-returns-4
-unfolding shapeFault finding foundBy orElse when nodeCount entryCount
+unfolding shapeFault finding foundBy orElse when
 returns-4 c = rw (le-ltb _ _ (c .before .before .before .before .before .if1 .left), sym (c .before .before .sizes-pass .ensures) ∙ not-false _ (c .before .if2 .left), eq-eqb _ _ (c .if3 .left))
 
 pub shape-fault-spec : {M : Type 1} → statement M
 shape-fault-spec =
     tie.close
     (tie.spec
-    refuse-requires
+    (λ c κs. search needs)
     returns
-    shared-slice-read-entries
-    shared-slice-read-sizes-pass
-    sizes-pass-requires
-    refuse-requires-2
+    (λ c. search needs)
+    (λ c. search needs)
+    (λ c κs. search needs)
+    (λ c κs. search needs)
     returns-2
     cast-if3
     mul-if3
     add-if3
-    refuse-requires-3
+    (λ c κs. search needs)
     returns-3
     returns-4)

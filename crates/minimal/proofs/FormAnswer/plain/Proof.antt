@@ -6,29 +6,11 @@ use Rattle.minimal.proofs.FormAnswer.plain.Statement.{statement}
 use Rattle.minimal.proofs.FormAnswer.plain.Tie as tie
 
 -- src/lib.rt:18:33
-enum-known-self : tie.Need-enum-known-self
-enum-known-self c = search needs
-
 -- src/lib.rt:19:33
-enum-known-self-2 : tie.Need-enum-known-self-2
-enum-known-self-2 c = search needs
-
 -- src/lib.rt:21:18
-cast-t6 : tie.Need-cast-t6
-cast-t6 c = search needs
-
 -- src/lib.rt:21:37
-kind-requires : tie.Need-kind-requires
-kind-requires c κs = search needs
-
 -- src/lib.rt:21:37
-cast-t8 : tie.Need-cast-t8
-cast-t8 c = search needs
-
 -- src/lib.rt:21:57
-index-requires : tie.Need-index-requires
-index-requires c κs = search needs
-
 -- src/lib.rt:14:5
 returns : tie.Need-returns
 returns c = sym (ap plainForm (c .before .self .given .1))
@@ -41,11 +23,11 @@ pub plain-spec : {M : Type 1} → statement M
 plain-spec =
     tie.close
     (tie.spec
-    enum-known-self
-    enum-known-self-2
-    cast-t6
-    kind-requires
-    cast-t8
-    index-requires
+    (λ c. search needs)
+    (λ c. search needs)
+    (λ c. search needs)
+    (λ c κs. search needs)
+    (λ c. search needs)
+    (λ c κs. search needs)
     returns
     returns-2)

@@ -7,9 +7,6 @@ use Rattle.minimize.proofs.Agree.{rows, arc-row, arcs-walked}
 use Rattle.minimize.proofs.classes.arcs_agree.Statement.{statement}
 use Rattle.minimize.proofs.classes.arcs_agree.Tie as tie
 
-transitions-requires : tie.Need-transitions-requires
-transitions-requires c κs = search needs
-
 mul-a : tie.Need-mul-a
 mul-a c =
     let p = c .before .before .before .pre in
@@ -19,9 +16,6 @@ mul-b : tie.Need-mul-b
 mul-b c =
     let p = c .before .before .before .pre in
     omega (arith, arc-key-low _ _ (p .0) _ (c .transitions .ensures) _ 0 (p .1 .1 .0) (omega arith))
-
-slice-aggregate-rows-agree : tie.Need-slice-aggregate-rows-agree
-slice-aggregate-rows-agree c = search needs
 
 rows-agree-requires : tie.Need-rows-agree-requires
 rows-agree-requires c κs =
@@ -38,9 +32,9 @@ pub arcs-agree-spec : {M : Type 1} → statement M
 arcs-agree-spec =
     tie.close
     (tie.spec
-    transitions-requires
+    (λ c κs. search needs)
     mul-a
     mul-b
-    slice-aggregate-rows-agree
+    (λ c. search needs)
     rows-agree-requires
     returns)

@@ -7,7 +7,7 @@ use borrow.Author.Needs.{needs}
 use Rattle.automaton.specs.Equivalence.{refined}
 use Rattle.automaton.proofs.Leader.{leader-le}
 use Rattle.sequential.specs.Petri.{petriNet}
-use Rattle.sequential.specs.Words.{nodeCount, graph}
+use Rattle.sequential.specs.Words.{graph}
 use Rattle.graph.proofs.Readable.{known}
 use Rattle.minimize.specs.Tables.{classIn}
 use Rattle.minimize.specs.Leaders.{LeadersBy}
@@ -29,7 +29,6 @@ loop-holds : tie.Need-loop-holds Inv-loop μ-loop
 loop-holds c = (omega arith, known _ _ (c .before .before .before .pre .0) .few-nodes, refl, leaders-start _ _)
 
 arcs-leader-requires : tie.Need-arcs-leader-requires Inv-loop μ-loop
-unfolding nodeCount
 arcs-leader-requires c κs =
     (c .before .before .before .before .before .pre .0, (c .loop-test .taken, (c .before .before .before .before .before .pre .1, c .before .loop .inv .3)))
 
@@ -38,25 +37,12 @@ cast-next c =
     let q : c .arcs-leader .result ≤ c .before .before .loop .n = rw (c .arcs-leader .ensures) (leader-le _ _) in
     omega (arith, q)
 
-cast-next-2 : tie.Need-cast-next-2 Inv-loop μ-loop
-cast-next-2 c = omega arith
-
-array-write-next : tie.Need-array-write-next Inv-loop μ-loop
-array-write-next c = omega arith
-
-add-n : tie.Need-add-n Inv-loop μ-loop
-add-n c = omega arith
-
-loop-less : tie.Need-loop-less Inv-loop μ-loop
-loop-less c = search needs
-
 loop-again : tie.Need-loop-again Inv-loop μ-loop
 loop-again c =
     let (l, few, long, is) = c .before .before .loop .inv in
     (omega arith, few, simp length-set long, leaders-more _ _ _ _ is (omega arith) (c .arcs-leader .ensures))
 
 returns : tie.Need-returns Inv-loop μ-loop
-unfolding nodeCount
 returns c = record { leads = λ n l. (c .before .loop .inv .3 .leads) n (omega (arith, c .loop-test .left)) }
 
 pub arcs-classes-spec : {M : Type 1} → statement M
@@ -69,9 +55,9 @@ arcs-classes-spec =
     loop-holds
     arcs-leader-requires
     cast-next
-    cast-next-2
-    array-write-next
-    add-n
-    loop-less
+    (λ c. omega arith)
+    (λ c. omega arith)
+    (λ c. omega arith)
+    (λ c. search needs)
     loop-again
     returns)

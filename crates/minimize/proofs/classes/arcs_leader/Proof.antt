@@ -27,44 +27,11 @@ mul-own c = omega (arith, node-low _ _ (c .before .before .pre .0) _ (c .before 
 array-read-own : tie.Need-array-read-own Inv-loop μ-loop
 array-read-own c = omega (arith, node-low _ _ (c .before .before .pre .0) _ (c .before .before .pre .1 .0))
 
-cast-own : tie.Need-cast-own Inv-loop μ-loop
-cast-own c = search needs
-
 array-read-class : tie.Need-array-read-class Inv-loop μ-loop
 array-read-class c = omega (arith, node-low _ _ (c .before .before .pre .0) _ (c .before .before .pre .1 .0))
 
 loop-holds : tie.Need-loop-holds Inv-loop μ-loop
 loop-holds c = (omega arith, node-low _ _ (c .before .before .pre .0) _ (c .before .before .pre .1 .0), any-none-yet _)
-
-add-k : tie.Need-add-k Inv-loop μ-loop
-add-k c = omega arith
-
-cast-if1 : tie.Need-cast-if1 Inv-loop μ-loop
-cast-if1 c = omega arith
-
-array-read-if1 : tie.Need-array-read-if1 Inv-loop μ-loop
-array-read-if1 c = omega arith
-
-cast-if2 : tie.Need-cast-if2 Inv-loop μ-loop
-cast-if2 c = omega arith
-
-array-read-if2 : tie.Need-array-read-if2 Inv-loop μ-loop
-array-read-if2 c = omega arith
-
-cast-if2-2 : tie.Need-cast-if2-2 Inv-loop μ-loop
-cast-if2-2 c = search needs
-
-cast-arcs-agree : tie.Need-cast-arcs-agree Inv-loop μ-loop
-cast-arcs-agree c = omega arith
-
-mul-arcs-agree : tie.Need-mul-arcs-agree Inv-loop μ-loop
-mul-arcs-agree c = omega arith
-
-array-read-arcs-agree : tie.Need-array-read-arcs-agree Inv-loop μ-loop
-array-read-arcs-agree c = omega arith
-
-cast-arcs-agree-2 : tie.Need-cast-arcs-agree-2 Inv-loop μ-loop
-cast-arcs-agree-2 c = search needs
 
 arcs-agree-requires : tie.Need-arcs-agree-requires Inv-loop μ-loop
 arcs-agree-requires c κs =
@@ -75,26 +42,20 @@ arcs-agree-requires c κs =
     (c .before .before .before .before .before .before .pre .0, (lm, (ln, (starts .start _ lm, starts .start _ ln))))
 
 returns : tie.Need-returns Inv-loop μ-loop
-unfolding graph classIn
+unfolding classIn
 returns c =
     leader-found _ _ _ (c .before .before .before .before .before .loop .inv .2)
     (refined-by-arcs _ _ _ _ (c .before .before .before .if1 .taken) ∙ sym (c .before .arcs-agree .ensures) ∙ c .if3 .taken)
     (c .before .before .before .before .loop-test .taken)
 
-loop-less : tie.Need-loop-less Inv-loop μ-loop
-loop-less c = search needs
-
 loop-again : tie.Need-loop-again Inv-loop μ-loop
-unfolding graph classIn
+unfolding classIn
 loop-again c = (
   omega arith,
   c .before .before .before .before .before .loop .inv .1,
   leader-not _ _ _ (c .before .before .before .before .before .loop .inv .2)
       (refined-by-arcs _ _ _ _ (c .before .before .before .if1 .taken) ∙ sym (c .before .arcs-agree .ensures) ∙ c .if3 .left),
 )
-
-loop-less-2 : tie.Need-loop-less-2 Inv-loop μ-loop
-loop-less-2 c = search needs
 
 loop-again-2 : tie.Need-loop-again-2 Inv-loop μ-loop
 loop-again-2 c = (
@@ -103,9 +64,6 @@ loop-again-2 c = (
   leader-not-own _ _ _ _ (c .before .before .before .loop .inv .2)
       (λ e. c .if2 .left (unfold classIn in (c .before .before .before .before .before .before .pre .1 .1 .1 .leads _ (c .before .before .loop-test .taken)) ∙ e)),
 )
-
-loop-less-3 : tie.Need-loop-less-3 Inv-loop μ-loop
-loop-less-3 c = search needs
 
 loop-again-3 : tie.Need-loop-again-3 Inv-loop μ-loop
 loop-again-3 c = (
@@ -125,25 +83,25 @@ arcs-leader-spec =
     μ-loop
     mul-own
     array-read-own
-    cast-own
+    (λ c. search needs)
     array-read-class
     loop-holds
-    add-k
-    cast-if1
-    array-read-if1
-    cast-if2
-    array-read-if2
-    cast-if2-2
-    cast-arcs-agree
-    mul-arcs-agree
-    array-read-arcs-agree
-    cast-arcs-agree-2
+    (λ c. omega arith)
+    (λ c. omega arith)
+    (λ c. omega arith)
+    (λ c. omega arith)
+    (λ c. omega arith)
+    (λ c. search needs)
+    (λ c. omega arith)
+    (λ c. omega arith)
+    (λ c. omega arith)
+    (λ c. search needs)
     arcs-agree-requires
     returns
-    loop-less
+    (λ c. search needs)
     loop-again
-    loop-less-2
+    (λ c. search needs)
     loop-again-2
-    loop-less-3
+    (λ c. search needs)
     loop-again-3
     returns-2)

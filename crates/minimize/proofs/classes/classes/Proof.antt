@@ -26,9 +26,6 @@ shared-slice-read-nodes c = let k = known _ _ (c .before .before .before .pre) i
 cast-nodes : tie.Need-cast-nodes Inv-loop μ-loop
 cast-nodes c = let k = known _ _ (c .before .before .before .pre) in omega arith
 
-transitions-requires : tie.Need-transitions-requires Inv-loop μ-loop
-transitions-requires c κs = search needs
-
 row-starts-requires : tie.Need-row-starts-requires Inv-loop μ-loop
 row-starts-requires c κs =
     let r = c .before .before .before .before .pre in
@@ -51,7 +48,6 @@ same-tables-requires : tie.Need-same-tables-requires Inv-loop μ-loop
 same-tables-requires c κs = let k = known _ _ (c .before .before .before .before .before .before .before .before .before .pre) in omega (arith, k .few-nodes)
 
 returns : tie.Need-returns Inv-loop μ-loop
-unfolding graph nodeCount
 returns c =
     round-last _ (closed _ _ (c .before .before .before .before .before .before .before .before .before .before .before .pre)) _ _
     (c .before .before .before .before .loop .inv .1) _ (c .before .before .arcs-classes .ensures) (sym (c .before .same-tables .ensures) ∙ c .if1 .taken)
@@ -61,11 +57,7 @@ add-round c =
     let k = known _ _ (c .before .before .before .before .before .before .before .before .before .before .before .pre) in
     omega (arith, c .before .before .before .loop-test .taken, k .few-nodes)
 
-loop-less : tie.Need-loop-less Inv-loop μ-loop
-loop-less c = search needs
-
 loop-again : tie.Need-loop-again Inv-loop μ-loop
-unfolding graph nodeCount
 loop-again c = (
   omega (arith, c .before .before .before .loop-test .taken),
   round-more _ (closed _ _ (c .before .before .before .before .before .before .before .before .before .before .before .pre)) _ _
@@ -73,7 +65,6 @@ loop-again c = (
 )
 
 returns-2 : tie.Need-returns-2 Inv-loop μ-loop
-unfolding graph nodeCount
 returns-2 c =
     rounds-done _ (closed _ _ (c .before .before .before .before .before .before .before .before .pre)) _ _ (c .before .loop .inv .1)
     (omega (arith, c .before .loop .inv .0, c .loop-test .left))
@@ -86,7 +77,7 @@ classes-spec =
     μ-loop
     shared-slice-read-nodes
     cast-nodes
-    transitions-requires
+    (λ c κs. search needs)
     row-starts-requires
     counts-classes-requires
     loop-holds
@@ -94,6 +85,6 @@ classes-spec =
     same-tables-requires
     returns
     add-round
-    loop-less
+    (λ c. search needs)
     loop-again
     returns-2)

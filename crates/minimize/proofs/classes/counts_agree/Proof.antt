@@ -2,21 +2,14 @@
 use native.Mathlib.Omega.{arith}
 use mathlib.Core.Path.{_∙_}
 use borrow.Author.Needs.{needs}
-use Rattle.sequential.specs.Words.{nodeCount}
 use Rattle.graph.proofs.Readable.{known}
 use Rattle.minimize.proofs.Known.{arc-keys-low, count-key-low}
 use Rattle.minimize.proofs.Agree.{rows, count-row, counts-walked}
 use Rattle.minimize.proofs.classes.counts_agree.Statement.{statement}
 use Rattle.minimize.proofs.classes.counts_agree.Tie as tie
 
-places-requires : tie.Need-places-requires
-places-requires c κs = search needs
-
 shared-slice-read-base : tie.Need-shared-slice-read-base
 shared-slice-read-base c = omega (arith, known _ _ (c .before .before .before .before .pre .0) .long)
-
-transitions-requires : tie.Need-transitions-requires
-transitions-requires c κs = search needs
 
 mul-base : tie.Need-mul-base
 mul-base c = omega (arith, arc-keys-low _ _ (c .before .before .before .before .before .pre .0) _ (c .transitions .ensures))
@@ -41,11 +34,7 @@ add-b c =
     let p = c .before .before .before .before .before .pre in
     omega (arith, count-key-low _ _ (p .0) _ (c .transitions .ensures) _ (c .before .before .places .ensures) _ 0 (p .1 .1 .0) (omega arith))
 
-slice-aggregate-rows-agree : tie.Need-slice-aggregate-rows-agree
-slice-aggregate-rows-agree c = search needs
-
 rows-agree-requires : tie.Need-rows-agree-requires
-unfolding nodeCount
 rows-agree-requires c κs =
     let p = c .before .before .before .before .before .before .pre in
     let e = c .before .transitions .ensures in
@@ -53,7 +42,6 @@ rows-agree-requires c κs =
     rows (p .0) (count-row (p .0) _ _ e f (p .1 .0) (p .1 .1 .1 .0)) (count-row (p .0) _ _ e f (p .1 .1 .0) (p .1 .1 .1 .1))
 
 returns : tie.Need-returns
-unfolding nodeCount
 returns c =
     let p = c .before .before .before .before .before .before .before .pre in
     c .rows-agree .ensures
@@ -63,14 +51,14 @@ pub counts-agree-spec : {M : Type 1} → statement M
 counts-agree-spec =
     tie.close
     (tie.spec
-    places-requires
+    (λ c κs. search needs)
     shared-slice-read-base
-    transitions-requires
+    (λ c κs. search needs)
     mul-base
     mul-a
     add-a
     mul-b
     add-b
-    slice-aggregate-rows-agree
+    (λ c. search needs)
     rows-agree-requires
     returns)

@@ -7,7 +7,7 @@ use borrow.Author.Needs.{needs}
 use Rattle.automaton.specs.Equivalence.{sameIn}
 use Rattle.automaton.proofs.Leader.{leader-le}
 use Rattle.sequential.specs.Petri.{petriNet}
-use Rattle.sequential.specs.Words.{nodeCount, graph}
+use Rattle.sequential.specs.Words.{graph}
 use Rattle.graph.proofs.Readable.{known}
 use Rattle.minimize.specs.Leaders.{LeadersBy}
 use Rattle.minimize.proofs.Agree.{laid, count-starts}
@@ -25,14 +25,8 @@ abbrev μ-loop : tie.MeasureT-loop
 shared-slice-read-nodes : tie.Need-shared-slice-read-nodes Inv-loop μ-loop
 shared-slice-read-nodes c = let k = known _ _ (c .before .before .before .pre) in omega arith
 
-transitions-requires : tie.Need-transitions-requires Inv-loop μ-loop
-transitions-requires c κs = search needs
-
 mul-row-starts : tie.Need-mul-row-starts Inv-loop μ-loop
 mul-row-starts c = let l = arc-keys-low _ _ (c .before .before .before .before .pre) _ (c .transitions .ensures) in omega arith
-
-places-requires : tie.Need-places-requires Inv-loop μ-loop
-places-requires c κs = search needs
 
 row-starts-requires : tie.Need-row-starts-requires Inv-loop μ-loop
 row-starts-requires c κs =
@@ -43,7 +37,6 @@ loop-holds : tie.Need-loop-holds Inv-loop μ-loop
 loop-holds c = (omega arith, known _ _ (c .before .before .before .before .before .before .pre) .few-nodes, refl, leaders-start _ _)
 
 counts-leader-requires : tie.Need-counts-leader-requires Inv-loop μ-loop
-unfolding nodeCount
 counts-leader-requires c κs = (
   c .before .before .before .before .before .before .before .before .pre,
   (
@@ -58,25 +51,12 @@ cast-classes c =
     let q : c .counts-leader .result ≤ c .before .before .loop .n = rw (c .counts-leader .ensures) (leader-le _ _) in
     omega (arith, q)
 
-cast-classes-2 : tie.Need-cast-classes-2 Inv-loop μ-loop
-cast-classes-2 c = omega arith
-
-array-write-classes : tie.Need-array-write-classes Inv-loop μ-loop
-array-write-classes c = omega arith
-
-add-n : tie.Need-add-n Inv-loop μ-loop
-add-n c = omega arith
-
-loop-less : tie.Need-loop-less Inv-loop μ-loop
-loop-less c = search needs
-
 loop-again : tie.Need-loop-again Inv-loop μ-loop
 loop-again c =
     let (l, few, long, is) = c .before .before .loop .inv in
     (omega arith, few, simp length-set long, leaders-more _ _ _ _ is (omega arith) (c .counts-leader .ensures))
 
 returns : tie.Need-returns Inv-loop μ-loop
-unfolding nodeCount
 returns c = record { leads = λ n l. (c .before .loop .inv .3 .leads) n (omega (arith, c .loop-test .left)) }
 
 pub counts-classes-spec : {M : Type 1} → statement M
@@ -86,16 +66,16 @@ counts-classes-spec =
     Inv-loop
     μ-loop
     shared-slice-read-nodes
-    transitions-requires
+    (λ c κs. search needs)
     mul-row-starts
-    places-requires
+    (λ c κs. search needs)
     row-starts-requires
     loop-holds
     counts-leader-requires
     cast-classes
-    cast-classes-2
-    array-write-classes
-    add-n
-    loop-less
+    (λ c. omega arith)
+    (λ c. omega arith)
+    (λ c. omega arith)
+    (λ c. search needs)
     loop-again
     returns)

@@ -26,23 +26,8 @@ mul-own c = omega (arith, node-low _ _ (c .before .before .pre .0) _ (c .before 
 array-read-own : tie.Need-array-read-own Inv-loop μ-loop
 array-read-own c = omega (arith, node-low _ _ (c .before .before .pre .0) _ (c .before .before .pre .1 .0))
 
-cast-own : tie.Need-cast-own Inv-loop μ-loop
-cast-own c = search needs
-
 loop-holds : tie.Need-loop-holds Inv-loop μ-loop
 loop-holds c = (omega arith, node-low _ _ (c .before .before .pre .0) _ (c .before .before .pre .1 .0), any-none-yet _)
-
-cast-counts-agree : tie.Need-cast-counts-agree Inv-loop μ-loop
-cast-counts-agree c = omega arith
-
-mul-counts-agree : tie.Need-mul-counts-agree Inv-loop μ-loop
-mul-counts-agree c = omega arith
-
-array-read-counts-agree : tie.Need-array-read-counts-agree Inv-loop μ-loop
-array-read-counts-agree c = omega arith
-
-cast-counts-agree-2 : tie.Need-cast-counts-agree-2 Inv-loop μ-loop
-cast-counts-agree-2 c = search needs
 
 counts-agree-requires : tie.Need-counts-agree-requires Inv-loop μ-loop
 counts-agree-requires c κs =
@@ -57,9 +42,6 @@ returns c =
 
 add-m : tie.Need-add-m Inv-loop μ-loop
 add-m c = omega (arith, c .before .before .loop-test .taken)
-
-loop-less : tie.Need-loop-less Inv-loop μ-loop
-loop-less c = search needs
 
 loop-again : tie.Need-loop-again Inv-loop μ-loop
 loop-again c = (
@@ -79,15 +61,15 @@ counts-leader-spec =
     μ-loop
     mul-own
     array-read-own
-    cast-own
+    (λ c. search needs)
     loop-holds
-    cast-counts-agree
-    mul-counts-agree
-    array-read-counts-agree
-    cast-counts-agree-2
+    (λ c. omega arith)
+    (λ c. omega arith)
+    (λ c. omega arith)
+    (λ c. search needs)
     counts-agree-requires
     returns
     add-m
-    loop-less
+    (λ c. search needs)
     loop-again
     returns-2)

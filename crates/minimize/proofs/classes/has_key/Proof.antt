@@ -2,43 +2,36 @@
 use native.Mathlib.Omega.{arith}
 use borrow.Author.Tests.{le-ltb, lt-ltb}
 use Rattle.table.specs.Table.{keyAt}
-use Rattle.sequential.specs.Words.{entryCount}
 use Rattle.minimize.specs.Agree.{hasKey}
 use borrow.Author.Needs.{needs}
 use Rattle.minimize.proofs.classes.has_key.Statement.{statement}
 use Rattle.minimize.proofs.classes.has_key.Tie as tie
 
-shared-slice-read-if1 : tie.Need-shared-slice-read-if1
-shared-slice-read-if1 c = search needs
-
 cast-if1 : tie.Need-cast-if1
 cast-if1 c = omega (arith, (c .shared-slice-known .given) 1)
 
 returns : tie.Need-returns
-unfolding hasKey entryCount
+unfolding hasKey
 returns c = rw (le-ltb _ _ (c .if1 .taken))
 
 add-result : tie.Need-add-result
-unfolding entryCount
 add-result c = let h = c .if1 .left in let k = (c .before .before .pre) in omega arith
 
 mul-result : tie.Need-mul-result
-unfolding entryCount
 mul-result c = let h = c .if1 .left in let k = (c .before .before .pre) in omega arith
 
 shared-slice-read-result : tie.Need-shared-slice-read-result
-unfolding entryCount
 shared-slice-read-result c = let h = c .before .if1 .left in let k = (c .before .before .before .pre) in omega arith
 
 returns-2 : tie.Need-returns-2
-unfolding hasKey entryCount keyAt
+unfolding hasKey keyAt
 returns-2 c = rw (lt-ltb _ _ (c .before .if1 .left))
 
 pub has-key-spec : {M : Type 1} → statement M
 has-key-spec =
     tie.close
     (tie.spec
-    shared-slice-read-if1
+    (λ c. search needs)
     cast-if1
     returns
     add-result

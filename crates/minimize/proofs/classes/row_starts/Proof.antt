@@ -7,7 +7,6 @@ use lib.ListN.{length, getD, length-set}
 use borrow.Author.Needs.{needs}
 use Rattle.scan.proofs.Tabulate.{stored-more}
 use Rattle.table.proofs.Bisection.{lower-bound}
-use Rattle.sequential.specs.Words.{nodeCount, entryCount}
 use Rattle.minimize.specs.Agree.{rowStart}
 use Rattle.minimize.proofs.classes.row_starts.Statement.{statement}
 use Rattle.minimize.proofs.classes.row_starts.Tie as tie
@@ -19,18 +18,10 @@ Inv-loop sheet base width nodes entries starts₀ n₀ starts n = (n ≤ nodes) 
 abbrev μ-loop : tie.MeasureT-loop
 μ-loop sheet base width nodes entries starts₀ n₀ starts n = nodes - n
 
-shared-slice-read-nodes : tie.Need-shared-slice-read-nodes Inv-loop μ-loop
-shared-slice-read-nodes c = search needs
-
-shared-slice-read-entries : tie.Need-shared-slice-read-entries Inv-loop μ-loop
-shared-slice-read-entries c = search needs
-
 cast-entries : tie.Need-cast-entries Inv-loop μ-loop
-unfolding entryCount
 cast-entries c = omega (arith, c .before .before .before .pre .few-entries)
 
 loop-holds : tie.Need-loop-holds Inv-loop μ-loop
-unfolding nodeCount
 loop-holds c = (omega arith, c .before .before .before .pre .few-nodes, refl, λ j l. absurd (omega arith))
 
 mul-lower-bound : tie.Need-mul-lower-bound Inv-loop μ-loop
@@ -43,40 +34,20 @@ add-lower-bound c =
     let m : c .before .loop .n ≤ 128 = omega arith in
     omega (arith, mul-le-mul m (c .before .before .before .before .before .pre .narrow), c .before .before .before .before .before .pre .low)
 
-lower-bound-requires : tie.Need-lower-bound-requires Inv-loop μ-loop
-lower-bound-requires c κs = search needs
-
 cast-starts : tie.Need-cast-starts Inv-loop μ-loop
-unfolding entryCount
 cast-starts c =
     let p = c .before .before .before .before .before .before .pre in
     let b : c .lower-bound .result ≤ getD (c .before .before .before .before .before .before .args .sheet .now) 1 0 = rw (c .lower-bound .ensures)
     (lower-bound _ _ _ _ (p .rising) (omega (arith, p .whole)) .within) in
     omega (arith, b, p .few-entries)
 
-cast-starts-2 : tie.Need-cast-starts-2 Inv-loop μ-loop
-cast-starts-2 c = omega arith
-
-mul-starts : tie.Need-mul-starts Inv-loop μ-loop
-mul-starts c = omega arith
-
-array-write-starts : tie.Need-array-write-starts Inv-loop μ-loop
-array-write-starts c = omega arith
-
-add-n : tie.Need-add-n Inv-loop μ-loop
-add-n c = omega arith
-
-loop-less : tie.Need-loop-less Inv-loop μ-loop
-loop-less c = search needs
-
 loop-again : tie.Need-loop-again Inv-loop μ-loop
-unfolding rowStart entryCount
+unfolding rowStart
 loop-again c =
     let (l, few, long, is) = c .before .before .loop .inv in
     (omega arith, few, simp length-set long, stored-more (rowStart _ _ _) (c .before .before .loop .starts) (c .before .before .loop .n) _ is (omega arith) (c .lower-bound .ensures))
 
 returns : tie.Need-returns Inv-loop μ-loop
-unfolding nodeCount
 returns c = record { start = λ n l. (c .before .loop .inv .3) n (omega arith) }
 
 pub row-starts-spec : {M : Type 1} → statement M
@@ -85,18 +56,18 @@ row-starts-spec =
     (tie.spec
     Inv-loop
     μ-loop
-    shared-slice-read-nodes
-    shared-slice-read-entries
+    (λ c. search needs)
+    (λ c. search needs)
     cast-entries
     loop-holds
     mul-lower-bound
     add-lower-bound
-    lower-bound-requires
+    (λ c κs. search needs)
     cast-starts
-    cast-starts-2
-    mul-starts
-    array-write-starts
-    add-n
-    loop-less
+    (λ c. omega arith)
+    (λ c. omega arith)
+    (λ c. omega arith)
+    (λ c. omega arith)
+    (λ c. search needs)
     loop-again
     returns)

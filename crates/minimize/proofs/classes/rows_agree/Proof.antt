@@ -59,9 +59,6 @@ add-x c = omega (arith, c .before .before .before .before .before .before .befor
 add-y : tie.Need-add-y Inv-loop μ-loop
 add-y c = omega (arith, c .before .before .before .before .before .before .before .loop .inv .1 .right .within)
 
-loop-less : tie.Need-loop-less Inv-loop μ-loop
-loop-less c = search needs
-
 loop-again : tie.Need-loop-again Inv-loop μ-loop
 loop-again c =
     let d = c .before .before in (
@@ -70,9 +67,6 @@ loop-again c =
           (d .before .before .before .before .loop-test .taken) (d .before .before .before .has-key .ensures) (d .before .before .has-key2 .ensures)
           (not-false _ (d .before .if1 .left)) (d .if2 .taken) (sym (c .before .values-agree .ensures) ∙ not-false _ (c .if3 .left)),
     )
-
-loop-less-2 : tie.Need-loop-less-2 Inv-loop μ-loop
-loop-less-2 c = search needs
 
 loop-again-2 : tie.Need-loop-again-2 Inv-loop μ-loop
 loop-again-2 c = (
@@ -104,8 +98,8 @@ rows-agree-spec =
     returns-2
     add-x
     add-y
-    loop-less
+    (λ c. search needs)
     loop-again
-    loop-less-2
+    (λ c. search needs)
     loop-again-2
     returns-3)

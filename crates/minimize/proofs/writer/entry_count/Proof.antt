@@ -24,14 +24,8 @@ Inv-loop net sheet rows reps transitions places entries₀ i₀ entries i =
 abbrev μ-loop : tie.MeasureT-loop
 μ-loop net sheet rows reps transitions places entries₀ i₀ entries i = rows - i
 
-transitions-requires : tie.Need-transitions-requires Inv-loop μ-loop
-transitions-requires c κs = search needs
-
 cast-transitions : tie.Need-cast-transitions Inv-loop μ-loop
 cast-transitions c = omega (arith, (c .transitions) .ok)
-
-places-requires : tie.Need-places-requires Inv-loop μ-loop
-places-requires c κs = search needs
 
 cast-places : tie.Need-cast-places Inv-loop μ-loop
 cast-places c = omega (arith, (c .places) .ok)
@@ -44,9 +38,6 @@ loop-holds c =
 
 array-read-n : tie.Need-array-read-n Inv-loop μ-loop
 array-read-n c = let p = c .before .before .before .before .before .before .pre in let m = rows-most _ _ _ _ _ (p .0) (p .1 .1) in omega arith
-
-cast-n : tie.Need-cast-n Inv-loop μ-loop
-cast-n c = search needs
 
 told-row-requires : tie.Need-told-row-requires Inv-loop μ-loop
 told-row-requires c κs = let p = c .before .before .before .before .before .before .pre in (p .0, node-low _ _ _ _ _ (p .0) (p .1 .1) _ (c .loop-test .taken))
@@ -82,12 +73,6 @@ add-entries c = let p = c .before .before .before .before .before .before .befor
 add-entries-2 : tie.Need-add-entries-2 Inv-loop μ-loop
 add-entries-2 c = let p = c .before .before .before .before .before .before .before .before .before .before .pre in let m = rows-most _ _ _ _ _ (p .0) (p .1 .1) in omega (arith, loop-again c .2)
 
-add-i : tie.Need-add-i Inv-loop μ-loop
-add-i c = omega arith
-
-loop-less : tie.Need-loop-less Inv-loop μ-loop
-loop-less c = omega arith
-
 returns : tie.Need-returns Inv-loop μ-loop
 returns c =
     let p = c .before .before .before .before .before .before .pre in
@@ -101,20 +86,20 @@ entry-count-spec =
     (tie.spec
     Inv-loop
     μ-loop
-    transitions-requires
+    (λ c κs. search needs)
     cast-transitions
-    places-requires
+    (λ c κs. search needs)
     cast-places
     loop-holds
     array-read-n
-    cast-n
+    (λ c. search needs)
     told-row-requires
     filled-requires
     told-row-requires-2
     filled-requires-2
     add-entries
     add-entries-2
-    add-i
-    loop-less
+    (λ c. omega arith)
+    (λ c. omega arith)
     loop-again
     returns)

@@ -3,7 +3,7 @@ use Prim.Native.Nat.{_-_, _≤_}
 use borrow.Author.Tests.{lt-ltb, le-ltb}
 use Rattle.scan.specs.Scan.{count, bit}
 use Rattle.scan.proofs.Count.{count-le, count-more}
-use Rattle.judge.specs.Rows.{present}
+use Rattle.choice.specs.Rows.{present}
 use borrow.Author.Needs.{needs}
 use native.Mathlib.Omega.{arith}
 use mathlib.Core.Path.{_≡_, refl}
@@ -20,27 +20,12 @@ loop-holds : tie.Need-loop-holds Inv-loop μ-loop
 unfolding count
 loop-holds c = (omega arith, refl)
 
-mul-entry : tie.Need-mul-entry Inv-loop μ-loop
-mul-entry c = search needs
-
-array-read-entry : tie.Need-array-read-entry Inv-loop μ-loop
-array-read-entry c = search needs
-
-add-c : tie.Need-add-c Inv-loop μ-loop
-add-c c = omega arith
-
 add-entries : tie.Need-add-entries Inv-loop μ-loop
 add-entries c = omega (arith, (c .before .before .loop) .inv .1, count-le (present ((c .before .before .before .args) .t1)) ((c .before .before .loop) .c))
-
-loop-less : tie.Need-loop-less Inv-loop μ-loop
-loop-less c = omega arith
 
 loop-again : tie.Need-loop-again Inv-loop μ-loop
 unfolding present bit
 loop-again c = (omega arith, rw (count-more, lt-ltb _ _ ((c .if1) .taken)) (omega arith))
-
-loop-less-2 : tie.Need-loop-less-2 Inv-loop μ-loop
-loop-less-2 c = omega arith
 
 loop-again-2 : tie.Need-loop-again-2 Inv-loop μ-loop
 unfolding present bit
@@ -56,12 +41,12 @@ filled-spec =
     Inv-loop
     μ-loop
     loop-holds
-    mul-entry
-    array-read-entry
-    add-c
+    (λ c. search needs)
+    (λ c. search needs)
+    (λ c. omega arith)
     add-entries
-    loop-less
+    (λ c. omega arith)
     loop-again
-    loop-less-2
+    (λ c. omega arith)
     loop-again-2
     returns)

@@ -9,14 +9,8 @@ use mathlib.Core.Path.{refl}
 use Rattle.minimize.proofs.writer.first_key.Statement.{statement}
 use Rattle.minimize.proofs.writer.first_key.Tie as tie
 
-transitions-requires : tie.Need-transitions-requires
-transitions-requires c κs = search needs
-
 mul-result : tie.Need-mul-result
 mul-result c = let k = sizes _ ((c .before .before .before .pre) .0) in let q : (c .before .transitions) .result ≤ 32 = omega (arith, (c .before .transitions) .ensures) in let m : (c .before .before .before .args) .rows ≤ 128 = omega (arith, (c .before .before .before .pre) .1 .0) in omega (arith, mul-le-mul m q)
-
-places-requires : tie.Need-places-requires
-places-requires c κs = search needs
 
 mul-result-2 : tie.Need-mul-result-2
 mul-result-2 c = let k = sizes _ ((c .before .before .before .before .pre) .0) in let q : (c .places) .result ≤ 32 = omega (arith, (c .places) .ensures) in let m : (c .before .before .before .before .args) .i ≤ 128 = omega (arith, (c .before .before .before .before .pre) .1 .0, (c .before .before .before .before .pre) .1 .1) in omega (arith, mul-le-mul m q)
@@ -39,9 +33,9 @@ pub first-key-spec : {M : Type 1} → statement M
 first-key-spec =
     tie.close
     (tie.spec
-    transitions-requires
+    (λ c κs. search needs)
     mul-result
-    places-requires
+    (λ c κs. search needs)
     mul-result-2
     add-result
     returns

@@ -1,5 +1,4 @@
 -- `minimize::writer::value_told` meets its contract.
-use Rattle.sequential.specs.Words.{entryCount}
 use Rattle.graph.proofs.Rows.{value-told-none, value-told-some}
 use native.Mathlib.Omega.{arith}
 use mathlib.Core.Path.{sym}
@@ -10,27 +9,21 @@ returns : tie.Need-returns
 returns c = sym (value-told-none _ _ (c .if1 .taken))
 
 shared-slice-read-entries : tie.Need-shared-slice-read-entries
-unfolding entryCount
 shared-slice-read-entries c = omega (arith, (c .before .before .pre .0), (c .before .before .pre .1))
 
 cast-entries : tie.Need-cast-entries
-unfolding entryCount
 cast-entries c = omega (arith, (c .before .before .pre .0))
 
 add-result : tie.Need-add-result
-unfolding entryCount
 add-result c = omega (arith, (c .before .before .pre .0), (c .before .before .pre .1))
 
 add-result-2 : tie.Need-add-result-2
-unfolding entryCount
 add-result-2 c = omega (arith, (c .before .before .pre .0), (c .before .before .pre .1))
 
 mul-result : tie.Need-mul-result
-unfolding entryCount
 mul-result c = omega (arith, (c .before .before .pre .0), (c .before .before .pre .1))
 
 shared-slice-read-result : tie.Need-shared-slice-read-result
-unfolding entryCount
 shared-slice-read-result c = omega (arith, (c .before .before .before .pre .0), (c .before .before .before .pre .1))
 
 returns-2 : tie.Need-returns-2

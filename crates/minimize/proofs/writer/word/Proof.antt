@@ -20,14 +20,8 @@ returns-2 : tie.Need-returns-2
 unfolding wordOf
 returns-2 c = rw (not-false ((c .before .before .before .before .args) .values) ((c .before .before .if1) .left), (c .if2) .taken) ((c .before .value-told) .ensures)
 
-cast-result : tie.Need-cast-result
-cast-result c = search needs
-
 array-read-result : tie.Need-array-read-result
 array-read-result c = omega (arith, (c .before .before .before .before .pre) .1 .0 .node ((c .if2) .left) ((c .before .before .before .before .pre) .1 .1), (c .before .value-told) .ensures)
-
-cast-result-2 : tie.Need-cast-result-2
-cast-result-2 c = search needs
 
 returns-3 : tie.Need-returns-3
 unfolding wordOf
@@ -40,7 +34,7 @@ word-spec =
     returns
     value-told-requires
     returns-2
-    cast-result
+    (λ c. search needs)
     array-read-result
-    cast-result-2
+    (λ c. search needs)
     returns-3)

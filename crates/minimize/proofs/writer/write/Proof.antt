@@ -23,19 +23,10 @@ mul-needed c = omega (arith, c .entry-count .ensures .1)
 add-needed : tie.Need-add-needed
 add-needed c = omega (arith, c .entry-count .ensures .1)
 
-output-fault-requires : tie.Need-output-fault-requires
-output-fault-requires c κs = search needs
-
-enum-known-found : tie.Need-enum-known-found
-enum-known-found c = search needs
-
 returns : tie.Need-returns
 returns c =
     let e = form-length _ _ _ _ _ (accepted-readable _ _ (c .before .before .before .before .before .before .before .before .pre .0)) (c .before .before .before .before .before .before .before .before .pre .1) _ (c .before .before .before .before .entry-count .ensures .0) in
     refused-one refl (c .before .before .before .before .before .before .before .before .pre .0) (rw (← e) at (sym (c .before .before .before .output-fault .ensures) ∙ (c .before .found .given .1))) refl
-
-enum-told : tie.Need-enum-told
-enum-told c = search needs
 
 write-form-requires : tie.Need-write-form-requires
 write-form-requires c κs =
@@ -43,9 +34,6 @@ write-form-requires c κs =
     let f = room-holds _ _ (sym (c .before .before .before .output-fault .ensures) ∙ (c .before .enum-told .given .1)) in
     let z : length (minimalForm (c .before .before .before .before .before .before .before .before .args .net .now) (c .before .before .before .before .before .before .before .before .args .sheet .now)) ≤ length (c .before .before .before .before .before .before .before .before .args .out .now) = omega (arith, e, f) in
     (accepted-readable _ _ (c .before .before .before .before .before .before .before .before .pre .0), (c .before .before .before .before .before .before .before .before .pre .1, (c .before .before .before .before .entry-count .ensures .0, (c .before .before .before .before .entry-count .ensures .1, z))))
-
-same-length : tie.Need-same-length
-same-length c = search needs
 
 returns-2 : tie.Need-returns-2
 returns-2 c =
@@ -62,10 +50,10 @@ write-spec =
     entry-count-requires
     mul-needed
     add-needed
-    output-fault-requires
-    enum-known-found
+    (λ c κs. search needs)
+    (λ c. search needs)
     returns
-    enum-told
+    (λ c. search needs)
     write-form-requires
-    same-length
+    (λ c. search needs)
     returns-2)

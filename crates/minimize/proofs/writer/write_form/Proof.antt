@@ -15,9 +15,6 @@ cast-out c = let m = rows-most _ _ _ _ _ ((c .before .before .before .pre) .0) (
 slice-write-out : tie.Need-slice-write-out
 slice-write-out c = omega (arith, form-total _ _ _ _ _ ((c .before .before .before .pre) .0) ((c .before .before .before .pre) .1 .0), (c .before .before .before .pre) .1 .1 .1 .1)
 
-cast-out-2 : tie.Need-cast-out-2
-cast-out-2 c = search needs
-
 slice-write-out-2 : tie.Need-slice-write-out-2
 slice-write-out-2 c = simp length-set (omega (arith, form-total _ _ _ _ _ ((c .before .before .before .pre) .0) ((c .before .before .before .pre) .1 .0), (c .before .before .before .pre) .1 .1 .1 .1))
 
@@ -45,7 +42,7 @@ write-form-spec =
     (tie.spec
     cast-out
     slice-write-out
-    cast-out-2
+    (λ c. search needs)
     slice-write-out-2
     write-part-requires
     write-part-requires-2

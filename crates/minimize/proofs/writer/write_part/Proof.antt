@@ -3,7 +3,7 @@ use Prim.Native.Nat.{_+_, _-_, _≤_}
 use lib.ListN.{length}
 use Rattle.automaton.specs.Quotient.{minimal}
 use Rattle.sequential.specs.Petri.{petriNet}
-use Rattle.sequential.specs.Words.{entryCount, graph}
+use Rattle.sequential.specs.Words.{graph}
 use Rattle.graph.proofs.Readable.{known}
 use Rattle.minimize.specs.Sections.{placed, partTo}
 use Rattle.minimize.proofs.Placed.{placed-none, placed-length}
@@ -23,17 +23,11 @@ Inv-loop net sheet numbers rows counts values out₀ at reps width next₀ i₀ 
 abbrev μ-loop : tie.MeasureT-loop
 μ-loop net sheet numbers rows counts values out₀ at reps width next₀ i₀ out next i = rows - i
 
-width-of-requires : tie.Need-width-of-requires Inv-loop μ-loop
-width-of-requires c κs = search needs
-
 loop-holds : tie.Need-loop-holds Inv-loop μ-loop
 loop-holds c = let e = part-none (petriNet ((c .before .before .before .before .args) .net .now)) (minimal (graph (petriNet ((c .before .before .before .before .args) .net .now)) ((c .before .before .before .before .args) .sheet .now))) ((c .before .before .before .before .args) .counts) ((c .before .before .before .before .args) .values) in (omega arith, rw e (omega arith), rw e (placed-none _ _), refl)
 
 array-read-told-row : tie.Need-array-read-told-row Inv-loop μ-loop
 array-read-told-row c = let m = rows-most _ _ _ _ _ ((c .before .before .before .before .before .before .pre) .0) ((c .before .before .before .before .before .before .pre) .1 .0) in omega arith
-
-cast-told-row : tie.Need-cast-told-row Inv-loop μ-loop
-cast-told-row c = search needs
 
 told-row-requires : tie.Need-told-row-requires Inv-loop μ-loop
 told-row-requires c κs = ((c .before .before .before .before .before .before .pre) .0, node-low _ _ _ _ _ ((c .before .before .before .before .before .before .pre) .0) ((c .before .before .before .before .before .before .pre) .1 .0) _ ((c .loop-test) .taken))
@@ -45,23 +39,13 @@ cast-first-key-2 : tie.Need-cast-first-key-2 Inv-loop μ-loop
 cast-first-key-2 c = let m = rows-most _ _ _ _ _ ((c .before .before .before .before .before .before .before .pre) .0) ((c .before .before .before .before .before .before .before .pre) .1 .0) in omega arith
 
 first-key-requires : tie.Need-first-key-requires Inv-loop μ-loop
-first-key-requires c κs = ((c .before .before .before .before .before .before .before .pre) .0 .accepted, (rows-most _ _ _ _ _ ((c .before .before .before .before .before .before .before .pre) .0) ((c .before .before .before .before .before .before .before .pre) .1 .0), (c .before .loop-test) .taken))
+first-key-requires c κs = ((c .before .before .before .before .before .before .before .pre) .0 .arcs .accepted, (rows-most _ _ _ _ _ ((c .before .before .before .before .before .before .before .pre) .0) ((c .before .before .before .before .before .before .before .pre) .1 .0), (c .before .loop-test) .taken))
 
 append-requires : tie.Need-append-requires Inv-loop μ-loop
-unfolding entryCount
 append-requires c κs = let q = width-most _ _ _ _ _ ((c .before .before .before .before .before .before .before .before .before .pre) .0) ((c .before .before .before .before .before .before .before .before .before .pre) .1 .0) ((c .before .before .before .before .before .before .before .before .before .args) .counts) in (known _ _ ((c .before .before .before .before .before .before .before .before .before .pre) .0) .long, (λ j m. rw ((c .before .before .told-row) .ensures) (row-told _ _ _ _ _ ((c .before .before .before .before .before .before .before .before .before .pre) .0) ((c .before .before .before .before .before .before .before .before .before .pre) .1 .0) _ _ ((c .before .before .before .loop-test) .taken) j (omega (arith, m, (c .before .before .before .before .before .width-of) .ensures))), (rw ((c .before .before .before .before .before .width-of) .ensures) q, (rw ((c .before .first-key) .ensures) (first-most _ _ _ _ _ ((c .before .before .before .before .before .before .before .before .before .pre) .0) ((c .before .before .before .before .before .before .before .before .before .pre) .1 .0) _ _ ((c .before .before .before .loop-test) .taken)), part-room _ _ _ _ _ ((c .before .before .before .before .before .before .before .before .before .pre) .0) ((c .before .before .before .before .before .before .before .before .before .pre) .1 .0) _ _ _ ((c .before .before .before .loop-test) .taken) _ _ _ ((c .before .before .told-row) .ensures) ((c .before .first-key) .ensures) ((c .before .before .before .before .before .width-of) .ensures) _ _ ((c .before .before .before .before .loop) .inv .1) _ (omega (arith, (c .before .before .before .before .before .before .before .before .before .pre) .1 .1, (c .before .before .before .before .loop) .inv .3))))))
-
-add-i : tie.Need-add-i Inv-loop μ-loop
-add-i c = omega arith
-
-loop-less : tie.Need-loop-less Inv-loop μ-loop
-loop-less c = omega arith
 
 loop-again : tie.Need-loop-again Inv-loop μ-loop
 loop-again c = (omega arith, part-next _ _ _ _ _ ((c .before .before .before .before .before .before .before .before .before .before .before .before .pre) .0) ((c .before .before .before .before .before .before .before .before .before .before .before .before .pre) .1 .0) _ _ _ ((c .before .before .before .before .before .before .loop-test) .taken) _ _ _ ((c .before .before .before .before .before .told-row) .ensures) ((c .before .before .before .before .first-key) .ensures) ((c .before .before .before .before .before .before .before .before .width-of) .ensures) _ _ ((c .before .before .before .before .before .before .before .loop) .inv .1) _ ((c .before .before .append) .ensures .0), part-words _ _ _ _ _ ((c .before .before .before .before .before .before .before .before .before .before .before .before .pre) .0) ((c .before .before .before .before .before .before .before .before .before .before .before .before .pre) .1 .0) _ _ _ ((c .before .before .before .before .before .before .loop-test) .taken) _ _ _ ((c .before .before .before .before .before .told-row) .ensures) ((c .before .before .before .before .first-key) .ensures) ((c .before .before .before .before .before .before .before .before .width-of) .ensures) _ _ ((c .before .before .before .before .before .before .before .loop) .inv .1) _ _ _ ((c .before .before .before .before .before .before .before .loop) .inv .2) ((c .before .before .append) .ensures .1), placed-length _ _ _ _ ((c .before .before .append) .ensures .1) ∙ (c .before .before .before .before .before .before .before .loop) .inv .3)
-
-same-length : tie.Need-same-length Inv-loop μ-loop
-same-length c = search needs
 
 returns : tie.Need-returns Inv-loop μ-loop
 returns c = let e : (c .before .loop) .i ≡ (c .before .before .before .before .before .before .args) .rows = omega arith in let w = part-whole _ _ _ _ _ ((c .before .before .before .before .before .before .pre) .0) ((c .before .before .before .before .before .before .pre) .1 .0) ((c .before .before .before .before .before .before .args) .counts) ((c .before .before .before .before .before .before .args) .values) in rw (← w, ← e) ((c .before .loop) .inv .1, (c .before .loop) .inv .2)
@@ -72,17 +56,17 @@ write-part-spec =
     (tie.spec
     Inv-loop
     μ-loop
-    width-of-requires
+    (λ c κs. search needs)
     loop-holds
     array-read-told-row
-    cast-told-row
+    (λ c. search needs)
     told-row-requires
     cast-first-key
     cast-first-key-2
     first-key-requires
     append-requires
-    add-i
-    loop-less
+    (λ c. omega arith)
+    (λ c. omega arith)
     loop-again
-    same-length
+    (λ c. search needs)
     returns)

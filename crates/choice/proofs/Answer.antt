@@ -1,0 +1,149 @@
+-- The scan over the nodes: nothing is found before node n, and the marks are those of the await nodes below n.
+use Prim.Native.Nat.{ℕ, _+_, _≤_, _<_, min}
+use native.Mathlib.Omega.{arith}
+use mathlib.Core.Path.{_≡_, refl, sym, ap, _∙_}
+use mathlib.Core.List.{List}
+use mathlib.Core.Bool.{Bool, true, false, not, _&&_}
+use mathlib.Core.Option.{none, some}
+use lib.ListN.{getD, set, length-set, replicate, getD-replicate}
+use lib.Seq.{getD-set-same, getD-set-other}
+use lib.Dec.{ltb, eqb}
+use borrow.Author.Tests.{lt-ltb, le-ltb, ltb-true, eqb-true, eqb-false, ne-eqb}
+use Rattle.scan.specs.Scan.{when, first, bit, tabulate, found}
+use Rattle.scan.proofs.Tests.{byTest, iff→eq}
+use Rattle.scan.proofs.First.{first-none, first-more, first-hit, orElse-hit, orElse-next}
+use Rattle.scan.proofs.Tabulate.{tabulate-is, tabulate-at, tabulate-length}
+use Rattle.refusal.specs.Refusal.{refusal}
+use Rattle.refusal.specs.declared.Position.the-variants.{Node}
+use Rattle.refusal.specs.declared.Refusal.{Refusal}
+use Rattle.refusal.specs.declared.Verdict.the-variants.{Accepted}
+use Rattle.net.specs.Net.{transitionCount}
+use Rattle.automaton.specs.Automaton.{Automaton}
+use Rattle.sequential.specs.Petri.{PetriNet}
+use Rattle.sequential.specs.Words.{nodeCount}
+use Rattle.sequential.specs.Tests.{offers, isAwait}
+use Rattle.graph.specs.Rows.{arcEntryRow}
+use Rattle.choice.specs.Rows.{netByRows, present, arcByRow, graphByRows}
+use Rattle.choice.specs.Choices.{ChoicesOf, offerOf}
+use Rattle.choice.specs.Nodes.{offerFault, awaitsBelow, offersFault, awaitMark, awaitMarks, nodesRefused, nodesReply}
+use Rattle.choice.specs.declared.NodesAnswer.{NodesAnswer}
+use Rattle.choice.specs.declared.offers.Offer.{Offer}
+use Rattle.choice.specs.declared.offers.Offer.the-variants.{Whole}
+use Rattle.choice.proofs.Offer.{Tells, offer-tells}
+
+-- what does not change in it
+pub record Ground (net sheet leaders : List ℕ) (source transitions nodes : ℕ) : Type 0 where
+  pub choices : ChoicesOf (netByRows net) leaders source
+  pub transitions-are : transitions ≡ netByRows net .transitions
+  pub nodes-are : nodes ≡ graphByRows net sheet .nodes
+  pub few-transitions : transitions ≤ 32
+  pub few-nodes : nodes ≤ 128
+
+pub ground-is : {net sheet leaders : List ℕ} {source transitions nodes : ℕ} → ChoicesOf (netByRows net) leaders source → transitions ≡ min (transitionCount net) 32
+    → nodes ≡ min (nodeCount sheet) 128 → Ground net sheet leaders source transitions nodes
+ground-is c t n = record {
+  choices = c;
+  transitions-are = unfold netByRows in t;
+  nodes-are = unfold graphByRows in n;
+  few-transitions = omega arith;
+  few-nodes = omega arith;
+}
+
+pub record Passing (net sheet leaders : List ℕ) (source transitions nodes : ℕ) (awaits : List ℕ) (n : ℕ) : Type 0 where
+  pub ground : Ground net sheet leaders source transitions nodes
+  pub passed : first (offerFault (netByRows net) (graphByRows net sheet)) n ≡ none
+  pub marks : awaits ≡ tabulate (awaitMark (netByRows net) (graphByRows net sheet) n) 128
+
+-- ---- marks
+
+module _ (N : PetriNet) (A : Automaton) where
+  none-below : replicate 128 0 ≡ tabulate (awaitMark N A 0) 128
+  unfolding awaitMark awaitsBelow bit
+  none-below = tabulate-is (awaitMark N A 0) 0 128 (replicate 128 0) refl (λ m l. rw (le-ltb m 0 (omega arith)) (getD-replicate {A = ℕ} 128 m 0 0 l))
+
+  pub root-mark : (n : ℕ) → not (awaitsBelow N A n 0) ≡ eqb (getD (tabulate (awaitMark N A n) 128) 0 0) 0
+  unfolding awaitMark bit
+  root-mark n = rw (tabulate-at (awaitMark N A n) 0 128 0 (omega arith)) (go (awaitsBelow N A n 0))
+    where
+      go : (b : Bool) → not b ≡ eqb (bit b) 0
+      go true = refl
+      go false = refl
+
+  -- below n + 1 there is one node more
+  more-below : (n m : ℕ) → (m ≡ n → ⊥) → awaitMark N A (n + 1) m ≡ awaitMark N A n m
+  unfolding awaitMark awaitsBelow
+  more-below n m d =
+      ap (λ (b : Bool). bit (b && isAwait N A m))
+      (iff→eq (ltb m (n + 1)) (ltb m n) (λ e. let l = ltb-true m (n + 1) e in lt-ltb m n (omega arith)) (λ e. let l = ltb-true m n e in lt-ltb m (n + 1) (omega arith)))
+
+  at-last : (n : ℕ) → awaitMark N A (n + 1) n ≡ bit (isAwait N A n)
+  unfolding awaitMark awaitsBelow
+  at-last n = rw (lt-ltb n (n + 1) (omega arith))
+
+  marks-more : (n v : ℕ) → n < 128 → v ≡ bit (isAwait N A n) → set (tabulate (awaitMark N A n) 128) n v ≡ tabulate (awaitMark N A (n + 1)) 128
+  marks-more n v l e =
+      let marks = tabulate (awaitMark N A n) 128 in
+      let long = tabulate-length (awaitMark N A n) 128 in
+      tabulate-is (awaitMark N A (n + 1)) 0 128 (set marks n v) (length-set marks n v ∙ long)
+      (λ m k. byTest (eqb m n) (λ q. rw (eqb-true m n q, getD-set-same marks n v 0 (rw long l), at-last n, e))
+      (λ q. rw (getD-set-other marks n m v 0 (eqb-false m n q), tabulate-at (awaitMark N A n) 0 128 m k, more-below n m (eqb-false m n q))))
+
+module _ {net sheet leaders : List ℕ} {source transitions nodes : ℕ} (g : Ground net sheet leaders source transitions nodes) where
+  abbrev N : PetriNet
+  N = netByRows net
+
+  abbrev A : Automaton
+  A = graphByRows net sheet
+
+  row-offers : (n t : ℕ) → present (arcEntryRow net sheet n) t ≡ offers N A n t
+  unfolding graphByRows offers arcByRow found when
+  row-offers n t = go (present (arcEntryRow net sheet n) t) _
+    where
+      go : (b : Bool) (m : ℕ) → b ≡ found (when b m)
+      go true m = refl
+      go false m = refl
+
+  pub start : Passing net sheet leaders source transitions nodes (replicate 128 0) 0
+  start = record { ground = g; passed = first-none _; marks = none-below N A }
+
+  pub row-tells : (n : ℕ) (row : List ℕ) (offer : Offer) → row ≡ arcEntryRow net sheet n → offer ≡ offerOf row leaders transitions → Tells N A n offer
+  row-tells n row offer e f = rw (f, e) (offer-tells N A n (let z = g .few-transitions in omega (arith, g .transitions-are)) (arcEntryRow net sheet n) leaders transitions (row-offers n) (g .choices .leaders-are) (g .transitions-are))
+
+-- ---- each way on
+
+module _ {net sheet leaders : List ℕ} {source transitions nodes : ℕ} {awaits : List ℕ} {n : ℕ} (s : Passing net sheet leaders source transitions nodes awaits n) where
+  -- a refusal at node n
+  pub refused-at : (a : NodesAnswer) (r : Refusal) → n < nodes → offerFault (netByRows net) (graphByRows net sheet) n ≡ some r → a ≡ nodesRefused r → a ≡ nodesReply net sheet
+  unfolding nodesReply offersFault
+  refused-at a r l e h =
+      rw (orElse-hit _ (when (not (awaitsBelow (netByRows net) (graphByRows net sheet) (graphByRows net sheet .nodes) 0)) (refusal 13 (Node 0))) r
+      (first-hit (offerFault (netByRows net) (graphByRows net sheet)) n r (s .passed) e (graphByRows net sheet .nodes) (rw (s .ground .nodes-are) at l)))
+      h
+
+  -- one whole choice set
+  pub passes-at : (c v : ℕ) → n < nodes → Tells (netByRows net) (graphByRows net sheet) n (Whole c) → v ≡ bit (eqb c source)
+      → Passing net sheet leaders source transitions nodes (set awaits n v) (n + 1)
+  passes-at c v l (t, a) e = record {
+    ground = s .ground;
+    passed = first-more _ n (s .passed) t;
+    marks = rw (s .marks) (marks-more (netByRows net) (graphByRows net sheet) n v (let z = s .ground .few-nodes in omega arith) (e ∙ ap bit (rw (s .ground .choices .source-is) (sym a))));
+  }
+
+  all-marks : n ≡ nodes → awaits ≡ tabulate (awaitMark (netByRows net) (graphByRows net sheet) (graphByRows net sheet .nodes)) 128
+  all-marks e = s .marks ∙ ap (λ (k : ℕ). tabulate (awaitMark (netByRows net) (graphByRows net sheet) k) 128) (e ∙ s .ground .nodes-are)
+
+  -- every node is passed: the root's mark tells
+  rest : n ≡ nodes → offersFault (netByRows net) (graphByRows net sheet) ≡ when (eqb (getD awaits 0 0) 0) (refusal 13 (Node 0))
+  unfolding offersFault
+  rest e =
+      let q = e ∙ s .ground .nodes-are in
+      orElse-next _ _ (rw q at (s .passed))
+      ∙ ap (λ (b : Bool). when b (refusal 13 (Node 0))) (root-mark (netByRows net) (graphByRows net sheet) (graphByRows net sheet .nodes) ∙ ap (λ (l : List ℕ). eqb (getD l 0 0) 0) (sym (all-marks e)))
+
+  pub busy-root : (a : NodesAnswer) → n ≡ nodes → getD awaits 0 0 ≡ 0 → a ≡ nodesRefused (refusal 13 (Node 0)) → a ≡ nodesReply net sheet
+  unfolding nodesReply when
+  busy-root a e z h = rw (rest e, z) h
+
+  pub all-pass : n ≡ nodes → 0 < getD awaits 0 0 → record { verdict = Accepted; awaits = awaits } ≡ nodesReply net sheet
+  unfolding nodesReply when awaitMarks
+  all-pass e z = rw (rest e, ne-eqb (getD awaits 0 0) 0 (λ x. omega arith)) (ap (λ (l : List ℕ). record { verdict = Accepted; awaits = l }) (all-marks e))

@@ -1,0 +1,76 @@
+-- The table of choice sets: what the loops over rows of weights find, and what a least transition tells of its set.
+use Prim.Native.Nat.{ℕ, min, _≤_, _<_}
+use native.Mathlib.Omega.{arith}
+use mathlib.Core.Path.{_≡_, sym, _∙_}
+use mathlib.Core.List.{List}
+use mathlib.Core.Bool.{true}
+use lib.Dec.{eqb}
+use borrow.Author.Tests.{eqb-true, eq-eqb}
+use Rattle.scan.specs.Scan.{all, least}
+use Rattle.scan.proofs.Tests.{iff→eq}
+use Rattle.scan.proofs.Least.{least-hit, least-of}
+use Rattle.net.specs.Net.{placeCount}
+use Rattle.net.specs.Accessors.{takenRowReply}
+use Rattle.automaton.specs.Equivalence.{sameClass}
+use Rattle.automaton.proofs.Leader.{leader-test, leader-le, leader-least, leader-member}
+use Rattle.sequential.specs.Petri.{PetriNet}
+use Rattle.sequential.specs.Tests.{takesNothing, isSource, takesAlike, sameChoice}
+use Rattle.sequential.proofs.Choices.{choice-equivalence, source-choice}
+use Rattle.choice.specs.Rows.{netByRows}
+use Rattle.choice.specs.Choices.{choiceOf, firstSource, equalAt, zeroAt}
+
+-- ---- rows of weights
+
+module _ (net : List ℕ) (places : ℕ) (all-of : places ≡ min (placeCount net) 32) where
+  pub alike-told : (t u : ℕ) (a b : List ℕ) → a ≡ takenRowReply net t → b ≡ takenRowReply net u → all (equalAt a b) places ≡ sameChoice (netByRows net) t u
+  unfolding netByRows sameChoice takesAlike equalAt
+  alike-told t u a b e f = rw (all-of, e, f)
+
+  pub source-told : (t : ℕ) (row : List ℕ) → row ≡ takenRowReply net t → all (zeroAt row) places ≡ isSource (netByRows net) t
+  unfolding netByRows isSource takesNothing zeroAt
+  source-told t row e = rw (all-of, e)
+
+-- ---- least transitions
+
+module _ (N : PetriNet) where
+  pub choice-test : (t u : ℕ) → eqb (choiceOf N t) (choiceOf N u) ≡ sameChoice N t u
+  unfolding choiceOf sameClass
+  choice-test t u = leader-test (sameChoice N) (choice-equivalence N) t u
+
+  choice-low : (t : ℕ) → choiceOf N t ≤ t
+  unfolding choiceOf
+  choice-low t = leader-le (sameChoice N) t
+
+  choice-member : (t : ℕ) → sameChoice N (choiceOf N t) t ≡ true
+  unfolding choiceOf
+  choice-member t = leader-member (sameChoice N) (choice-equivalence N) t
+
+  choice-least : (t u : ℕ) → sameChoice N u t ≡ true → choiceOf N t ≤ u
+  unfolding choiceOf
+  choice-least t u h = leader-least (sameChoice N) t u h
+
+  -- a choice set is the sources exactly if its least transition is the least source
+  pub source-test : (t : ℕ) → t < N .transitions → eqb (choiceOf N t) (firstSource N) ≡ isSource N t
+  unfolding firstSource
+  source-test t l = iff→eq (eqb c s) (isSource N t) is-source leads
+    where
+      c : ℕ
+      c = choiceOf N t
+
+      s : ℕ
+      s = least (isSource N) (N .transitions)
+
+      is-source : eqb c s ≡ true → isSource N t ≡ true
+      is-source e =
+          let q = eqb-true c s e in
+          let h : isSource N c ≡ true = rw q (least-hit (isSource N) (N .transitions) (omega (arith, choice-low t, q))) in
+          sym (source-choice N c t h) ∙ choice-member t
+
+      leads : isSource N t ≡ true → eqb c s ≡ true
+      leads h =
+          let m : sameChoice N t c ≡ true = choice-equivalence N .symmetric c t (choice-member t) in
+          let low : s ≤ c = least-of (isSource N) (N .transitions) c (sym (source-choice N t c h) ∙ m) in
+          let below : s < N .transitions = omega (arith, choice-low t) in
+          let hit : isSource N s ≡ true = least-hit (isSource N) (N .transitions) below in
+          let high : c ≤ s = choice-least t s (source-choice N s t hit ∙ h) in
+          eq-eqb c s (omega arith)

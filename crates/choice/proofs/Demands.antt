@@ -1,0 +1,66 @@
+-- The answer on a schedule's nodes is what it is promised to be.
+use Prim.Native.Nat.{ℕ, _<_}
+use native.Mathlib.Omega.{arith}
+use mathlib.Core.Path.{_≡_, refl, sym, ap, _∙_}
+use mathlib.Core.Logic.{_↔_}
+use mathlib.Core.List.{List}
+use mathlib.Core.Bool.{Bool, true, false}
+use mathlib.Core.Option.{none}
+use borrow.Author.Tests.{not-false}
+use Rattle.scan.specs.Scan.{orElse, when, first, bit}
+use Rattle.scan.proofs.First.{orElse-left, orElse-right, when-none, first-all, first-empty}
+use Rattle.refusal.specs.Finding.{lineFinds, foundAt}
+use Rattle.refusal.specs.Verdict.{verdictOf}
+use Rattle.refusal.proofs.Verdicts.{answer-none}
+use Rattle.net.proofs.Checks.{net-judged}
+use Rattle.automaton.specs.Automaton.{Automaton}
+use Rattle.sequential.specs.Petri.{PetriNet, petriNet}
+use Rattle.sequential.specs.Words.{nodeCount, graph}
+use Rattle.sequential.specs.Schedule.{Await, OneChoiceSet}
+use Rattle.sequential.specs.Check.{nodeFault, rootFault}
+use Rattle.sequential.proofs.Words.{arcs-hold}
+use Rattle.sequential.proofs.Clauses.{await↔, one-some, one-out, one-in}
+use Rattle.graph.proofs.Readable.{arcs-readable}
+use Rattle.choice.specs.Demands.{NodesMean}
+use Rattle.choice.proofs.Right.{verdict-right, awaits-right}
+
+-- ---- 11 to 13 find nothing
+
+module _ (N : PetriNet) (sheet : List ℕ) where
+  abbrev G : Automaton
+  G = graph N sheet
+
+  node↔ : (n : ℕ) → (nodeFault N sheet n ≡ none) ↔ OneChoiceSet N G n
+  unfolding nodeFault lineFinds foundAt
+  node↔ n = (
+    λ e. one-out N G n (not-false _ (when-none _ _ (orElse-left _ _ e))) (not-false _ (when-none _ _ (orElse-right _ _ e))),
+    λ h. unfold orElse when in (rw (one-some N G n h, one-in N G n h)),
+  )
+
+  root↔ : (rootFault N sheet ≡ none) ↔ Await N G 0
+  unfolding rootFault lineFinds foundAt
+  root↔ = (λ e. await↔ N G 0 .0 (not-false _ (when-none _ _ e)), λ h. unfold when in (rw (await↔ N G 0 .1 h)))
+
+  nodes↔ : (orElse (first (nodeFault N sheet) (nodeCount sheet)) (rootFault N sheet) ≡ none) ↔ (((n : ℕ) → n < nodeCount sheet → OneChoiceSet N G n) × Await N G 0)
+  nodes↔ = (
+    λ e. (λ n l. node↔ n .0 (first-all (nodeFault N sheet) (nodeCount sheet) (orElse-left _ _ e) n l), root↔ .0 (orElse-right _ _ e)),
+    λ (h, a). unfold orElse in (rw (first-empty (nodeFault N sheet) (nodeCount sheet) (λ n l. node↔ n .1 (h n l)), root↔ .1 a)),
+  )
+
+bit-one : (b : Bool) → (bit b ≡ 1) ↔ (b ≡ true)
+unfolding bit
+bit-one true = (λ e. refl, λ e. refl)
+bit-one false = (λ e. absurd (omega arith), λ e. absurd (let z : _≡_ {A = ℕ} 0 1 = cc in omega arith))
+
+pub nodes-mean : NodesMean
+nodes-mean net sheet i w =
+    let N = petriNet net in
+    let r = arcs-readable (net-judged net .accepts .1 i) (arcs-hold N sheet w) in
+    let v = verdict-right net sheet r in
+    record {
+      accepts = (λ h. nodes↔ N sheet .0 (answer-none _ (sym v ∙ h)), λ h. v ∙ ap verdictOf (nodes↔ N sheet .1 h));
+      marks = λ h n l. (
+        λ e. await↔ N (graph N sheet) n .0 (bit-one _ .0 (sym (awaits-right net sheet r h n l) ∙ e)),
+        λ a. awaits-right net sheet r h n l ∙ bit-one _ .1 (await↔ N (graph N sheet) n .1 a),
+      );
+    }

@@ -1,0 +1,63 @@
+-- `choice::choice_sets::choice_of` meets its contract: no transition before the counter is of t's choice set.
+use Prim.Native.Nat.{_-_, _≤_}
+use native.Mathlib.Omega.{arith}
+use mathlib.Core.Bool.{false}
+use mathlib.Core.Path.{_≡_, sym, _∙_}
+use borrow.Author.Needs.{needs}
+use Rattle.scan.specs.Scan.{any}
+use Rattle.scan.proofs.Every.{any-none-yet, any-more}
+use Rattle.scan.proofs.Least.{least-found, least-none}
+use Rattle.automaton.specs.Equivalence.{inClass, leaderBy}
+use Rattle.sequential.specs.Tests.{sameChoice}
+use Rattle.choice.specs.Rows.{netByRows}
+use Rattle.choice.specs.Choices.{choiceOf}
+use Rattle.choice.proofs.Choices.{alike-told}
+use Rattle.choice.proofs.choice_sets.choice_of.Statement.{statement}
+use Rattle.choice.proofs.choice_sets.choice_of.Tie as tie
+
+abbrev Inv-loop : tie.InvT-loop
+Inv-loop net t taken places u₀ u = (u ≤ t) × (any (inClass (sameChoice (netByRows net)) t) u ≡ false)
+
+abbrev μ-loop : tie.MeasureT-loop
+μ-loop net t taken places u₀ u = t - u
+
+loop-holds : tie.Need-loop-holds Inv-loop μ-loop
+loop-holds c = (omega arith, any-none-yet _)
+
+returns : tie.Need-returns Inv-loop μ-loop
+unfolding choiceOf leaderBy inClass
+returns c =
+    let l = c .before .before .before .before in
+    sym (least-found _ _ _ (l .loop .inv .1)
+    (sym (c .before .rows-equal .ensures ∙ alike-told _ _ (l .before .places .ensures) _ _ _ _ (c .before .before .taken-row2 .ensures) (l .before .before .taken-row .ensures)) ∙ c .if1 .taken)
+    (c .before .before .before .loop-test .taken))
+
+loop-again : tie.Need-loop-again Inv-loop μ-loop
+unfolding inClass
+loop-again c =
+    let l = c .before .before .before .before in (
+      omega arith,
+      any-more _ _ (l .loop .inv .1)
+          (sym (c .before .rows-equal .ensures ∙ alike-told _ _ (l .before .places .ensures) _ _ _ _ (c .before .before .taken-row2 .ensures) (l .before .before .taken-row .ensures)) ∙ c .if1 .left),
+    )
+
+returns-2 : tie.Need-returns-2 Inv-loop μ-loop
+unfolding choiceOf leaderBy
+returns-2 c = let e : (c .before .loop .u) ≡ (c .before .before .before .before .before .args .t) = omega arith in sym (least-none _ _ (rw e at (c .before .loop .inv .1)))
+
+pub choice-of-spec : {M : Type 1} → statement M
+choice-of-spec =
+    tie.close
+    (tie.spec
+    Inv-loop
+    μ-loop
+    (λ c κs. search needs)
+    (λ c κs. search needs)
+    loop-holds
+    (λ c κs. search needs)
+    (λ c κs. omega (arith, c .before .before .before .places .ensures))
+    returns
+    (λ c. search needs)
+    (λ c. search needs)
+    loop-again
+    returns-2)

@@ -1,0 +1,24 @@
+-- What is promised of the answer on a schedule's nodes, as a statement: on words that 1 to 8 do not refuse, nor 9 for an arc: counts are not looked at. proofs/Demands has the term.
+use Prim.Native.Nat.{ℕ, _<_}
+use mathlib.Core.Path.{_≡_}
+use mathlib.Core.Logic.{_↔_}
+use mathlib.Core.List.{List}
+use lib.ListN.{getD}
+use Rattle.refusal.specs.Checks.{AllPass}
+use Rattle.refusal.specs.declared.Verdict.the-variants.{Accepted}
+use Rattle.net.specs.Checks.{IsNet}
+use Rattle.sequential.specs.Petri.{petriNet}
+use Rattle.sequential.specs.Words.{nodeCount, graph}
+use Rattle.sequential.specs.Schedule.{Await, OneChoiceSet}
+use Rattle.sequential.specs.Checks.{arcWordChecks}
+use Rattle.choice.specs.Nodes.{nodesReply}
+
+-- nothing is refused exactly if each node offers one choice set and node 0 is an await node (§6.3, §6.4); then the marks are those of the await nodes (§5.4)
+pub record NodesRight (net sheet : List ℕ) : Type 0 where
+  pub accepts : (nodesReply net sheet .verdict ≡ Accepted)
+      ↔ (((n : ℕ) → n < nodeCount sheet → OneChoiceSet (petriNet net) (graph (petriNet net) sheet) n) × Await (petriNet net) (graph (petriNet net) sheet) 0)
+  pub marks : nodesReply net sheet .verdict ≡ Accepted → (n : ℕ) → n < nodeCount sheet
+      → (getD (nodesReply net sheet .awaits) n 0 ≡ 1) ↔ Await (petriNet net) (graph (petriNet net) sheet) n
+
+abbrev pub NodesMean : Type 0
+NodesMean = (net sheet : List ℕ) → IsNet net → AllPass (arcWordChecks (petriNet net) sheet) → NodesRight net sheet

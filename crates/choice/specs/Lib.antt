@@ -1,0 +1,4 @@
+pub mod Rows
+pub mod Choices
+pub mod Nodes
+pub mod Demands

@@ -1,0 +1,42 @@
+-- The net and the graph as their rows tell them, on any words: weights and arcs are read from the rows, and a size is cut where rows or marks end.
+-- Where 1 to 5 refuse nothing this net is the net, and where the arcs are readable this graph is the graph (proofs/Rows).
+use Prim.Native.Nat.{ℕ, _-_, min}
+use mathlib.Core.List.{List}
+use mathlib.Core.Bool.{Bool}
+use mathlib.Core.Option.{Option}
+use lib.ListN.{getD}
+use lib.Dec.{ltb}
+use Rattle.scan.specs.Scan.{when}
+use Rattle.refusal.specs.Limits.{mostPlaces, mostTransitions, mostNodes}
+use Rattle.net.specs.Net.{placeCount, transitionCount}
+use Rattle.net.specs.Accessors.{takenRowReply, putRowReply, startRowReply}
+use Rattle.automaton.specs.Automaton.{Automaton}
+use Rattle.sequential.specs.Petri.{PetriNet}
+use Rattle.sequential.specs.Words.{nodeCount, entryValue, marking}
+use Rattle.graph.specs.Rows.{arcEntryRow}
+
+unfoldable pub netByRows : List ℕ → PetriNet
+netByRows net = record {
+  places = min (placeCount net) mostPlaces;
+  transitions = min (transitionCount net) mostTransitions;
+  taken = λ t p. getD (takenRowReply net t) p 0;
+  put = λ t p. getD (putRowReply net t) p 0;
+  start = λ p. getD (startRowReply net) p 0;
+}
+
+-- transition t has an arc in a row
+unfoldable pub present : List ℕ → ℕ → Bool
+present row t = ltb 0 (getD row t 0)
+
+-- the target is the value of the entry that the row tells
+unfoldable pub arcByRow : List ℕ → List ℕ → ℕ → Option ℕ
+arcByRow sheet row t = when (present row t) (entryValue sheet (getD row t 0 - 1))
+
+-- no row tells of labels, and nothing here asks for them
+unfoldable pub graphByRows : List ℕ → List ℕ → Automaton
+graphByRows net sheet = record {
+  nodes = min (nodeCount sheet) mostNodes;
+  transitions = min (transitionCount net) mostTransitions;
+  arc = λ n t. arcByRow sheet (arcEntryRow net sheet n) t;
+  label = marking (netByRows net) sheet;
+}

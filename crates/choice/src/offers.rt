@@ -1,0 +1,58 @@
+// What a node offers, by its row of arcs and the table of choice sets.
+ghost use mathlib.Core.Path.{_≡_};
+ghost use Prim.Native.Nat.{_≤_};
+ghost use Rattle.scan.specs.Scan.{all, least};
+ghost use Rattle.choice.specs.Rows.{present};
+ghost use Rattle.choice.specs.Choices.{presentAsChoice, offerOf};
+
+// No transition; one whole choice set (§5.3), with its least transition; or anything else.
+pub(crate) enum Offer {
+    Nothing,
+    Whole(u32),
+    Torn,
+}
+
+// The first transition that has an arc in a row, or the number of transitions.
+fn first_present(arcs: [usize; 32], transitions: usize) -> usize
+    requires { ⌜ transitions ≤ 32 ⌝ }
+    ensures { λ r. ⌜ r ≡ least (present arcs) transitions ⌝ }
+{
+    let mut t = 0;
+    while t < transitions {
+        if 0 < arcs[t] {
+            return t;
+        }
+        t += 1;
+    }
+    transitions
+}
+
+// Whether a row has the arcs of the choice set that is known by c, and no others.
+fn are_choice(arcs: [usize; 32], leaders: [u32; 32], c: u32, transitions: usize) -> bool
+    requires { ⌜ transitions ≤ 32 ⌝ }
+    ensures { λ r. ⌜ r ≡ all (presentAsChoice arcs leaders c) transitions ⌝ }
+{
+    let mut t = 0;
+    while t < transitions {
+        if (0 < arcs[t]) != (leaders[t] == c) {
+            return false;
+        }
+        t += 1;
+    }
+    true
+}
+
+pub(crate) fn offered(arcs: [usize; 32], leaders: [u32; 32], transitions: usize) -> Offer
+    requires { ⌜ transitions ≤ 32 ⌝ }
+    ensures { λ r. ⌜ r ≡ offerOf arcs leaders transitions ⌝ }
+{
+    let t = first_present(arcs, transitions);
+    if transitions <= t {
+        return Offer::Nothing;
+    }
+    let c = leaders[t];
+    if are_choice(arcs, leaders, c, transitions) {
+        return Offer::Whole(c);
+    }
+    Offer::Torn
+}

@@ -1,0 +1,9 @@
+pub mod Lists
+pub mod Gather
+pub mod Encoding
+pub mod Entries
+pub mod Encoded
+pub mod Reading
+pub mod Decoded
+pub mod Recoded
+pub mod Length

@@ -1,0 +1,92 @@
+-- What is printed by the answer to words, whether the minimal form has room or not; and that the program's buffers hold all of it.
+use Prim.Native.Nat.{ℕ, _≤_}
+use native.Mathlib.Omega.{arith}
+use mathlib.Core.Path.{_≡_, refl, sym, ap, _∙_}
+use mathlib.Core.List.{List, [], _∷_}
+use lib.ListN.{length, take}
+use lib.Seq.{length-take-le}
+use Rattle.text.specs.Buffer.{Put}
+use Rattle.text.specs.Lines.{acceptedLines}
+use Rattle.scan.specs.Scan.{tabulate}
+use Rattle.refusal.specs.declared.Refusal.{Refusal}
+use Rattle.refusal.specs.declared.Verdict.{Verdict}
+use Rattle.refusal.specs.declared.Verdict.the-variants as verdict
+use Rattle.call.specs.Call.{Core, roomFault, outputFault, wordsVerdict, writtenOver, writtenAt, WordsDone}
+use Rattle.call.proofs.Done.{written-front, written-length}
+use Rattle.call.proofs.Lent.{room-holds}
+use Rattle.judge.specs.declared.Counts.{Counts}
+use Rattle.judge.specs.declared.CheckAnswer.the-variants.{Passed}
+use Rattle.net.specs.Net.{placeCount}
+use Rattle.sequential.specs.Petri.{petriNet}
+use Rattle.sequential.specs.Bounds.{bounds}
+use Rattle.graph.specs.Readable.{Readable}
+use Rattle.graph.proofs.Readable.{known}
+use Rattle.schedule.specs.Rows.{boundsRow}
+use Rattle.schedule.proofs.BoundRows.{bounds-right, bounds-row}
+use Rattle.minimal.specs.Minimal.{minimalForm}
+use Rattle.minimal.specs.declared.FormAnswer.{FormAnswer}
+use Rattle.minimal.specs.declared.FormAnswer.the-variants.{Written, Refused}
+use Rattle.files.specs.Printed.{refusedText, textOf, WordsPrinted}
+
+-- ---- the minimal form of accepted words, which has room or not
+
+-- what writes it, whichever checks it asks
+abbrev writing : Verdict → List ℕ → Core FormAnswer
+writing v result = record { verdict = v; accepted = Written (length result); refused = Refused; results = result ∷ [] }
+
+pub record Formed (result form form′ : List ℕ) (k : ℕ) : Type 0 where
+  pub room : roomFault (length form) (length result) ≡ verdict.Accepted
+  pub count : k ≡ length result
+  pub held : form′ ≡ writtenOver result form
+
+pub record NotFormed (result form form′ : List ℕ) (r : Refusal) : Type 0 where
+  pub room : roomFault (length form) (length result) ≡ verdict.Refused r
+  pub held : form′ ≡ form
+
+module _ {v : Verdict} {result form form′ : List ℕ} {a : FormAnswer} (h : v ≡ verdict.Accepted) (d : WordsDone (writing v result) (form ∷ []) a (form′ ∷ [])) where
+  -- where there is room, and where there is none
+  with-room : roomFault (length form) (length result) ≡ verdict.Accepted → (a ≡ Written (length result)) × (form′ ≡ writtenOver result form)
+  unfolding wordsVerdict outputFault tabulate writtenAt
+  with-room q = let e : form′ ∷ [] ≡ writtenOver result form ∷ [] = d .written ∙ rw (h, q) in (d .reply ∙ rw (h, q), cc)
+
+  without-room : (r : Refusal) → roomFault (length form) (length result) ≡ verdict.Refused r → (a ≡ Refused r) × (form′ ≡ form)
+  unfolding wordsVerdict outputFault
+  without-room r q = let e : form′ ∷ [] ≡ form ∷ [] = d .written ∙ rw (h, q) in (d .reply ∙ rw (h, q), cc)
+
+  pub written-form : (k : ℕ) → a ≡ Written k → Formed result form form′ k
+  written-form k e = go (roomFault (length form) (length result)) refl
+    where
+      go : (w : Verdict) → roomFault (length form) (length result) ≡ w → Formed result form form′ k
+      go verdict.Accepted q = let (x, y) = with-room q in record { room = q; count = cc; held = y }
+      go (verdict.Refused r) q = let (x, y) = without-room r q in let z : _≡_ {A = ℕ} 0 1 = cc in absurd (omega arith)
+
+  pub refused-form : (r : Refusal) → a ≡ Refused r → NotFormed result form form′ r
+  refused-form r e = go (roomFault (length form) (length result)) refl
+    where
+      go : (w : Verdict) → roomFault (length form) (length result) ≡ w → NotFormed result form form′ r
+      go verdict.Accepted q = let (x, y) = with-room q in let z : _≡_ {A = ℕ} 0 1 = cc in absurd (omega arith)
+      go (verdict.Refused s) q = let (x, y) = without-room s q in let same : s ≡ r = cc in record { room = rw (← same) q; held = y }
+
+module _ {result form form′ : List ℕ} {k : ℕ} (f : Formed result form form′ k) where
+  pub form-fits : k ≤ length form′
+  form-fits = let l = room-holds _ _ (f .room) in omega (arith, f .count, ap (length {A = ℕ}) (f .held) ∙ written-length result form l)
+
+  pub form-counts : k ≡ length (take k form′)
+  form-counts = sym (length-take-le k form′ form-fits)
+
+  pub form-front : take k form′ ≡ result
+  form-front = rw (f .count, f .held) (written-front result form)
+
+-- ---- what is printed for accepted words
+
+module _ (counts : Counts) (net sheet form form′ out out′ : List ℕ) (r : ℕ) where
+  pub too-long-printed : (x : Refusal) → NotFormed (minimalForm net sheet) form form′ x → Put out 0 (refusedText x) r out′ → WordsPrinted (Passed counts) net sheet form out r form′ out′
+  unfolding textOf
+  too-long-printed x f p = record { text = rw (f .room) p; form-after = f .held ∙ rw (f .room) }
+
+  pub accepted-printed : (k places : ℕ) (row : List ℕ) → Formed (minimalForm net sheet) form form′ k → Readable net sheet → places ≡ placeCount net → row ≡ boundsRow net sheet
+      → Put out 0 (acceptedLines (counts .nodes) (counts .arcs) (counts .awaits) (take places row) (take k form′)) r out′ → WordsPrinted (Passed counts) net sheet form out r form′ out′
+  unfolding textOf
+  accepted-printed k places row f h e q p =
+      let b : take places row ≡ bounds (petriNet net) sheet = rw (e, q, bounds-right net sheet h) (bounds-row (petriNet net) sheet (known net sheet h .few-places)) in
+      record { text = rw (f .room, ← b, ← (form-front f)) p; form-after = f .held ∙ rw (f .room) }

@@ -1,0 +1,49 @@
+-- `files::print_files` meets its contract.
+use borrow.Author.Needs.{needs}
+use Rattle.files.proofs.Replies.{net-counted, sheet-counted, files-accepted, refused-files, accepted-files}
+use Rattle.files.proofs.print_files.Statement.{statement}
+use Rattle.files.proofs.print_files.Tie as tie
+
+slice-reshare-prefix-print-accepted : tie.Need-slice-reshare-prefix-print-accepted
+slice-reshare-prefix-print-accepted c = net-counted _ _ _ _ _ _ _ (c .before .before .before .before .before .before .before .check-files .ensures) .0
+
+slice-aggregate-print-accepted : tie.Need-slice-aggregate-print-accepted
+slice-aggregate-print-accepted c = net-counted _ _ _ _ _ _ _ (c .before .before .before .before .before .before .before .before .check-files .ensures) .1
+
+slice-reshare-prefix-print-accepted-2 : tie.Need-slice-reshare-prefix-print-accepted-2
+slice-reshare-prefix-print-accepted-2 c = sheet-counted _ _ _ _ _ _ _ (c .before .before .before .before .before .before .before .before .check-files .ensures) .0
+
+slice-aggregate-print-accepted-2 : tie.Need-slice-aggregate-print-accepted-2
+slice-aggregate-print-accepted-2 c = sheet-counted _ _ _ _ _ _ _ (c .before .before .before .before .before .before .before .before .before .check-files .ensures) .1
+
+print-accepted-requires : tie.Need-print-accepted-requires
+print-accepted-requires c κs = files-accepted _ _ _ _ _ _ _ (c .before .before .before .before .before .before .before .before .before .before .before .check-files .ensures) _ (c .before .before .before .before .before .answer2 .given .1)
+
+returns : tie.Need-returns
+returns c = refused-files _ _ _ _ _ _ _ (c .before .before .before .before .before .before .before .before .before .before .before .check-files .ensures) _ _ _ _ _ (c .before .before .before .before .before .answer .given .1) (c .before .before .print-refusal .ensures)
+
+returns-2 : tie.Need-returns-2
+returns-2 c = accepted-files _ _ _ _ _ _ _ (c .before .before .before .before .before .before .before .before .before .before .before .before .before .before .before .before .check-files .ensures) _ _ _ _ _ _ (c .before .before .before .before .before .before .before .before .before .before .answer2 .given .1) (c .before .before .before .before .print-accepted .ensures)
+
+pub print-files-spec : {M : Type 1} → statement M
+print-files-spec =
+    tie.close
+    (tie.spec
+    (λ c κs. search needs)
+    (λ c. search needs)
+    (λ c κs. search needs)
+    (λ c. search needs)
+    slice-reshare-prefix-print-accepted
+    slice-aggregate-print-accepted
+    slice-reshare-prefix-print-accepted-2
+    slice-aggregate-print-accepted-2
+    print-accepted-requires
+    (λ c. search needs)
+    (λ c. search needs)
+    (λ c. search needs)
+    returns
+    (λ c. search needs)
+    (λ c. search needs)
+    (λ c. search needs)
+    (λ c. search needs)
+    returns-2)

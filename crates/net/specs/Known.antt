@@ -1,0 +1,33 @@
+-- What 1 and 2, and 1 to 4, leave of a net, for the functions that come after them and for proofs. No promise cites it.
+use Prim.Native.Nat.{ℕ, _+_, _*_, _≤_, _<_}
+use mathlib.Core.Path.{_≡_}
+use mathlib.Core.List.{List}
+use lib.ListN.{length, getD}
+use Rattle.table.specs.Table.{KeyPasses}
+use Rattle.net.specs.Net.{keyCount, entryCount, keyLimit}
+use Rattle.net.specs.Checks.{SizesPass, WeightPasses}
+
+-- 1 and 2 refuse nothing
+pub record ShapePasses (net : List ℕ) : Type 0 where
+  pub sizes : SizesPass net
+  pub whole : length net ≡ 3 + 2 * entryCount net
+
+-- the same as the code reads the words
+pub record Known (net : List ℕ) : Type 0 where
+  pub long : length net ≡ 3 + 2 * getD net 2 0
+  pub some-place : 1 ≤ getD net 0 0
+  pub few-places : getD net 0 0 ≤ 32
+  pub some-transition : 1 ≤ getD net 1 0
+  pub few-transitions : getD net 1 0 ≤ 32
+  pub few-keys : keyCount (getD net 0 0) (getD net 1 0) ≤ 2080
+  pub few-entries : getD net 2 0 ≤ 2080
+
+-- 3 and 4 refuse nothing at entry i
+pub record EntryPasses (net : List ℕ) (i : ℕ) : Type 0 where
+  pub key : KeyPasses net 3 (keyLimit net) i
+  pub weight : WeightPasses net i
+
+-- 1 to 4 refuse nothing
+pub record EntriesPass (net : List ℕ) : Type 0 where
+  pub shape : ShapePasses net
+  pub each : (i : ℕ) → i < entryCount net → EntryPasses net i

@@ -1,0 +1,45 @@
+-- Marks and paths are what they are promised to be.
+use Prim.Native.Nat.{ℕ, _<_}
+use native.Mathlib.Omega.{arith}
+use mathlib.Core.Path.{_≡_, refl, sym, ap, _∙_}
+use mathlib.Core.Logic.{_↔_}
+use mathlib.Core.List.{List}
+use mathlib.Core.Bool.{Bool, true, false}
+use lib.ListN.{getD}
+use Rattle.scan.specs.Scan.{orElse, first, bit}
+use Rattle.scan.proofs.Tabulate.{tabulate-at}
+use Rattle.refusal.specs.Verdict.{verdictOf}
+use Rattle.refusal.proofs.Verdicts.{then-next}
+use Rattle.net.proofs.Checks.{net-judged}
+use Rattle.sequential.specs.Petri.{petriNet}
+use Rattle.sequential.specs.Words.{nodeCount}
+use Rattle.sequential.specs.Check.{reachFault}
+use Rattle.sequential.proofs.Words.{arcs-hold}
+use Rattle.graph.specs.Readable.{ArcsReadable}
+use Rattle.graph.proofs.Readable.{arcs-readable, arcs-accepted}
+use Rattle.reach.specs.Reach.{isReached, reachedMark, pathsFault, reachedReply, pathsReply}
+use Rattle.reach.specs.Demands.{PathsRight, PathsMean}
+use Rattle.reach.proofs.Meaning.{reached↔, return-by-marks}
+
+bit-one : (b : Bool) → (bit b ≡ 1) ↔ (b ≡ true)
+unfolding bit
+bit-one true = (λ e. cc, λ e. cc)
+bit-one false = (λ e. cc, λ e. cc)
+
+module _ (net sheet : List ℕ) (r : ArcsReadable net sheet) where
+  mark-is : (n : ℕ) → n < nodeCount sheet → getD (reachedReply net sheet) n 0 ≡ bit (isReached (petriNet net) sheet n)
+  unfolding reachedReply
+  mark-is n l = rw (arcs-accepted net sheet r) (tabulate-at (reachedMark (petriNet net) sheet) 0 128 n (let k = r .sizes .few-nodes in omega arith) ∙ unfold reachedMark in refl)
+
+  pub paths-right : PathsRight net sheet
+  unfolding pathsReply pathsFault
+  paths-right = record {
+    reached = λ n l.
+        let (f, g) = bit-one (isReached (petriNet net) sheet n) in
+        let (h, k) = reached↔ r n in
+        (λ e. h (f (sym (mark-is n l) ∙ e)), λ e. mark-is n l ∙ g (k e));
+    faults = λ awaits h. then-next _ _ (arcs-accepted net sheet r) ∙ ap (λ x. verdictOf (orElse (first (reachFault (petriNet net) sheet) (nodeCount sheet)) x)) (return-by-marks r awaits h);
+  }
+
+pub paths-mean : PathsMean
+paths-mean net sheet i p = paths-right net sheet (arcs-readable (net-judged net .accepts .1 i) (arcs-hold (petriNet net) sheet p))

@@ -1,0 +1,49 @@
+-- Bytes, digits and texts one behind the other.
+use Prim.Native.Nat.{ℕ, zero, suc, _+_, _/_, _%_, _≤_, _<_}
+use native.Mathlib.Numerals.{add-one}
+use native.Mathlib.Omega.{arith}
+use mathlib.Core.Path.{_≡_, refl}
+use mathlib.Core.List.{List, [], _∷_, _++_}
+use lib.ListN.{length, getD, take}
+use lib.Seq.{take-suc, take-all}
+use Rattle.text.specs.Buffer.{Put}
+use Rattle.text.specs.Decimal.{digit, decimal}
+use Rattle.text.specs.Lines.{kindName, joined}
+use Rattle.text.proofs.Decimal.{decimal-one, decimal-more}
+use Rattle.text.proofs.Put.{nothing-put, both-put}
+
+module _ (f : ℕ → List ℕ) where
+  joined-more : (i : ℕ) → joined f i ++ f i ≡ joined f (i + 1)
+  unfolding joined
+  joined-more i = rw add-one
+
+  pub none-joined : (out : List ℕ) (at : ℕ) → Put out at (joined f 0) at out
+  unfolding joined
+  none-joined out at = nothing-put out at
+
+  -- a text more
+  pub more-joined : {out mid out′ : List ℕ} {at m r : ℕ} (i : ℕ) → Put out at (joined f i) m mid → Put mid m (f i) r out′ → Put out at (joined f (i + 1)) r out′
+  more-joined i a b = rw (← joined-more i) (both-put a b)
+
+module _ {out out′ : List ℕ} {at r : ℕ} where
+  -- a byte more, and all of them
+  pub more-taken : {mid : List ℕ} {m : ℕ} (bytes : List ℕ) (i : ℕ) → i < length bytes
+      → Put out at (take i bytes) m mid → Put mid m (getD bytes i 0 ∷ []) r out′ → Put out at (take (i + 1) bytes) r out′
+  more-taken bytes i l a b = rw (add-one, take-suc bytes i 0) (both-put a b)
+
+  pub all-taken : (bytes : List ℕ) (i : ℕ) → length bytes ≤ i → Put out at (take i bytes) r out′ → Put out at bytes r out′
+  all-taken bytes i l a = rw take-all at a
+
+  -- the only digit, and the last one
+  pub one-digit : (n : ℕ) → n < 10 → Put out at (digit n ∷ []) r out′ → Put out at (decimal n) r out′
+  one-digit n l a = rw (decimal-one n l) at a
+
+  pub more-digits : {mid : List ℕ} {m : ℕ} (n : ℕ) → 10 ≤ n → Put out at (decimal (n / 10)) m mid → Put mid m (digit (n % 10) ∷ []) r out′ → Put out at (decimal n) r out′
+  more-digits n l a b = rw (decimal-more n l) at (both-put a b)
+
+pub record-name : (kind : ℕ) → 4 ≤ kind → kindName kind ≡ " record"
+record-name zero l = absurd (omega arith)
+record-name (suc zero) l = absurd (omega arith)
+record-name (suc (suc zero)) l = absurd (omega arith)
+record-name (suc (suc (suc zero))) l = absurd (omega arith)
+record-name (suc (suc (suc (suc k)))) l = refl

@@ -1,0 +1,5 @@
+pub mod Put
+pub mod Decimal
+pub mod Joined
+pub mod Longest
+pub mod Demands

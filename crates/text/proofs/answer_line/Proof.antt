@@ -1,0 +1,25 @@
+-- `text::answer_line` meets its contract.
+use borrow.Author.Needs.{needs}
+use Rattle.text.specs.Lines.{field, answerLine}
+use Rattle.text.proofs.Put.{both-put}
+use Rattle.text.proofs.answer_line.Statement.{statement}
+use Rattle.text.proofs.answer_line.Tie as tie
+
+returns : tie.Need-returns
+unfolding field answerLine
+returns c =
+    both-put (c .before .before .before .before .before .before .before .before .before .before .before .before .before .before .before .field .ensures)
+    (both-put (c .before .before .before .before .before .before .before .before .before .before .before .kind-name .ensures) (both-put (c .before .before .before .before .before .before .field2 .ensures) (c .before .before .byte .ensures)))
+
+pub answer-line-spec : {M : Type 1} → statement M
+answer-line-spec =
+    tie.close
+    (tie.spec
+    (λ c. search needs)
+    (λ c κs. search needs)
+    (λ c κs. search needs)
+    (λ c. search needs)
+    (λ c κs. search needs)
+    (λ c κs. search needs)
+    (λ c. search needs)
+    returns)

@@ -1,0 +1,52 @@
+-- `text::bound_lines` meets its contract: when the counter is p so many lines are put.
+use Prim.Native.Nat.{_≤_, _-_}
+use native.Mathlib.Omega.{arith}
+use mathlib.Core.Path.{_≡_, ap, _∙_}
+use lib.ListN.{length}
+use borrow.Author.Needs.{needs}
+use Rattle.text.specs.Buffer.{Put}
+use Rattle.text.specs.Lines.{joined, boundLineOf, boundLines}
+use Rattle.text.proofs.Put.{put-length}
+use Rattle.text.proofs.Joined.{none-joined, more-joined}
+use Rattle.text.proofs.bound_lines.Statement.{statement}
+use Rattle.text.proofs.bound_lines.Tie as tie
+
+abbrev Inv-loop : tie.InvT-loop
+Inv-loop out₀ at bounds next₀ p₀ out next p = (p ≤ length bounds) × Put out₀ at (joined (boundLineOf bounds) p) next out
+
+abbrev μ-loop : tie.MeasureT-loop
+μ-loop out₀ at bounds next₀ p₀ out next p = length bounds - p
+
+loop-holds : tie.Need-loop-holds Inv-loop μ-loop
+loop-holds c = (omega arith, none-joined _ _ _)
+
+loop-again : tie.Need-loop-again Inv-loop μ-loop
+unfolding boundLineOf
+loop-again c =
+    let w = c .before .before .before .before .before .before .loop in
+    (omega arith, more-joined (boundLineOf (c .before .before .before .before .before .before .before .before .before .args .bounds .now)) (w .p) (w .inv .1) (c .before .before .bound-line .ensures))
+
+same-length : tie.Need-same-length Inv-loop μ-loop
+same-length c = ap length (c .before .loop .inv .1 .held) ∙ put-length _ _ _
+
+returns : tie.Need-returns Inv-loop μ-loop
+unfolding boundLines
+returns c =
+    let e : c .before .loop .p ≡ length (c .before .before .before .before .args .bounds .now) = omega arith in
+    rw e at (c .before .loop .inv .1)
+
+pub bound-lines-spec : {M : Type 1} → statement M
+bound-lines-spec =
+    tie.close
+    (tie.spec
+    Inv-loop
+    μ-loop
+    loop-holds
+    (λ c. search needs)
+    (λ c. search needs)
+    (λ c κs. search needs)
+    (λ c. search needs)
+    (λ c. search needs)
+    loop-again
+    same-length
+    returns)

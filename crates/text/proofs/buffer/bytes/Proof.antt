@@ -1,0 +1,46 @@
+-- `text::buffer::bytes` meets its contract: when the counter is i the first i bytes are put.
+use Prim.Native.Nat.{_≤_, _-_}
+use native.Mathlib.Omega.{arith}
+use mathlib.Core.Path.{ap, _∙_}
+use lib.ListN.{length, take}
+use borrow.Author.Needs.{needs}
+use Rattle.text.specs.Buffer.{Put}
+use Rattle.text.proofs.Put.{nothing-put, put-length}
+use Rattle.text.proofs.Joined.{more-taken, all-taken}
+use Rattle.text.proofs.buffer.bytes.Statement.{statement}
+use Rattle.text.proofs.buffer.bytes.Tie as tie
+
+abbrev Inv-loop : tie.InvT-loop
+Inv-loop out₀ at bytes next₀ i₀ out next i = (i ≤ length bytes) × Put out₀ at (take i bytes) next out
+
+abbrev μ-loop : tie.MeasureT-loop
+μ-loop out₀ at bytes next₀ i₀ out next i = length bytes - i
+
+loop-holds : tie.Need-loop-holds Inv-loop μ-loop
+loop-holds c = (omega arith, nothing-put _ _)
+
+loop-again : tie.Need-loop-again Inv-loop μ-loop
+loop-again c =
+    let w = c .before .before .before .before .before .before .loop in
+    (omega arith, more-taken _ (w .i) (c .before .before .before .before .before .loop-test .taken) (w .inv .1) (c .before .before .byte .ensures))
+
+same-length : tie.Need-same-length Inv-loop μ-loop
+same-length c = ap length (c .before .loop .inv .1 .held) ∙ put-length _ _ _
+
+returns : tie.Need-returns Inv-loop μ-loop
+returns c = all-taken _ (c .before .loop .i) (omega arith) (c .before .loop .inv .1)
+
+pub bytes-spec : {M : Type 1} → statement M
+bytes-spec =
+    tie.close
+    (tie.spec
+    Inv-loop
+    μ-loop
+    loop-holds
+    (λ c. search needs)
+    (λ c κs. search needs)
+    (λ c. search needs)
+    (λ c. search needs)
+    loop-again
+    same-length
+    returns)

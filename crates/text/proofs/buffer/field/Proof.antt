@@ -1,0 +1,11 @@
+-- `text::buffer::field` meets its contract.
+use borrow.Author.Needs.{needs}
+use Rattle.text.proofs.Put.{both-put}
+use Rattle.text.proofs.buffer.field.Statement.{statement}
+use Rattle.text.proofs.buffer.field.Tie as tie
+
+returns : tie.Need-returns
+returns c = both-put (c .before .before .before .before .before .before .bytes .ensures) (c .before .before .decimal .ensures)
+
+pub field-spec : {M : Type 1} → statement M
+field-spec = tie.close (tie.spec (λ c κs. search needs) (λ c κs. search needs) (λ c. search needs) returns)

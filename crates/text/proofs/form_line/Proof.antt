@@ -1,0 +1,14 @@
+-- `text::form_line` meets its contract.
+use borrow.Author.Needs.{needs}
+use Rattle.text.specs.Lines.{formLine}
+use Rattle.text.proofs.Put.{both-put}
+use Rattle.text.proofs.form_line.Statement.{statement}
+use Rattle.text.proofs.form_line.Tie as tie
+
+returns : tie.Need-returns
+unfolding formLine
+returns c = both-put (c .before .before .before .before .before .before .before .before .before .before .bytes .ensures) (both-put (c .before .before .before .before .before .before .words .ensures) (c .before .before .byte .ensures))
+
+pub form-line-spec : {M : Type 1} → statement M
+form-line-spec =
+    tie.close (tie.spec (λ c. search needs) (λ c κs. search needs) (λ c κs. search needs) (λ c κs. search needs) (λ c. search needs) returns)

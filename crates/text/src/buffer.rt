@@ -1,0 +1,45 @@
+// Bytes, and numbers as decimal text.
+ghost use mathlib.Core.List.{[], _∷_, _++_};
+ghost use Rattle.text.specs.Buffer.{Put};
+ghost use Rattle.text.specs.Decimal.{decimal as Decimal·decimal};
+
+pub(crate) fn byte(out: &mut [u8], at: usize, byte: u8) -> usize
+    ensures { λ r. ⌜ Put (now (out .entry)) at (byte ∷ []) r (now (out .exit)) ⌝ }
+{
+    if at < out.len() {
+        out[at] = byte;
+        return at + 1;
+    }
+    at
+}
+
+pub(crate) fn bytes(out: &mut [u8], at: usize, bytes: &[u8]) -> usize
+    ensures { λ r. ⌜ Put (now (out .entry)) at (now (bytes .entry)) r (now (out .exit)) ⌝ }
+{
+    let mut next = at;
+    let mut i = 0;
+    while i < bytes.len() {
+        next = byte(out, next, bytes[i]);
+        i += 1;
+    }
+    next
+}
+
+// The digits before the last one are those of a tenth.
+pub(crate) fn decimal(out: &mut [u8], at: usize, n: u64) -> usize
+    ensures { λ r. ⌜ Put (now (out .entry)) at (Decimal·decimal n) r (now (out .exit)) ⌝ }
+{
+    if n < 10 {
+        return byte(out, at, 48 + n as u8);
+    }
+    let next = decimal(out, at, n / 10);
+    byte(out, next, 48 + (n % 10) as u8)
+}
+
+// A text, and a number behind it.
+pub(crate) fn field(out: &mut [u8], at: usize, name: &[u8], n: u64) -> usize
+    ensures { λ r. ⌜ Put (now (out .entry)) at (now (name .entry) ++ Decimal·decimal n) r (now (out .exit)) ⌝ }
+{
+    let next = bytes(out, at, name);
+    decimal(out, next, n)
+}
