@@ -7,19 +7,20 @@ import tempfile
 from lineup import home
 from lineup.trouble import Trouble
 from lineup.visible import quoted
-from lineup.words import NET_WORDS, SHEET_WORDS
+from lineup.words import LOG_WORDS, NET_WORDS, SHEET_WORDS
 
 SCRATCH, OUT_BLANK = 8_192, 9  # the words of scratch lent, and what an output buffer holds before a call
 KINDS = ("none", "entry", "place", "node", "record")
 ANSWER = re.compile(
-    rf"answer (?P<number>\d+) (?P<kind>{'|'.join(KINDS)}) (?P<index>\d+)(?P<own>(?: (?:nodes|arcs|awaits|fired|node|length) \d+)*)"
-    r"(?: out(?P<out>(?: \d+)*) rest (?P<rest>\d+))?(?: scratch [\d ]+)?"
+    rf"answer (?P<number>\d+) (?P<kind>{'|'.join(KINDS)}) (?P<index>\d+)(?P<own>(?: (?:nodes|arcs|awaits|fired|node|length|taken|put) \d+)*)"
+    r"(?P<outs>(?: out(?: \d+)* rest \d+)*)(?: scratch [\d ]+)?"
 )
+OUT = re.compile(r" out((?: \d+)*) rest (\d+)")
 
 
 class Answer:
-    """A line of the core: number, kind and index of the position, the call's own numbers by name, and the words written. `line` and, with
-    the words written, `whole` are what is quoted of it."""
+    """A line of the core: number, kind and index of the position, the call's own numbers by name, and what each output buffer holds, of which
+    `out` is the first. `line` and, with the buffers, `whole` are what is quoted of it."""
 
     def __init__(self, line):
         found = ANSWER.fullmatch(line)
@@ -28,7 +29,8 @@ class Answer:
         self.number, self.kind, self.index = int(found["number"]), found["kind"], int(found["index"])
         own = found["own"].split()
         self.own = dict(zip(own[::2], map(int, own[1::2])))
-        self.out = [int(word) for word in (found["out"] or "").split()] + [OUT_BLANK] * int(found["rest"] or 0)
+        self.outs = [[int(word) for word in out.split()] + [OUT_BLANK] * int(rest) for out, rest in OUT.findall(found["outs"])]
+        self.out = self.outs[0] if self.outs else []
         self.whole = line.split(" scratch ")[0]
         self.line = self.whole.split(" out ")[0]
 
@@ -64,6 +66,11 @@ def run(net, sheet, record):
     return f"6 {pair(net, sheet)} | record {told(record)} | out {min(net[0], 32) if net else 0} | scratch {SCRATCH}"
 
 
+def replay(net, sheet, log):
+    room = min(net[0], 32) if net else 0
+    return f"9 {pair(net, sheet)} | log {told(log[:LOG_WORDS])} | taken {room} | put {room} | scratch {SCRATCH}"
+
+
 def short(net, sheet):
     return f"7 {pair(net, sheet)} | out {SHEET_WORDS - 1} | scratch {SCRATCH}"
 
@@ -76,7 +83,7 @@ def ask(*calls):
     text = "\n".join(calls) + "\n0\n"
     lines = played(home.program("calls"), text, None).splitlines()
     if lines and lines[-1] == "too long":
-        raise Trouble("more words than the core's program takes in one call: net, sheet and firings may have 20,000 together")
+        raise Trouble("more words than the core's program takes in one call: net, sheet and firings may have 24,000 together")
     if len(lines) != len(calls):
         raise Trouble(f"the core gave {len(lines)} answers to {len(calls)} calls")
     return [Answer(line) for line in lines]

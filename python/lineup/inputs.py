@@ -2,17 +2,17 @@
 import os
 import re
 
-from lineup import faults, files, names, netfile, sheetfile, wordfile, words
+from lineup import faults, files, logfile, names, netfile, sheetfile, wordfile, words
 from lineup.match import mapped
 from lineup.trouble import Trouble
 from lineup.visible import quoted
 
-FORMS = {".bin": "bytes", ".txt": "decimal words", ".pnml": "PNML", ".net": "text", ".sheet": "text"}
+FORMS = {".bin": "bytes", ".txt": "decimal words", ".pnml": "PNML", ".net": "text", ".sheet": "text", ".log": "text"}
 REMARKS = re.compile(rb"(?:\xef\xbb\xbf)?\s*(?:#[^\n]*\n\s*)*")
 
 
 class Source:
-    """A net or a sheet as it was read: the words for the core, and the same with names, where the words can be read."""
+    """A net, a sheet or a log as it was read: the words for the core, and the same with names, where the words can be read."""
 
     def __init__(self, path, form):
         self.path, self.form = path, form  # form: text, PNML, decimal words, bytes
@@ -132,4 +132,20 @@ def sheet_over(path, net_source):
         source.model = words.sheet_of(source.words, over, source.names.of("node", source.words[0]))
         sizes = net_source.words[0], net_source.words[1], source.words[0]
         source.model.where = word_locations(source, words.SHEET_HEAD, lambda key: words.sheet_entry(*sizes, key))
+    return source
+
+
+def log(path, net_source, sheet_source):
+    """The log of a file or a folder, over a net and a sheet."""
+    source = opened(path, "log", words.LOG_WORDS)
+    if source.form == "PNML":
+        raise Trouble("PNML is for nets, and a log is expected", source.path)
+    if source.tail:
+        raise Trouble(f"{len(source.data)} bytes are no whole words of four bytes: {source.tail} over", source.path)
+    if not source.is_words() and net_source.model and sheet_source.model:
+        source.model = logfile.read(source.path, files.text(source.path, source.data), net_source.model, sheet_source.model)
+        source.words = words.log_words(source.model)
+    elif source.is_words() and not faults.log_shape(source.words):
+        many = source.words[0]
+        source.model = logfile.Log(source.words[1 : 1 + many], source.words[1 + many :])
     return source

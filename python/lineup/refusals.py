@@ -3,8 +3,8 @@ from collections import namedtuple
 
 Refusal = namedtuple("Refusal", "word meaning remedy")
 
-# which are about the net, about the words of a sheet, and about a list of firings; the others are about a sheet that can be read
-OF_NET, OF_WORDS, OF_RECORD = {1, 2, 3, 4, 5}, {6, 7, 8, 9}, {20}
+# which are about the net, about the words of a sheet, about a list of firings, and about a log; the others are about a sheet that can be read
+OF_NET, OF_WORDS, OF_RECORD, OF_LOG = {1, 2, 3, 4, 5}, {6, 7, 8, 9}, {20}, {20, 23, 24}
 
 REFUSALS = {
     1: Refusal(
@@ -116,5 +116,15 @@ REFUSALS = {
         "small out",
         "A program has lent a buffer that is too short for the result.",
         "Lend one word for each place, or 8,194 for a short form. No command of lineup gives this number.",
+    ),
+    23: Refusal(
+        "no record",
+        "The log of the header is empty, cut short, has something over, or has more than 4,096 firings.",
+        "Fetch the log again, or replay it in parts; by hand, count its words: one, then as many transitions as it says, then as many nodes.",
+    ),
+    24: Refusal(
+        "logged node differs",
+        "The log names another node than the one where the firing leads by the sheet.",
+        "See which sheet the header ran by; from this firing on, the log and the sheet do not speak of the same plant.",
     ),
 }

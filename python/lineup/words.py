@@ -1,9 +1,9 @@
-"""Nets and sheets as the words that the core reads, and back: the formulas of the keys stand here alone."""
+"""Nets, sheets and logs as the words that the core reads, and back: the formulas of the keys stand here alone."""
 from lineup.net import Net
 from lineup.sheet import Sheet
 
 NET_HEAD, SHEET_HEAD = 3, 2  # words before the keys
-NET_WORDS, SHEET_WORDS = 4_164, 8_195  # handed on of a longer file, one more than fits
+NET_WORDS, SHEET_WORDS, LOG_WORDS = 4_164, 8_195, 8_194  # handed on of a longer file, one more than fits
 
 
 def keyed(entries):
@@ -102,6 +102,13 @@ def sheet_of(words, net, nodes):
         kind, n, at = sheet_entry(len(net.places), len(net.transitions), len(nodes), key)
         (sheet.arcs if kind == "arc" else sheet.counts)[n][at] = value
     return sheet
+
+
+# ---- the log: how many firings, their transitions, the nodes that they reached
+
+
+def log_words(log):
+    return [len(log.firings)] + log.firings + log.nodes
 
 
 def pairs(words, head):

@@ -1,9 +1,9 @@
-"""Nets and sheets from the independent implementation, and the sources that lineup would read for them."""
+"""Nets, sheets and logs from the independent implementation, and the sources that lineup would read for them."""
 import functools
 import os
 import subprocess
 
-from lineup import faults, inputs, names, words
+from lineup import faults, inputs, logfile, names, words
 from lineup.home import HOME
 
 REFERENCE = os.path.join(HOME, "target", "reference", "release", "reference")
@@ -53,6 +53,22 @@ def damaged(seed, count):
         if operation in "23567":
             net = net_source(parts["net"])
             yield net, sheet_source(parts["sheet"], net), parts.get("record")
+
+
+def logged(seed, count):
+    """The same with a log: (net, sheet, log)."""
+    for operation, parts in lines("cases", seed, count):
+        if operation == "9":
+            net = net_source(parts["net"])
+            yield net, sheet_source(parts["sheet"], net), log_source(parts["log"])
+
+
+def log_source(found, path="generated/log.txt"):
+    source = inputs.Source(path, "decimal words")
+    source.words = found
+    if not faults.log_shape(found):
+        source.model = logfile.Log(found[1 : 1 + found[0]], found[1 + found[0] :])
+    return source
 
 
 def siblings(seed, count):

@@ -4,11 +4,11 @@ import os
 import sys
 import tempfile
 
-from lineup import files, inputs, netfile, pnml, sheetfile, trouble, wordfile
+from lineup import files, inputs, logfile, netfile, pnml, sheetfile, trouble, wordfile
 from lineup.home import HOME
 from lineup.trouble import Trouble
 
-READERS = ["tokens", "netfile", "sheetfile", "wordfile", "names", "xml", "pnml", "files", "inputs", "match"]
+READERS = ["tokens", "netfile", "sheetfile", "logfile", "wordfile", "names", "xml", "pnml", "files", "inputs", "match"]
 
 NET = "net jetty\npl header (1)\ntr berth -> jetty\ntr line-up jetty header -> line\n"
 
@@ -77,6 +77,17 @@ SHEETS = [
     ("a:\n  berth -> a b\n", "2:14", ["'b' after the arrow"]),
 ]
 
+LOGS = [
+    ("log may\n: a\n", "2:1", ["'transition -> NODE' is expected, not ':'"]),
+    ("log\n", "1:1", ["no transition 'log'"]),
+    ("bert -> a\n", "1:1", ["no transition 'bert' (did you mean 'berth'?)"]),
+    ("berth a\n", "1:7", ["'->' after a transition is expected, not 'a'"]),
+    ("berth ->\n", "1:9", ["the node that was reached is expected, not the end of the line"]),
+    ("berth -> b\nberth -> berthd\n", "1:10", ["no node 'b'"]),
+    ("berth -> berthd\n", "1:10", ["no node 'berthd' (did you mean 'berthed'?)"]),
+    ("berth -> berthed now\n", "1:18", ["'now' after the firing"]),
+]
+
 HEAD = '<pnml xmlns="http://www.pnml.org/version-2009/grammar/pnml">\n'
 OPEN = HEAD + '<net id="n" type="http://www.pnml.org/version-2009/grammar/ptnet"><page id="g">\n'
 CLOSE = "</page></net></pnml>"
@@ -124,6 +135,8 @@ def run(tally):
     met = watched()
     over = netfile.read("x.net", NET)
     tables = [("net", NETS, lambda text: netfile.read("x", text)), ("sheet", SHEETS, lambda text: sheetfile.read("x", text, over))]
+    at = sheetfile.read("x.sheet", "a:\nberthed: jetty\n", over)
+    tables += [("log", LOGS, lambda text: logfile.read("x", text, over, at))]
     tables += [("PNML", PNMLS, lambda text: pnml.read("x", text.encode())), ("words", WORDS, lambda text: wordfile.decimal("x", text))]
     for kind, table, read in tables:
         for text, where, parts in table:
@@ -165,6 +178,10 @@ def in_files(tally, folder):
     path("bare/jetty.net", NET)
     expect(tally, "a text in a folder", lambda: inputs.net(path("bare")), "", ["no net.txt; 'jetty.net' is a text, and is named itself"])
     expect(tally, "PNML for a sheet", lambda: inputs.sheet(path("a.pnml", "<pnml/>"), inputs.net(path("jetty.net"))), "", ["PNML is for nets", "swapped"])
+    both = inputs.net(path("jetty.net")), inputs.sheet(path("a.sheet", "a: header\n"), inputs.net(path("jetty.net")))
+    expect(tally, "PNML for a log", lambda: inputs.log(path("a.pnml"), *both), "", ["PNML is for nets, and a log is expected"])
+    expect(tally, "bytes of a log", lambda: inputs.log(path("a.bin", b"\0\0\0\0\1"), *both), "", ["5 bytes are no whole words of four bytes: 1 over"])
+    expect(tally, "no log", lambda: inputs.log(path("bare"), *both), "", ["the folder has no log.bin and no log.txt"])
     expect(tally, "a place to write", lambda: files.write(path("no/such/file"), "x"), "", ["cannot be written: no such file or directory"])
     for i, (text, where, parts) in enumerate(NAMES):
         path(f"names{i}/net.txt", "1 1 0")

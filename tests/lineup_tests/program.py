@@ -19,11 +19,12 @@ SHEET = "n:\n  s -> m\nm: a\n  u -> n\n"
 LONGER = "n:\n  s -> m\nm: a\n  u -> o\no:\n  s -> p\np: a\n  u -> n\n"
 GREEDY = "n:\n  s -> m\nm: a\n  s -> o\no: a*2\n  u -> p\np: a\n  u -> n\n"
 TORN = "n:\n  s -> m\nm: a\n"
+LOG = "log x\ns -> m\nu -> n\ns -> m\n"
 
 
 def run(tally):
     with tempfile.TemporaryDirectory() as folder:
-        for name, text in (("x.net", NET), ("x.sheet", SHEET), ("longer.sheet", LONGER), ("greedy.sheet", GREEDY), ("torn.sheet", TORN)):
+        for name, text in (("x.net", NET), ("x.sheet", SHEET), ("longer.sheet", LONGER), ("greedy.sheet", GREEDY), ("torn.sheet", TORN), ("x.log", LOG)):
             save(folder, name, text)
         statuses(tally, folder)
         outputs(tally, folder)
@@ -60,6 +61,10 @@ def statuses(tally, folder):
         (0, "run x.net x.sheet s u s", ["3 firings", "3  s -> m: a", "core: answer 0 none 0 fired 3 node 1 out 1 rest 0"]),
         (1, "run x.net x.sheet s s", ["refused, 20 not offered", "firing 2 of 2, s: node m offers u", "core: answer 20 record 1"]),
         (1, "run x.net torn.sheet s", ["11 dead end"]),
+        (0, "replay x.net x.sheet x.log", ["x.log: 3 firings from node n to node m", "a     taken 1 put 2   0 + 2 - 1 = 1", "total taken 1 put 2", "core: answer 0 none 0 taken 1 put 2 out 1 rest 0 out 2 rest 0"]),
+        (1, "replay x.net greedy.sheet x.log", ["x.log:3:1: refused, 20 not offered", "firing 2 of 3, u: node m offers s", "core: answer 20 record 1 taken 0 put 0"]),
+        (1, "replay x.net longer.sheet x.log", ["x.log:3:1: refused, 24 logged node differs", "firing 2 of 3, u: leads from node m to node o, and the log says node n", "core: answer 24 record 1"]),
+        (1, "replay x.net torn.sheet x.log", ["11 dead end"]),
         (0, "words x.net x.sheet", ["net 1 2 2 1 2 1 1", "sheet 2 3 0 3 5 1 0 1"]),
         (0, "names x.net x.sheet", ["tr u  a ->", "m:  a"]),
         (0, "names x.net --pnml", ['<place id="p0"><name><text>a</text></name></place>']),
@@ -114,6 +119,7 @@ def as_json(tally, folder):
         "short x.net longer.sheet": {"nodes": 2, "merged": [["n", "o"], ["m", "p"]], "words": [2, 3, 0, 3, 5, 1, 0, 1]},
         "bounds x.net greedy.sheet": {"bounds": {"a": 2}, "attained": {"a": ["o"]}},
         "run x.net x.sheet s": {"fired": 1, "node": "m", "counts": {"a": 1}},
+        "replay x.net x.sheet x.log": {"accepted": True, "firings": 3, "node": "m", "taken": {"a": 1}, "put": {"a": 2}, "total": {"taken": 1, "put": 2}},
         "words x.net": {"net": [1, 2, 2, 1, 2, 1, 1]},
         "names x.net": {"net": "pl a\ntr s    -> a\ntr u  a ->\n"},
         "draw x.net x.sheet": {"accepted": True},
@@ -161,6 +167,32 @@ def word_files(tally, folder):
         for command in ("short", "bounds", "run", "words", "names", "draw"):
             tally.same(f"{what}: {command}", lineup(folder, command, what)[0], 1)
     mixed(tally, folder, net, sheet)
+    word_logs(tally, folder, net, sheet)
+
+
+def word_logs(tally, folder, net, sheet):
+    """Logs as words: beside their net and sheet, in decimal and in bytes, and of another length."""
+    save(folder, "logged/net.bin", net)
+    save(folder, "logged/sheet.bin", sheet)
+    cases = {
+        "3 0 1 0 1 0 1": (0, ["3 firings from node n0 to node n1", "taken 1 put 2"]),
+        "0": (0, ["0 firings from node n0 to node n0", "core: answer 0 none 0 taken 0 put 0"]),
+        "": (1, ["refused, 23 no record", "there is no word"]),
+        "3 0 1 0 1 0": (1, ["log.txt:1:1: refused, 23 no record", "which makes 1 + 2 * 3 = 7 words; there are 6, 1 too few"]),
+        "1 0 1 1": (1, ["there are 4, 1 too many"]),
+        "4097 0": (1, ["the log has 4097 firings, and may have 4,096"]),
+        "1 0 2": (1, ["log.txt:1:5: refused, 24 logged node differs", "the log says node number 2, and the nodes are 0 to 1"]),
+        "1 2 1": (1, ["log.txt:1:3: refused, 20 not offered", "firing 1 of 1, transition 2: node n0 offers t0"]),
+    }
+    for log, (status, parts) in cases.items():
+        save(folder, "logged/log.txt", log)
+        found = lineup(folder, "replay", "logged", "logged/log.txt")
+        tally.same(f"log {log!r}: status", (found[0], found[2]), (status, ""))
+        tally.holds(f"log {log!r}", found[1], *parts)
+    save(folder, "logged/log.bin", struct.pack("<3I", 1, 0, 1))
+    tally.holds("a log of bytes", lineup(folder, "replay", "logged", "logged")[1], "logged/log.bin: 1 firing from node n0 to node n1")
+    save(folder, "long.bin", struct.pack("<9000I", 4500, *[0] * 8999))
+    tally.holds("a log that is too long", lineup(folder, "replay", "logged", "long.bin")[1], "the log has 4500 firings, and may have 4,096")
 
 
 def turned(data):
@@ -192,6 +224,8 @@ def trouble(tally, folder):
         ("check x.sheet x.net", 2, "swapped", ""),
         ("check x.net x.net", 2, "swapped", ""),
         ("run x.net x.sheet S", 2, "firing 1: no transition 'S' (did you mean 's'?)", ""),
+        ("replay x.net x.sheet", 2, "a log is missing", ""),
+        ("replay x.net x.sheet y.log", 2, "no such file (did you mean 'x.log'?)", ""),
         ("draw x.net -o picture", 2, "the suffix tells the form", ""),
         ("draw x.net -o no/where.svg", 2, "cannot be written", ""),
         ("words x.net -o x.net/y", 2, "no folder can be made", ""),
@@ -201,8 +235,8 @@ def trouble(tally, folder):
         tally.same(f"{command!r}: status", found[0], status)
         tally.holds(f"{command!r}: errors", found[2], errors)
         tally.holds(f"{command!r}: output", found[1], output)
-    long = lineup(folder, "run", "x.net", "x.sheet", *["s", "u"] * 11_000)
-    tally.same("a list that is too long", (long[0], "20,000 together" in long[2]), (2, True))
+    long = lineup(folder, "run", "x.net", "x.sheet", *["s", "u"] * 13_000)
+    tally.same("a list that is too long", (long[0], "24,000 together" in long[2]), (2, True))
     hundreds = lineup(folder, "run", "x.net", "x.sheet", *["s", "u"] * 3_000)
     tally.holds("a long list", hundreds[1], "fired 6000 node 0")
 
@@ -220,6 +254,9 @@ def disagreements(tally, folder):
             ("bounds x.net x.sheet", "out 1", "out 2"),
             ("run x.net x.sheet s", "node 1", "node 0"),
             ("run x.net x.sheet s s", "record 1", "record 0"),
+            ("replay x.net x.sheet x.log", "taken 1", "taken 2"),
+            ("replay x.net x.sheet x.log", "out 2", "out 1"),
+            ("replay x.net longer.sheet x.log", "answer 24 record 1", "answer 24 record 0"),
             ("diff x.net x.sheet greedy.sheet", "answer 20", "answer 0"),
             ("diff x.net torn.sheet x.sheet", "answer 11 node 1 length 0", "answer 0 none 0 length 0"),
             ("short x.net torn.sheet", "answer 11 node 1 length 0", "answer 0 none 0 length 0"),

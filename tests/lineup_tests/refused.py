@@ -4,6 +4,7 @@ from collections import Counter
 
 import generated
 from lineup import core, explain, faults, netfile, sheetfile, words
+from lineup.commands import replay
 from lineup.inputs import Source
 from lineup.pair import Pair
 from lineup.refusals import REFUSALS
@@ -20,20 +21,21 @@ def run(tally):
         if answer.number and net.model and sheet.model and small:
             as_text(tally, f"case {i} as text", net, sheet, answer)
     runs(tally, [(net, sheet, record) for (net, sheet, record), answer in zip(cases, checked) if record is not None and not answer.number], met)
-    tally.same("numbers met", sorted(met), [*range(18), 20])
+    replays(tally, list(generated.logged(5, 4000)), met)
+    tally.same("numbers met", sorted(met), [*range(18), 20, 23, 24])
     for number in REFUSALS:
         tally.check(f"{number} has its word, meaning and remedy", all(REFUSALS[number]))
     nets_alone(tally, cases)
     too_large(tally)
 
 
-def told(tally, what, net, sheet, answer, record=None):
+def told(tally, what, net, sheet, answer, record=None, log=None):
     """The fault found again is the core's, and a refusal is told without the words for nothing."""
-    fault = explain.again(net, sheet, record) or faults.Fault(0)
+    fault = explain.again(net, sheet, record, log) or faults.Fault(0)
     tally.same(f"{what}: {answer.line}", tuple(fault), answer.fault())
     if not answer.number:
         return None
-    found = explain.explain(answer, net, sheet, record)
+    found = explain.explain(answer, net, sheet, record, log)
     tally.check(f"{what}: told", found.lines and not re.search("None|Counter|dict|<", " ".join(found.lines)), found.lines)
     return found
 
@@ -59,6 +61,19 @@ def runs(tally, cases, met):
         found = told(tally, f"run {i}", net, sheet, answer, record)
         if found:
             tally.holds(f"run {i}: the firing", found.lines[0], f"firing {answer.index + 1} of {len(record)}")
+
+
+def replays(tally, cases, met):
+    """Logs, most of them over sheets that are accepted: what is refused, and the sums of the rest."""
+    answers = core.ask(*(core.replay(net.words, sheet.words, log.words) for net, sheet, log in cases))
+    for i, ((net, sheet, log), answer) in enumerate(zip(cases, answers)):
+        met[answer.number] += 1
+        found = told(tally, f"replay {i}", net, sheet, answer, log=log)
+        if answer.kind == "record":
+            tally.holds(f"replay {i}: the firing", found.lines[0], f"firing {answer.index + 1} of {log.words[0]}")
+        if not answer.number:
+            sums = [replay.summed(log, rows, len(net.model.places)) for rows in (net.model.taken, net.model.put)]
+            tally.same(f"replay {i}: {answer.line}", (answer.outs, [answer.own["taken"], answer.own["put"]]), (sums, list(map(sum, sums))))
 
 
 def nets_alone(tally, cases):

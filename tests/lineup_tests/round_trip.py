@@ -4,7 +4,7 @@ import random
 import tempfile
 
 import generated
-from lineup import files, inputs, names, netfile, pnml, sheetfile, wordfile, words, wordtext
+from lineup import files, inputs, logfile, names, netfile, pnml, sheetfile, wordfile, words, wordtext
 
 ODD = ["tank 1", "a{b}", "back\\slash", "{", "}", "->", "-", "#1", "p*2", "(x)", "a:b", "net", "pl", "tr", "sheet", "nt", "[0,w["]
 ODD += ["'", "1", "007", "ä", "Ωmega", "船", '"q"', "a&b<c>", "x->y", "a.b-c", "é"]
@@ -22,7 +22,27 @@ def run(tally):
         if i % 2:
             rename(net.model, sheet.model)
         both_ways(tally, f"generated pair {i}", net, sheet)
+    logs(tally)
     readable(tally)
+
+
+def logs(tally):
+    """A log whose transitions and nodes are there, as text and back, with odd names in every other."""
+    many = 0
+    for i, (net, sheet, log) in enumerate(generated.logged(7, 3000)):
+        if not (log.model and net.model and sheet.model):
+            continue
+        if any(t >= len(net.model.transitions) for t in log.model.firings) or any(n >= len(sheet.model.nodes) for n in log.model.nodes):
+            continue
+        if i % 2:
+            rename(net.model, sheet.model)
+        log.model.name = random.choice([None, "may", "a log"])
+        text = logfile.write(net.model, sheet.model, log.model)
+        again = logfile.read("again.log", text, net.model, sheet.model)
+        tally.same(f"log {i}: text to words", (words.log_words(again), again.name), (log.words, log.model.name))
+        tally.same(f"log {i}: text to text", logfile.write(net.model, sheet.model, again), text)
+        many += 1
+    tally.check("logs as text", many > 100, many)
 
 
 def readable(tally):

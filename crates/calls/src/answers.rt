@@ -117,6 +117,69 @@ fn lending(operation: u32, net: &[u32], sheet: &[u32], words: &[u32], outs: usiz
     );
 }
 
+// The line of a replay, with the buffers lent to it.
+fn replayed(
+    net: &[u32],
+    sheet: &[u32],
+    log: &[u32],
+    taken: &mut [u64],
+    put: &mut [u64],
+    scratch: &mut [u32],
+) {
+    print::replay_answer(replay::replay(net, sheet, log, taken, put, scratch));
+    print::numbers(taken, 9);
+    print::numbers(put, 9);
+    print::scratch(scratch, 7);
+    print::text(b"\n");
+}
+
+// The line of a replay. Both output buffers hold 9 before the call, and scratch 7, in the lengths lent.
+fn lending_two(
+    net: &[u32],
+    sheet: &[u32],
+    log: &[u32],
+    takens: usize,
+    puts: usize,
+    scratches: usize,
+)
+    requires { ⌜ takens ≤ 9000 ⌝ }
+    requires { ⌜ puts ≤ 9000 ⌝ }
+    requires { ⌜ scratches ≤ 9000 ⌝ }
+{
+    let mut taken = [9u64; 9000];
+    let mut put = [9u64; 9000];
+    let mut scratch = [7u32; 9000];
+    replayed(
+        net,
+        sheet,
+        log,
+        &mut taken[..takens],
+        &mut put[..puts],
+        &mut scratch[..scratches],
+    );
+}
+
+// The line of a case, with buffers of the lengths lent; the second is a replay's.
+fn lent(
+    operation: u32,
+    net: &[u32],
+    sheet: &[u32],
+    words: &[u32],
+    outs: usize,
+    seconds: usize,
+    scratches: usize,
+)
+    requires { ⌜ outs ≤ 9000 ⌝ }
+    requires { ⌜ seconds ≤ 9000 ⌝ }
+    requires { ⌜ scratches ≤ 9000 ⌝ }
+{
+    if cases::replays(operation) {
+        lending_two(net, sheet, words, outs, seconds, scratches);
+    } else {
+        lending(operation, net, sheet, words, outs, scratches);
+    }
+}
+
 // The line of a case whose net, sheet and further words lie one after the other.
 pub(crate) fn line(
     operation: u32,
@@ -125,18 +188,21 @@ pub(crate) fn line(
     sheet: usize,
     words: usize,
     outs: usize,
+    seconds: usize,
     scratches: usize,
 )
     requires { ⌜ (net ≤ sheet) × (sheet ≤ words) × (words ≤ length (now all)) ⌝ }
     requires { ⌜ outs ≤ 9000 ⌝ }
+    requires { ⌜ seconds ≤ 9000 ⌝ }
     requires { ⌜ scratches ≤ 9000 ⌝ }
 {
-    lending(
+    lent(
         operation,
         &all[..net],
         &all[net..sheet],
         &all[sheet..words],
         outs,
+        seconds,
         scratches,
     );
 }

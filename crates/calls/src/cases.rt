@@ -21,9 +21,10 @@ struct Marks {
     rest: Text,
 }
 
-// The lengths of the buffers lent to a call.
+// The lengths of the buffers lent to a call. The second is a replay's, for what is put.
 struct Buffers {
     out: usize,
+    second: usize,
     scratch: usize,
     fits: bool,
     rest: Text,
@@ -37,7 +38,7 @@ pub(crate) fn reads_sheet(operation: u32) -> bool {
     }
 }
 
-// Whether an operation has an output buffer.
+// Whether an operation has one output buffer, of words.
 pub(crate) fn writes_out(operation: u32) -> bool {
     match operation {
         3 | 6 | 7 => true,
@@ -45,7 +46,28 @@ pub(crate) fn writes_out(operation: u32) -> bool {
     }
 }
 
-// How many words a case has besides net, sheet and record: a node, 32 counts and a transition, or a transition and a place.
+// Whether an operation is the replay, which has two output buffers, of numbers of 64 bits.
+pub(crate) fn replays(operation: u32) -> bool {
+    operation == 9
+}
+
+// Whether an operation has a first output buffer.
+fn lends_out(operation: u32) -> bool {
+    if replays(operation) {
+        return true;
+    }
+    writes_out(operation)
+}
+
+// Whether an operation has a record or a log.
+fn has_record(operation: u32) -> bool {
+    if replays(operation) {
+        return true;
+    }
+    operation == 6
+}
+
+// How many words a case has besides net, sheet and record or log: a node, 32 counts and a transition, or a transition and a place.
 fn further_words(operation: u32) -> u32 {
     match operation {
         5 => 34,
@@ -64,14 +86,21 @@ fn all_fit(a: bool, b: bool, c: bool) -> bool {
     c
 }
 
-// All words of a case: net, sheet, and a record or the further words.
+// All words of a case: net, sheet, and a record, a log or the further words.
 fn lists(operation: u32, buffer: &mut [u8], from: Text, into: &mut [u32]) -> Marks
     ensures { λ r. ⌜ (r .net ≤ r .sheet) × (r .sheet ≤ r .words) × (r .words ≤ length (now (into .exit))) ⌝ }
 {
     let net = input::list(true, 0, buffer, from, into, 0);
     let sheet = input::list(reads_sheet(operation), 0, buffer, net.rest, into, net.end);
     let further = further_words(operation);
-    let words = input::list(operation == 6, further, buffer, sheet.rest, into, sheet.end);
+    let words = input::list(
+        has_record(operation),
+        further,
+        buffer,
+        sheet.rest,
+        into,
+        sheet.end,
+    );
     let rest = words.rest;
     Marks {
         net: net.end,
@@ -84,15 +113,18 @@ fn lists(operation: u32, buffer: &mut [u8], from: Text, into: &mut [u32]) -> Mar
 
 // The lengths of the buffers, which fit where the words did and they do.
 fn lent(operation: u32, fits: bool, buffer: &mut [u8], from: Text) -> Buffers
-    ensures { λ r. ⌜ (r .out ≤ 9000) × (r .scratch ≤ 9000) ⌝ }
+    ensures { λ r. ⌜ (r .out ≤ 9000) × (r .second ≤ 9000) × (r .scratch ≤ 9000) ⌝ }
 {
-    let out = input::length_if(writes_out(operation), buffer, from, 9000);
-    let scratch = input::length_if(reads_sheet(operation), buffer, out.rest, 9000);
+    let out = input::length_if(lends_out(operation), buffer, from, 9000);
+    let second = input::length_if(replays(operation), buffer, out.rest, 9000);
+    let scratch = input::length_if(reads_sheet(operation), buffer, second.rest, 9000);
     let rest = scratch.rest;
+    let both = all_fit(fits, out.fits, second.fits);
     Buffers {
         out: out.end,
+        second: second.end,
         scratch: scratch.end,
-        fits: all_fit(fits, out.fits, scratch.fits),
+        fits: all_fit(both, both, scratch.fits),
         rest,
     }
 }
@@ -109,7 +141,16 @@ fn answered(operation: u32, buffer: &mut [u8], from: Text, into: &mut [u32]) -> 
         print::text(b"too long\n");
         return Next { more: false, rest };
     }
-    answers::line(operation, into, net, sheet, words, lent.out, lent.scratch);
+    answers::line(
+        operation,
+        into,
+        net,
+        sheet,
+        words,
+        lent.out,
+        lent.second,
+        lent.scratch,
+    );
     Next { more: true, rest }
 }
 
@@ -118,7 +159,7 @@ fn ends(operation: u32) -> bool {
     if operation == 0 {
         return true;
     }
-    if operation > 8 {
+    if operation > 9 {
         print::text(b"no such call\n");
         return true;
     }

@@ -5,8 +5,9 @@
 //   2 sheet check    net, sheet, scratch         6 run            net, sheet, record, out, scratch
 //   3 place bounds   net, sheet, out, scratch    7 minimal form   net, sheet, out, scratch
 //   4 fresh walker   net                         8 weights        net, transition, place
-// Net, sheet and record are their length and their words, out and scratch the length lent: out holds 9 before a call and scratch 7.
-// A line ends with the output buffer's words up to the last that is not 9 and how many follow, and with how many words of scratch are 0,
+//   9 replay         net, sheet, log, taken, put, scratch
+// Net, sheet, record and log are their length and their words; out, taken, put and scratch the length lent: these hold 9 before a call, and scratch 7.
+// A line ends with each output buffer's words up to the last that is not 9 and how many follow, and with how many words of scratch are 0,
 // how many are 7, and where the first 7 is. The words of a case and each buffer have a limit, past which the program ends: `too long`.
 mod answers;
 mod cases;
@@ -15,6 +16,6 @@ mod print;
 
 fn main() {
     let mut buffer = io::large_buffer();
-    let mut words = [0u32; 20000];
+    let mut words = [0u32; 24000];
     cases::play(&mut buffer, &mut words);
 }

@@ -6,6 +6,7 @@ use judge::CheckAnswer;
 use libc::STDOUT_FILENO;
 use minimal::FormAnswer;
 use refusal::Verdict;
+use replay::ReplayAnswer;
 use schedule::RunAnswer;
 use schedule::Walker;
 
@@ -57,6 +58,13 @@ pub(crate) fn run_answer(answer: RunAnswer) {
     named(b" node", plain[4] as u64);
 }
 
+pub(crate) fn replay_answer(answer: ReplayAnswer) {
+    let plain = answer.plain();
+    told(plain[0] as usize, plain[1] as usize, plain[2] as usize);
+    named(b" taken", plain[3]);
+    named(b" put", plain[4]);
+}
+
 pub(crate) fn form_answer(answer: FormAnswer) {
     let plain = answer.plain();
     told(plain[0], plain[1], plain[2]);
@@ -70,8 +78,12 @@ pub(crate) fn weights(taken: u32, put: u32, start: u32) {
     named(b" start", start as u64);
 }
 
+fn number(n: u64) {
+    named(b"", n);
+}
+
 fn word(w: u32) {
-    named(b"", w as u64);
+    number(w as u64);
 }
 
 fn all(words: &[u32]) {
@@ -127,6 +139,36 @@ pub(crate) fn out(words: &[u32], blank: u32) {
     text(b" out");
     all(&words[..n]);
     named(b" rest", (words.len() - n) as u64);
+}
+
+// How many numbers there are up to the last that is not `blank`.
+fn used_numbers(numbers: &[u64], blank: u64) -> usize
+    ensures { λ r. ⌜ (r ≤ length (now (numbers .entry))) × (r ≡ length (take r (now (numbers .entry)))) ⌝ }
+{
+    let mut n = numbers.len();
+    while n > 0 {
+        if numbers[n - 1] != blank {
+            break;
+        }
+        n -= 1;
+    }
+    n
+}
+
+fn all_numbers(numbers: &[u64]) {
+    let mut i = 0;
+    while i < numbers.len() {
+        number(numbers[i]);
+        i += 1;
+    }
+}
+
+// The numbers up to the last that is not `blank`, and how many follow.
+pub(crate) fn numbers(numbers: &[u64], blank: u64) {
+    let n = used_numbers(numbers, blank);
+    text(b" out");
+    all_numbers(&numbers[..n]);
+    named(b" rest", (numbers.len() - n) as u64);
 }
 
 // How many words are 0, how many are still `blank`, and where the first of these is.

@@ -3,5 +3,7 @@ pub mod Demand1
 pub mod Demand2
 pub mod Demand3
 pub mod Further
+pub mod BesideRun
+pub mod Replay
 pub mod Examples
 pub mod Nine

@@ -1,4 +1,5 @@
--- The limits, each named once: how many places, transitions, nodes and entries there may be, how large a weight or a count, and the scratch that a call asks for: §1.3 to §1.6.
+-- The limits, each named once: how many places, transitions, nodes, entries and logged firings there may be, how large a weight or a count, and the scratch
+-- that a call asks for: §1.3 to §1.6, §1.9.
 use Prim.Native.Nat.{ℕ}
 
 abbrev pub mostPlaces : ℕ
@@ -12,6 +13,9 @@ mostNodes = 128
 
 abbrev pub mostEntries : ℕ
 mostEntries = 4096
+
+abbrev pub mostFirings : ℕ
+mostFirings = 4096
 
 abbrev pub mostCount : ℕ
 mostCount = 1000000000

@@ -39,7 +39,7 @@ impl Position {
     }
 }
 
-// The limits: of P, T, V and K of a schedule, of weights and counts, and the words of scratch that a call asks for.
+// The limits: of P, T, V and K of a schedule, of a log's firings, of weights and counts, and the words of scratch that a call asks for.
 pub struct Limits {}
 
 impl Limits {
@@ -50,6 +50,8 @@ impl Limits {
     pub const NODES: u32 = 128; // §1.4
 
     pub const ENTRIES: u32 = 4096; // §1.4
+
+    pub const FIRINGS: u32 = 4096; // §1.9
 
     pub const COUNT: u32 = 1000000000; // §1.5
 
@@ -107,6 +109,10 @@ impl Refusal {
     pub const SMALL_SCRATCH: u32 = 21; // §7.21, small scratch
 
     pub const SMALL_OUTPUT: u32 = 22; // §7.22, small out
+
+    pub const LOG_SHAPE: u32 = 23; // §7.23, no record
+
+    pub const WRONG_NODE: u32 = 24; // §7.24, logged node differs
 }
 
 // What a check answers that has no numbers of its own.

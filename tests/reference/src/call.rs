@@ -11,13 +11,14 @@ pub enum Kind {
     SingleFiring,
     Run,
     ShortForm,
+    Replay,
 }
 
-use Kind::{FreshWalker, NetCheck, PlaceBounds, Run, SheetCheck, ShortForm, SingleFiring};
+use Kind::{FreshWalker, NetCheck, PlaceBounds, Replay, Run, SheetCheck, ShortForm, SingleFiring};
 
 impl Kind {
-    pub const ALL: [Kind; 7] =
-        [NetCheck, SheetCheck, PlaceBounds, FreshWalker, SingleFiring, Run, ShortForm];
+    pub const ALL: [Kind; 8] =
+        [NetCheck, SheetCheck, PlaceBounds, FreshWalker, SingleFiring, Run, ShortForm, Replay];
 
     pub fn name(self) -> &'static str {
         match self {
@@ -28,12 +29,16 @@ impl Kind {
             SingleFiring => "fire",
             Run => "run",
             ShortForm => "form",
+            Replay => "replay",
         }
     }
 
-    /// The operation's number in a case.
+    /// The operation's number in a case; 8 asks for weights.
     pub fn operation(self) -> u32 {
-        self as u32 + 1
+        match self {
+            Replay => 9,
+            _ => self as u32 + 1,
+        }
     }
 
     /// The words before each of the call's own numbers.
@@ -42,6 +47,7 @@ impl Kind {
             SheetCheck => &["nodes", "arcs", "awaits"],
             Run => &["fired", "node"],
             ShortForm => &["length"],
+            Replay => &["taken", "put"],
             _ => &[],
         }
     }
@@ -53,6 +59,16 @@ impl Kind {
 
     pub fn writes_out(self) -> bool {
         matches!(self, PlaceBounds | Run | ShortForm)
+    }
+
+    /// Whether it is handed a record or a log.
+    pub fn has_record(self) -> bool {
+        matches!(self, Run | Replay)
+    }
+
+    /// Whether it has two output buffers, of 64 bits to the number.
+    pub fn writes_sums(self) -> bool {
+        self == Replay
     }
 
     pub fn hands_walker(self) -> bool {
@@ -70,6 +86,7 @@ pub struct Call {
     pub transition: u32,
     pub walker: Walker,
     pub out: Vec<u32>,
+    pub sums: [Vec<u64>; 2],
     pub scratch: Vec<u32>,
 }
 
@@ -79,11 +96,12 @@ pub struct Outcome {
     pub reply: Vec<u64>,
     pub walker: Walker,
     pub out: Vec<u32>,
+    pub sums: [Vec<u64>; 2],
     pub scratch: Vec<u32>,
 }
 
 impl Call {
-    /// A call with an output buffer that holds every result and scratch that passes 21.
+    /// A call with output buffers that hold every result and scratch that passes 21.
     pub fn new(kind: Kind, net: &[u32], sheet: &[u32]) -> Call {
         Call {
             kind,
@@ -93,6 +111,7 @@ impl Call {
             transition: 0,
             walker: [0; 1 + LINES],
             out: vec![0; FORM],
+            sums: [vec![0; LINES], vec![0; LINES]],
             scratch: vec![0; SCRATCH],
         }
     }
@@ -100,7 +119,7 @@ impl Call {
     /// What the model leaves behind.
     pub fn put(&self) -> Outcome {
         let Call { net, sheet, record, transition, .. } = self;
-        let Call { mut walker, mut out, mut scratch, .. } = self.clone();
+        let Call { mut walker, mut out, mut sums, mut scratch, .. } = self.clone();
         let reply = match self.kind {
             NetCheck => model::net_check(net).to_vec(),
             SheetCheck => model::sheet_check(net, sheet, &mut scratch).to_vec(),
@@ -111,8 +130,12 @@ impl Call {
             }
             Run => model::run(net, sheet, record, &mut out, &mut scratch).to_vec(),
             ShortForm => model::short_form(net, sheet, &mut out, &mut scratch).to_vec(),
+            Replay => {
+                let [taken, put] = &mut sums;
+                model::replay(net, sheet, record, taken, put, &mut scratch).to_vec()
+            }
         };
-        Outcome { reply, walker, out, scratch }
+        Outcome { reply, walker, out, sums, scratch }
     }
 
     /// The words that the call wrote or handed back.

@@ -2,6 +2,7 @@
 //! garbage, with walkers, records and buffers that fit or do not.
 
 pub mod damage;
+pub mod logs;
 pub mod rng;
 pub mod schedules;
 pub mod variants;
@@ -122,7 +123,10 @@ pub fn call(rng: &mut Rng) -> Call {
         }
     }
     let mut call = Call::new(kind, &net_part, &sheet_part);
-    call.record = record(rng, &schedule);
+    call.record = match kind {
+        Kind::Replay => logs::any(rng, &schedule),
+        _ => record(rng, &schedule),
+    };
     call.walker = walker(rng, &schedule);
     call.transition = transition(rng, &schedule, call.walker[0]);
     let needed = match kind {
@@ -131,6 +135,7 @@ pub fn call(rng: &mut Rng) -> Call {
         _ => 0,
     };
     call.out = buffer(rng, needed);
+    call.sums = [0, 1].map(|_| sums(rng, schedule.net.places()));
     call.scratch = scratch(rng);
     call
 }
@@ -158,7 +163,7 @@ pub fn record(rng: &mut Rng, schedule: &Schedule) -> Vec<u32> {
 
 /// A number that may be no transition of the net; T + t is what a careless reader takes for an arc
 /// of the next node.
-fn stray_transition(rng: &mut Rng, schedule: &Schedule) -> u32 {
+pub(crate) fn stray_transition(rng: &mut Rng, schedule: &Schedule) -> u32 {
     let transitions = schedule.net.transitions();
     match rng.below(4) {
         0 => rng.word(),
@@ -197,7 +202,18 @@ fn transition(rng: &mut Rng, schedule: &Schedule, node: u32) -> u32 {
 
 /// An output buffer that holds what is needed, or one word less, or other lengths.
 fn buffer(rng: &mut Rng, needed: usize) -> Vec<u32> {
-    let length = match rng.below(8) {
+    let length = lent(rng, needed);
+    rng.words(length)
+}
+
+/// One of a replay's two buffers, long enough in most.
+fn sums(rng: &mut Rng, places: usize) -> Vec<u64> {
+    let length = if rng.chance(75) { places + rng.below(3) } else { lent(rng, places) };
+    (0..length).map(|_| rng.next()).collect()
+}
+
+fn lent(rng: &mut Rng, needed: usize) -> usize {
+    match rng.below(8) {
         0 => needed.saturating_sub(1),
         1 => 0,
         2 => rng.below(needed + 1),
@@ -205,8 +221,7 @@ fn buffer(rng: &mut Rng, needed: usize) -> Vec<u32> {
         4 => needed + rng.below(40),
         5 => FORM,
         _ => needed,
-    };
-    rng.words(length)
+    }
 }
 
 /// Scratch of 8,192 words, or one less, or others, never cleared.

@@ -1,4 +1,4 @@
-//! The worked examples, §14.2 to §14.6, with their answers.
+//! The worked examples, §14.2 to §14.6, with their answers, and logs whose replay is told by hand.
 
 use crate::generate::rng::Rng;
 use crate::generate::schedules::{crowded, nine_nodes, ring};
@@ -31,6 +31,7 @@ pub fn check(tally: &mut Tally) {
         tally.same(&format!("net {net}, sheet {sheet}"), is, should);
     }
     short_forms(tally);
+    replays(tally);
     limits(tally);
     output(tally);
 }
@@ -57,6 +58,39 @@ fn short_forms(tally: &mut Tally) {
     let (net, sheet) = nine_nodes().words();
     tally.same("nine nodes checked", sheet_check(&net, &sheet, SCRATCH), [0, 0, 0, 9, 12, 3]);
     tally.same("short form of nine nodes", form(&net, &sheet).1[0], 9);
+}
+
+/// Logs of the sheet of two nodes: t0 puts one and leads to node 1, t1 takes it and leads back.
+fn replays(tally: &mut Tally) {
+    let replay = |net: &str, sheet: &str, log: &[u32], room: [usize; 2]| {
+        let [mut taken, mut put] = room.map(|room| vec![9; room]);
+        let (net, sheet) = (text_words(net), text_words(sheet));
+        let reply = model::replay(&net, &sheet, log, &mut taken, &mut put, &mut [0; SCRATCH]);
+        (reply, taken, put)
+    };
+    let kept = |reply: [u64; 5]| (reply, vec![9, 9], vec![9, 9]);
+    let two = |log: &[u32]| replay(A, STARRED[1].1, log, [2, 2]);
+    tally.same("no firings", two(&[0]), ([0; 5], vec![0, 9], vec![0, 9]));
+    tally.same("two firings", two(&[2, 0, 1, 1, 0]), ([0, 0, 0, 1, 1], vec![1, 9], vec![1, 9]));
+    tally.same("one firing", two(&[1, 0, 1]), ([0, 0, 0, 0, 1], vec![0, 9], vec![1, 9]));
+    tally.same("wrong node", two(&[2, 0, 1, 1, 1]), kept([24, 4, 1, 0, 0]));
+    tally.same("no node", two(&[2, 0, 1, 2, 0]), kept([24, 4, 0, 0, 0]));
+    tally.same("20 before 24", two(&[2, 1, 0, 9, 9]), kept([20, 4, 0, 0, 0]));
+    tally.same("24 before a later 20", two(&[2, 0, 0, 0, 0]), kept([24, 4, 0, 0, 0]));
+    for log in [&[][..], &[1], &[u32::MAX], &[0, 0], &[1, 0, 1, 0], &[2, 0, 1, 1]] {
+        tally.same("no log", two(log), kept([23, 0, 0, 0, 0]));
+    }
+    let short = replay(A, STARRED[1].1, &[1, 0, 1], [1, 0]);
+    tally.same("one buffer is short", short, ([22, 0, 0, 0, 0], vec![9], vec![]));
+    let turns = |n: u32| -> Vec<u32> {
+        [n].into_iter().chain((0..n).map(|i| i % 2)).chain((0..n).map(|i| 1 - i % 2)).collect()
+    };
+    let large = |n| {
+        replay("1 2 2 1 2 1000000000 1000000000", "2 3 0 3 5 1 0 1000000000", &turns(n), [1, 1])
+    };
+    let sum = 2_048_000_000_000;
+    tally.same("4,096 firings", large(4_096), ([0, 0, 0, sum, sum], vec![sum], vec![sum]));
+    tally.same("4,097 firings", large(4_097), ([23, 0, 0, 0, 0], vec![9], vec![9]));
 }
 
 /// The limits: §14.6.

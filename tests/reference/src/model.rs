@@ -14,6 +14,8 @@ pub const LINES: usize = 32;
 pub const MAX_NODES: u64 = 128;
 pub const MAX_ENTRIES: u64 = 4_096;
 pub const MAX_WEIGHT: u64 = 1_000_000_000;
+/// Firings that a log has at most: §1.9.
+pub const MAX_FIRINGS: u64 = 4_096;
 /// Words of scratch below which a call is refused by 21: §1.6.
 pub const SCRATCH: usize = 8_192;
 /// Words that every short form fits in: §11.7.
@@ -207,6 +209,53 @@ pub fn run(
         }
         write(out, &as_words(&marking))?;
         Ok(vec![record.len() as u64, node as u64])
+    });
+    plain(answer)
+}
+
+/// The transitions of a log and the nodes that it names: §10.10. N is looked at before the length.
+fn read_log(log: &[u32]) -> Result<(&[u32], &[u32]), Refusal> {
+    match log.split_first() {
+        Some((&n, rest)) if u64::from(n) <= MAX_FIRINGS && rest.len() == 2 * n as usize => {
+            Ok(rest.split_at(n as usize))
+        }
+        _ => refuse(23, Nothing),
+    }
+}
+
+/// Replay: §10.11. The sums are those of §10.12, firing by firing.
+pub fn replay(
+    net: &[u32],
+    sheet: &[u32],
+    log: &[u32],
+    taken: &mut [u64],
+    put: &mut [u64],
+    scratch: &mut [u32],
+) -> [u64; 5] {
+    let answer = accept(net, sheet, scratch).and_then(|(net, sheet)| {
+        let (firings, named) = read_log(log)?;
+        let places = net.places();
+        let (mut from, mut into) = (vec![0; places], vec![0; places]);
+        let mut node = 0;
+        for (i, (&t, &name)) in firings.iter().zip(named).enumerate() {
+            let Some(target) = sheet.arc(node, t) else {
+                return refuse(20, Record(i));
+            };
+            if name as usize != target {
+                return refuse(24, Record(i));
+            }
+            for p in 0..places {
+                from[p] += net.taken[t as usize][p];
+                into[p] += net.put[t as usize][p];
+            }
+            node = target;
+        }
+        if taken.len() < places || put.len() < places {
+            return refuse(22, Nothing);
+        }
+        taken[..places].copy_from_slice(&from);
+        put[..places].copy_from_slice(&into);
+        Ok(vec![from.iter().sum(), into.iter().sum()])
     });
     plain(answer)
 }

@@ -53,7 +53,7 @@ impl Table {
     pub fn print(&self) {
         let head: String = Kind::ALL.iter().map(|kind| format!("{:>8}", kind.name())).collect();
         println!("number{head}     all");
-        for number in 0..=22 {
+        for number in 0..=24 {
             let cells: String =
                 Kind::ALL.iter().map(|&kind| format!("{:>8}", self.cell(number, kind))).collect();
             println!("{number:>6}{cells}{:>8}", self.times(number));

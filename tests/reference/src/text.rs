@@ -12,9 +12,10 @@
 //! | 6 run | net, sheet, record, out, scratch |
 //! | 7 short form | net, sheet, out, scratch |
 //! | 8 weights | net, transition, place |
+//! | 9 replay | net, sheet, log, taken, put, scratch |
 //!
-//! Net, sheet and record are their length and their words, out and scratch the length lent: out
-//! holds 9 before the call and scratch 7. Numbers are decimal and parted by anything that is no
+//! Net, sheet, record and log are their length and their words; out, taken, put and scratch the
+//! length lent: these hold 9 before the call, and scratch 7. Numbers are decimal and parted by anything that is no
 //! digit; `#` starts a comment that ends with the line. 0 for an operation, or the end, ends.
 
 use crate::call::{Call, Kind, Outcome};
@@ -55,8 +56,8 @@ impl Numbers {
         (0..length).map(|_| self.next()).collect()
     }
 
-    fn buffer(&mut self, word: u32) -> Vec<u32> {
-        vec![word; self.next() as usize]
+    fn buffer<T: Clone>(&mut self, blank: T) -> Vec<T> {
+        vec![blank; self.next() as usize]
     }
 }
 
@@ -78,7 +79,7 @@ impl Case {
         let net = from.words();
         let sheet = if kind.reads_sheet() { from.words() } else { Vec::new() };
         let mut call = Call::new(kind, &net, &sheet);
-        if kind == Kind::Run {
+        if kind.has_record() {
             call.record = from.words();
         }
         if kind == Kind::SingleFiring {
@@ -87,6 +88,9 @@ impl Case {
         }
         if kind.writes_out() {
             call.out = from.buffer(OUT);
+        }
+        if kind.writes_sums() {
+            call.sums = [from.buffer(u64::from(OUT)), from.buffer(u64::from(OUT))];
         }
         if kind.reads_sheet() {
             call.scratch = from.buffer(SCRATCH);
@@ -126,8 +130,9 @@ impl Call {
         if self.kind.reads_sheet() {
             text += &format!(" | sheet {}", counted(&self.sheet));
         }
-        if self.kind == Kind::Run {
-            text += &format!(" | record {}", counted(&self.record));
+        if self.kind.has_record() {
+            let name = if self.kind == Kind::Run { "record" } else { "log" };
+            text += &format!(" | {name} {}", counted(&self.record));
         }
         if self.kind == Kind::SingleFiring {
             let (node, counts) = (self.walker[0], &self.walker[1..]);
@@ -136,6 +141,10 @@ impl Call {
         }
         if self.kind.writes_out() {
             text += &format!(" | out {}", self.out.len());
+        }
+        if self.kind.writes_sums() {
+            let [taken, put] = [0, 1].map(|i| self.sums[i].len());
+            text += &format!(" | taken {taken} | put {put}");
         }
         if self.kind.reads_sheet() {
             text += &format!(" | scratch {}", self.scratch.len());
@@ -151,7 +160,7 @@ pub fn position(reply: &[u64]) -> String {
 }
 
 impl Outcome {
-    /// The answer, the call's own numbers, the walker, the output buffer up to its last word that
+    /// The answer, the call's own numbers, the walker, each output buffer up to its last number that
     /// is not 9, and of scratch how many words are 0, how many are 7, and where the first 7 is.
     pub fn line(&self, call: &Call) -> String {
         let mut line = position(&self.reply);
@@ -163,8 +172,10 @@ impl Outcome {
             line += &format!(" node {} counts{}", self.walker[0], blanked(counts));
         }
         if call.kind.writes_out() {
-            let words = used(&self.out, OUT);
-            line += &format!(" out{} rest {}", blanked(words), self.out.len() - words.len());
+            line += &left(&self.out, OUT);
+        }
+        if call.kind.writes_sums() {
+            line += &self.sums.iter().map(|sums| left(sums, u64::from(OUT))).collect::<String>();
         }
         if call.kind.reads_sheet() {
             let times = |word: u32| self.scratch.iter().filter(|&&held| held == word).count();
@@ -176,10 +187,16 @@ impl Outcome {
     }
 }
 
-/// The words up to the last that is not `blank`.
-fn used(words: &[u32], blank: u32) -> &[u32] {
-    let length = words.iter().rposition(|&word| word != blank).map_or(0, |last| last + 1);
-    &words[..length]
+/// An output buffer up to its last number that is not `blank`, and how many follow.
+fn left<T: PartialEq + std::fmt::Display>(out: &[T], blank: T) -> String {
+    let numbers = used(out, blank);
+    format!(" out{} rest {}", blanked(numbers), out.len() - numbers.len())
+}
+
+/// The numbers up to the last that is not `blank`.
+fn used<T: PartialEq>(numbers: &[T], blank: T) -> &[T] {
+    let length = numbers.iter().rposition(|number| *number != blank).map_or(0, |last| last + 1);
+    &numbers[..length]
 }
 
 /// The length of a list, then its words.
@@ -187,9 +204,9 @@ fn counted(words: &[u32]) -> String {
     format!("{}:{}", words.len(), blanked(words))
 }
 
-/// Words with a blank before each.
-fn blanked(words: &[u32]) -> String {
-    words.iter().map(|word| format!(" {word}")).collect()
+/// Numbers with a blank before each.
+fn blanked<T: std::fmt::Display>(numbers: &[T]) -> String {
+    numbers.iter().map(|number| format!(" {number}")).collect()
 }
 
 /// Numbers with blanks between them.

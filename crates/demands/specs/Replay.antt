@@ -1,0 +1,85 @@
+-- What is promised of a replay (§13.10): of anything that meets its postcondition. proofs/Replay has a term for the record.
+use Prim.Native.Nat.{ℕ, suc, _+_, _-_, _≤_, _<_}
+use mathlib.Core.Path.{_≡_}
+use mathlib.Core.Logic.{_↔_, _⊎_}
+use mathlib.Core.List.{List, [], _∷_, _++_}
+use mathlib.Core.Option.{some}
+use lib.ListN.{length, getD, drop}
+use Rattle.scan.specs.Scan.{sum, tabulate}
+use Rattle.automaton.specs.Automaton.{Automaton, follow}
+use Rattle.refusal.specs.Limits.{scratchLimit}
+use Rattle.refusal.specs.Refusal.{refusal, told}
+use Rattle.refusal.specs.Checks.{once, AllPass}
+use Rattle.refusal.specs.declared.Position.the-variants.{Record}
+use Rattle.net.specs.Checks.{IsNet}
+use Rattle.sequential.specs.Petri.{PetriNet, petriNet, initial, FiresEnabled}
+use Rattle.sequential.specs.Schedule.{IsSchedule}
+use Rattle.sequential.specs.Checks.{WordsPass}
+use Rattle.call.specs.Demands.{number, own, EveryCall}
+use Rattle.schedule.specs.Calls.{RunDone}
+use Rattle.schedule.specs.Plain.{plainRun}
+use Rattle.schedule.specs.declared.RunAnswer.{RunAnswer}
+use Rattle.replay.specs.Log.{firingCount, loggedAt, firingsTo, firings, moved}
+use Rattle.replay.specs.Checks.{logChecks, FiringOffered, NodeReached, replayChecks}
+use Rattle.replay.specs.Calls.{ReplayDone}
+use Rattle.replay.specs.Plain.{plainReplay}
+use Rattle.replay.specs.declared.ReplayAnswer.{ReplayAnswer}
+use Rattle.demands.specs.Terms.{said, allChecks}
+
+-- all that is asked: §10.11
+pub record Replayable (net sheet log taken put scratch : List ℕ) : Type 0 where
+  pub scratch-holds : scratchLimit ≤ length scratch
+  pub net-passes : IsNet net
+  pub words-pass : WordsPass (petriNet net) sheet
+  pub schedule : IsSchedule (petriNet net) (said net sheet)
+  pub log-passes : AllPass (logChecks log)
+  pub offered : (i : ℕ) → i < firingCount log → FiringOffered (petriNet net) sheet log i
+  pub reached : (i : ℕ) → i < firingCount log → NodeReached (petriNet net) sheet log i
+  pub taken-holds : petriNet net .places ≤ length taken
+  pub put-holds : petriNet net .places ≤ length put
+
+-- what an accepted log says, and what is written and answered for it: §10.12
+pub record Replayed (N : PetriNet) (A : Automaton) (log taken put : List ℕ) (all-taken all-put : ℕ) (taken′ put′ : List ℕ) : Type 0 where
+  -- its firings lead to each node that it names and to the last, and are enabled where they are fired
+  pub reached : (i : ℕ) → i < firingCount log → follow A 0 (firingsTo log (suc i)) ≡ some (loggedAt log i)
+  pub end : ℕ
+  pub ends : follow A 0 (firings log) ≡ some end
+  pub enabled : FiresEnabled N (initial N) (firings log)
+  -- at each place the sums over its firings; what lies past the places is as it was
+  pub taken-written : taken′ ≡ tabulate (moved (N .taken) log) (N .places) ++ drop (N .places) taken
+  pub put-written : put′ ≡ tabulate (moved (N .put) log) (N .places) ++ drop (N .places) put
+  -- and these over all places
+  pub taken-answered : all-taken ≡ sum (moved (N .taken) log) (N .places)
+  pub put-answered : all-put ≡ sum (moved (N .put) log) (N .places)
+  -- what a place starts with and what is put is what it holds at the end and what is taken, so that nothing is cut off where what is taken is taken off
+  pub balance : (p : ℕ) → p < N .places → N .start p + moved (N .put) log p ≡ getD (A .label end) p 0 + moved (N .taken) log p
+  pub left : (p : ℕ) → p < N .places → N .start p + moved (N .put) log p - moved (N .taken) log p ≡ getD (A .label end) p 0
+
+-- each number left in two buffers is the same, or is as it was in both
+abbrev pub LeftAlike : List ℕ → List ℕ → List ℕ → List ℕ → Type 0
+LeftAlike o₁ o₂ o₁′ o₂′ = (i : ℕ) → (getD o₁′ i 0 ≡ getD o₂′ i 0) ⊎ ((getD o₁′ i 0 ≡ getD o₁ i 0) × (getD o₂′ i 0 ≡ getD o₂ i 0))
+
+-- as every call (§13.1), by its checks; 22 where either buffer has fewer numbers than there are places
+abbrev pub EveryReplay : List ℕ → List ℕ → List ℕ → List ℕ → List ℕ → Type 0
+EveryReplay net sheet log taken put =
+    EveryCall {Left = List ℕ × List ℕ} scratchLimit plainReplay 2
+    (allChecks net sheet (replayChecks (petriNet net) sheet log ++ (once ((petriNet net .places ≤ length taken) × (petriNet net .places ≤ length put)) 22 ∷ [])))
+    (taken, put) (λ s a left s′. ReplayDone net sheet log taken put s a (left .0) (left .1) s′)
+
+pub record ReplayDemand : Type 0 where
+  pub every : (net sheet log taken put : List ℕ) → EveryReplay net sheet log taken put
+  -- what the buffers and scratch held is read by nothing: §13.5
+  pub unread : (net sheet log t₁ t₂ p₁ p₂ s₁ s₂ t₁′ t₂′ p₁′ p₂′ s₁′ s₂′ : List ℕ) (a₁ a₂ : ReplayAnswer) → length t₁ ≡ length t₂ → length p₁ ≡ length p₂ → length s₁ ≡ length s₂
+      → ReplayDone net sheet log t₁ p₁ s₁ a₁ t₁′ p₁′ s₁′ → ReplayDone net sheet log t₂ p₂ s₂ a₂ t₂′ p₂′ s₂′
+      → (a₁ ≡ a₂) × LeftAlike t₁ t₂ t₁′ t₂′ × LeftAlike p₁ p₂ p₁′ p₂′
+  -- accepted exactly when all that is asked holds
+  pub accepts : (net sheet log taken put s taken′ put′ s′ : List ℕ) (a : ReplayAnswer) → ReplayDone net sheet log taken put s a taken′ put′ s′
+      → (number (plainReplay a) ≡ 0) ↔ Replayable net sheet log taken put s
+  -- and then it is a run, with its totals
+  pub totals : (net sheet log taken put s taken′ put′ s′ : List ℕ) (a : ReplayAnswer) → ReplayDone net sheet log taken put s a taken′ put′ s′ → number (plainReplay a) ≡ 0
+      → Replayed (petriNet net) (said net sheet) log taken put (own (plainReplay a) 0) (own (plainReplay a) 1) taken′ put′
+  -- where the nodes named before firing i are those reached, it is refused by 20 there exactly when the run of its transitions is
+  pub runs : (net sheet log taken put s taken′ put′ s′ out t out′ t′ : List ℕ) (a : ReplayAnswer) (b : RunAnswer) (i : ℕ)
+      → ReplayDone net sheet log taken put s a taken′ put′ s′ → RunDone net sheet (firings log) out t b out′ t′ → scratchLimit ≤ length s → scratchLimit ≤ length t
+      → AllPass (logChecks log) → ((j : ℕ) → j < i → NodeReached (petriNet net) sheet log j)
+      → (plainReplay a ≡ told (refusal 20 (Record i)) 2) ↔ (plainRun b ≡ told (refusal 20 (Record i)) 2)

@@ -1,0 +1,86 @@
+-- The replay as an instance of what every call is: how its words are judged, and the paths of its code.
+use Prim.Native.Nat.{ℕ}
+use mathlib.Core.Path.{_≡_, refl, sym, ap, _∙_}
+use mathlib.Core.List.{List, [], _∷_, _++_}
+use mathlib.Core.Option.{none}
+use lib.ListN.{length}
+use Rattle.scan.specs.Scan.{first}
+use Rattle.scan.proofs.First.{orElse-next}
+use Rattle.scan.proofs.Tabulate.{tabulate-length}
+use Rattle.refusal.specs.Verdict.{verdictOf}
+use Rattle.refusal.specs.declared.Refusal.{Refusal}
+use Rattle.refusal.specs.declared.Verdict.{Verdict}
+use Rattle.refusal.specs.declared.Verdict.the-variants.{Accepted, Refused}
+use Rattle.refusal.proofs.Verdicts.{answer-left, then-next, then-refused}
+use Rattle.refusal.proofs.Judges.{judges-found, judges-then}
+use Rattle.net.specs.Net.{placeCount}
+use Rattle.net.specs.Checks.{netChecks}
+use Rattle.sequential.specs.Petri.{petriNet}
+use Rattle.sequential.specs.Checks.{sheetChecks}
+use Rattle.sequential.specs.Check.{scheduleReply}
+use Rattle.sequential.proofs.Accepted.{schedule-judged}
+use Rattle.call.specs.Call.{roomFault}
+use Rattle.call.proofs.Laws.{refused-first, refused-second, answered-two}
+use Rattle.call.proofs.Judged.{Lawful}
+use Rattle.replay.specs.Log.{firingCount, moved}
+use Rattle.replay.specs.Checks.{replayChecks}
+use Rattle.replay.specs.Tests.{logFault, firingFault}
+use Rattle.replay.specs.Calls.{replayVerdict, totalsOf, takenRow, putRow, replayCore, ReplayWritten}
+use Rattle.replay.specs.Plain.{plainReplay}
+use Rattle.replay.specs.Tally.{Settled}
+use Rattle.replay.specs.declared.Totals.{Totals}
+use Rattle.replay.specs.declared.ReplayAnswer.the-variants.{Done, Stopped}
+use Rattle.replay.proofs.Logs.{replay-tells, replay-fault}
+
+-- ---- what is found before the buffers are measured
+
+module _ (net sheet log : List ℕ) {v : Verdict} where
+  pub sheet-refused : {r : Refusal} → v ≡ scheduleReply net sheet → v ≡ Refused r → v ≡ replayVerdict net sheet log
+  unfolding replayVerdict
+  sheet-refused e h = e ∙ sym (then-refused (scheduleReply net sheet) _ _ (sym e ∙ h))
+
+  module _ (a : scheduleReply net sheet ≡ Accepted) where
+    pub log-refused : {r : Refusal} → v ≡ verdictOf (logFault log) → v ≡ Refused r → v ≡ replayVerdict net sheet log
+    unfolding replayVerdict
+    log-refused e h = answer-left (logFault log) _ v _ e h ∙ ap verdictOf (sym (replay-fault (petriNet net) sheet log)) ∙ sym (then-next _ _ a)
+
+    pub firings-judged : logFault log ≡ none → v ≡ verdictOf (first (firingFault (petriNet net) sheet log) (firingCount log)) → v ≡ replayVerdict net sheet log
+    unfolding replayVerdict
+    firings-judged n e = e ∙ ap verdictOf (sym (replay-fault (petriNet net) sheet log ∙ orElse-next _ _ n)) ∙ sym (then-next _ _ a)
+
+-- ---- the buffers: a row has room where P numbers have
+
+module _ (net sheet log taken put : List ℕ) (ok : replayVerdict net sheet log ≡ Accepted) {n : ℕ} (e : n ≡ placeCount net) where
+  taken-room : {v w : Verdict} → v ≡ roomFault (length taken) n → v ≡ w → roomFault (length taken) (length (takenRow (petriNet net) log)) ≡ w
+  unfolding takenRow
+  taken-room h k = rw (tabulate-length (moved (petriNet net .taken) log) (placeCount net), ← e) (sym h ∙ k)
+
+  put-room : {v w : Verdict} → v ≡ roomFault (length put) n → v ≡ w → roomFault (length put) (length (putRow (petriNet net) log)) ≡ w
+  unfolding putRow
+  put-room h k = rw (tabulate-length (moved (petriNet net .put) log) (placeCount net), ← e) (sym h ∙ k)
+
+  pub taken-short : {v : Verdict} {r : Refusal} → v ≡ roomFault (length taken) n → v ≡ Refused r → ReplayWritten net sheet log taken put (Stopped r) taken put
+  taken-short h k = refused-first refl ok (taken-room h k) refl
+
+  pub put-short : {v : Verdict} {r : Refusal} → v ≡ roomFault (length put) n → v ≡ Refused r → ReplayWritten net sheet log taken put (Stopped r) taken put
+  put-short h k = refused-second refl ok (put-room h k) refl
+
+  pub all-written : {v w : Verdict} {r : Totals} {taken′ put′ : List ℕ} → v ≡ roomFault (length taken) n → v ≡ Accepted → w ≡ roomFault (length put) n → w ≡ Accepted
+      → Settled net log taken put r taken′ put′ → ReplayWritten net sheet log taken put (Done r) taken′ put′
+  unfolding takenRow putRow
+  all-written h k i j s =
+      answered-two refl ok (unfold takenRow in (taken-room h k)) (unfold putRow in (put-room i j)) (ap Done (s .all))
+      (s .taken-written ∙ rw (tabulate-length (moved (petriNet net .taken) log) (placeCount net))) (s .put-written ∙ rw (tabulate-length (moved (petriNet net .put) log) (placeCount net)))
+
+-- ---- what the call shows of its core
+
+pub replay-law : (net sheet log : List ℕ) → Lawful (replayCore net sheet log) plainReplay 2 (totalsOf (petriNet net) log .taken ∷ totalsOf (petriNet net) log .put ∷ [])
+    ((netChecks net ++ sheetChecks (petriNet net) sheet) ++ replayChecks (petriNet net) sheet log)
+unfolding replayVerdict
+replay-law net sheet log = record {
+  judged = judges-then _ _ (netChecks net ++ sheetChecks (petriNet net) sheet) _ (schedule-judged net sheet) (λ p. judges-found _ _ (replay-tells (petriNet net) sheet log));
+  proper = refl;
+  plain-accepted = refl;
+  own-length = refl;
+  plain-refused = λ r. refl;
+}

@@ -1,0 +1,63 @@
+-- `replay::replay_into` meets its contract.
+use native.Mathlib.Omega.{arith}
+use mathlib.Core.Path.{refl, sym, _∙_}
+use borrow.Author.Needs.{needs}
+use Rattle.call.proofs.Lent.{room-holds}
+use Rattle.call.proofs.Laws.{refused-words}
+use Rattle.replay.proofs.Replays.{countable}
+use Rattle.replay.proofs.Done.{taken-short, put-short, all-written}
+use Rattle.replay.proofs.replay_into.Statement.{statement}
+use Rattle.replay.proofs.replay_into.Tie as tie
+
+returns : tie.Need-returns
+returns c = refused-words (sym (c .before .before .before .checked .ensures) ∙ c .before .found .given .1) refl
+
+returns-2 : tie.Need-returns-2
+returns-2 c =
+    let b = c .before .before .before .before in
+    taken-short _ _ _ _ _ (sym (b .before .before .before .checked .ensures) ∙ b .before .enum-told .given .1) (b .places .ensures)
+    (c .before .before .before .output-fault .ensures) (c .before .found2 .given .1)
+
+returns-3 : tie.Need-returns-3
+returns-3 c =
+    let b = c .before .before .before .before .before .before .before in
+    put-short _ _ _ _ _ (sym (b .before .before .before .checked .ensures) ∙ b .before .enum-told .given .1) (b .places .ensures)
+    (c .before .before .before .output-fault2 .ensures) (c .before .found3 .given .1)
+
+settle-requires : tie.Need-settle-requires
+settle-requires c κs =
+    let b = c .before .before .before .before .before .before .before .before in
+    let x = room-holds _ _ (sym (c .before .before .before .before .before .before .before .output-fault .ensures) ∙ c .before .before .before .before .before .enum-told2 .given .1) in
+    let y = room-holds _ _ (sym (c .before .before .before .before .output-fault2 .ensures) ∙ c .before .before .enum-told3 .given .1) in
+    (countable _ _ _ (sym (b .before .before .before .checked .ensures) ∙ b .before .enum-told .given .1), (omega (arith, b .places .ensures), omega (arith, b .places .ensures)))
+
+returns-4 : tie.Need-returns-4
+returns-4 c =
+    let d = c .before .before .before .before .before .before .before in
+    let b = d .before .before .before .before .before .before in
+    all-written _ _ _ _ _ (sym (b .before .before .before .checked .ensures) ∙ b .before .enum-told .given .1) (b .places .ensures)
+    (d .before .before .before .before .before .output-fault .ensures) (d .before .before .before .enum-told2 .given .1)
+    (d .before .before .output-fault2 .ensures) (d .enum-told3 .given .1) (c .before .before .before .before .settle .ensures)
+
+pub replay-into-spec : {M : Type 1} → statement M
+replay-into-spec =
+    tie.close
+    (tie.spec
+    (λ c κs. search needs)
+    (λ c. search needs)
+    returns
+    (λ c. search needs)
+    (λ c κs. search needs)
+    (λ c. search needs)
+    (λ c κs. search needs)
+    (λ c. search needs)
+    returns-2
+    (λ c. search needs)
+    (λ c κs. search needs)
+    (λ c. search needs)
+    returns-3
+    (λ c. search needs)
+    settle-requires
+    (λ c. search needs)
+    (λ c. search needs)
+    returns-4)

@@ -1,0 +1,66 @@
+-- `replay::tally::add_row` meets its contract: the row is right before the counter.
+use native.Mathlib.Omega.{arith}
+use borrow.Author.Needs.{needs}
+use mathlib.Core.Path.{_≡_}
+use Prim.Native.Nat.{ℕ, _-_, _≤_, _<_}
+use lib.ListN.{length, getD, length-set}
+use native.Mathlib.Nat.{mul-le-mul}
+use Rattle.scan.proofs.Tabulate.{tabulate-is, stored-more}
+use Rattle.replay.specs.Tally.{added}
+use Rattle.replay.proofs.tally.add_row.Statement.{statement}
+use Rattle.replay.proofs.tally.add_row.Tie as tie
+
+abbrev Inv-loop : tie.InvT-loop
+Inv-loop times sums row next₀ p₀ next p = (p ≤ 32) × (length next ≡ 32) × ((j : ℕ) → j < p → getD next j 0 ≡ added sums row times j)
+
+abbrev μ-loop : tie.MeasureT-loop
+μ-loop times sums row next₀ p₀ next p = 32 - p
+
+loop-holds : tie.Need-loop-holds Inv-loop μ-loop
+loop-holds c = (omega arith, search needs, λ j l. absurd (omega arith))
+
+-- 4,096 times a word fits, also on top of a sum
+mul-next-2 : tie.Need-mul-next-2 Inv-loop μ-loop
+mul-next-2 c =
+    let t : c .before .wide .result ≤ 4096 = omega (arith, c .before .wide .ensures .0, c .before .before .before .before .pre .0) in
+    omega (arith, mul-le-mul t (c .wide2 .ensures .1))
+
+add-next : tie.Need-add-next Inv-loop μ-loop
+add-next c =
+    let t : c .before .wide .result ≤ 4096 = omega (arith, c .before .wide .ensures .0, c .before .before .before .before .pre .0) in
+    omega (arith, mul-le-mul t (c .wide2 .ensures .1), c .before .before .before .before .pre .1 (c .before .before .before .loop .p) (omega arith))
+
+loop-again : tie.Need-loop-again Inv-loop μ-loop
+unfolding added
+loop-again c =
+    let a = c .before .before .before .before .args in
+    let w = c .before .before .before .loop in (
+      omega arith,
+      simp length-set (w .inv .1),
+      stored-more (added (a .t1) (a .t2) (a .times)) (w .next) (w .p) _ (w .inv .2) (omega arith) (rw (c .before .wide .ensures .0, c .wide2 .ensures .0)),
+    )
+
+returns : tie.Need-returns Inv-loop μ-loop
+returns c = tabulate-is _ 0 32 _ (c .before .loop .inv .1) (λ p l. c .before .loop .inv .2 p (omega arith))
+
+pub add-row-spec : {M : Type 1} → statement M
+add-row-spec =
+    tie.close
+    (tie.spec
+    Inv-loop
+    μ-loop
+    loop-holds
+    (λ c. search needs)
+    (λ c. search needs)
+    (λ c κs. search needs)
+    (λ c. search needs)
+    (λ c. search needs)
+    (λ c κs. search needs)
+    mul-next-2
+    add-next
+    (λ c. search needs)
+    (λ c. search needs)
+    (λ c. search needs)
+    (λ c. omega arith)
+    loop-again
+    returns)

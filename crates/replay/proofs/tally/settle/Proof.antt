@@ -1,0 +1,35 @@
+-- `replay::tally::settle` meets its contract.
+use native.Mathlib.Omega.{arith}
+use borrow.Author.Needs.{needs}
+use Rattle.net.proofs.Laws.{sizes}
+use Rattle.replay.proofs.Sides.{often-fits, settled}
+use Rattle.replay.proofs.tally.settle.Statement.{statement}
+use Rattle.replay.proofs.tally.settle.Tie as tie
+
+fired-times-requires : tie.Need-fired-times-requires
+fired-times-requires c κs =
+    let p = c .before .before .before .before .pre .0 in
+    let s = sizes _ (p .accepted) in
+    (p .holds, λ i l. omega (arith, p .low i l))
+
+side-requires : tie.Need-side-requires
+side-requires c κs =
+    let p = c .before .before .before .before .before .before .pre in
+    let (a, m) = often-fits (p .0) (c .before .fired-times .ensures) in
+    (a, (m, p .1 .0))
+
+side-requires-2 : tie.Need-side-requires-2
+side-requires-2 c κs =
+    let p = c .before .before .before .before .before .before .before .before .before .before .pre in
+    let (a, m) = often-fits (p .0) (c .before .before .before .before .before .fired-times .ensures) in
+    (a, (m, p .1 .1))
+
+returns : tie.Need-returns
+returns c =
+    settled (c .before .before .before .before .before .before .before .before .before .before .before .before .before .pre .0)
+    (c .before .before .before .before .before .before .before .before .fired-times .ensures) (c .before .before .before .before .before .before .side .ensures) (c .before .before .side2 .ensures)
+
+pub settle-spec : {M : Type 1} → statement M
+settle-spec =
+    tie.close
+    (tie.spec fired-times-requires side-requires side-requires-2 (λ c. search needs) (λ c. search needs) returns)

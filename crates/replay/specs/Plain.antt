@@ -1,0 +1,11 @@
+-- The answer of a replay as plain numbers: §8.1.
+use Prim.Native.Nat.{ℕ}
+use mathlib.Core.List.{List, [], _∷_}
+use Rattle.refusal.specs.Refusal.{told}
+use Rattle.replay.specs.declared.ReplayAnswer.{ReplayAnswer}
+use Rattle.replay.specs.declared.ReplayAnswer.the-variants.{Done, Stopped}
+
+-- number, kind, position, the totals taken and put (§10.11); these 0 where refused (§8.3)
+abbrev pub plainReplay : ReplayAnswer → List ℕ
+plainReplay (Done d) = 0 ∷ 0 ∷ 0 ∷ d .taken ∷ d .put ∷ []
+plainReplay (Stopped r) = told r 2

@@ -1,0 +1,117 @@
+// The replay of a log of firings (§10.10, §10.11): each firing is followed along the arcs, and what they take and put is added up by place.
+mod follow;
+mod tally;
+
+ghost use mathlib.Core.Path.{_≡_};
+ghost use Rattle.refusal.specs.Verdict.{verdictOf};
+ghost use Rattle.replay.specs.Tests.{logFault};
+ghost use Rattle.replay.specs.Plain.{plainReplay};
+ghost use Rattle.replay.specs.Calls.{replayVerdict, ReplayWritten, ReplayDone};
+use refusal::Limits;
+use refusal::Position;
+use refusal::Refusal;
+use refusal::Verdict;
+
+// What the firings of a log take and put over all places: §10.11.
+pub struct Totals {
+    pub taken: u64,
+    pub put: u64,
+}
+
+pub enum ReplayAnswer {
+    Done(Totals),
+    Stopped(Refusal),
+}
+
+impl ReplayAnswer {
+    // Its plain numbers: §8.1.
+    pub fn plain(self) -> [u64; 5]
+        ensures { λ r. ⌜ r ≡ plainReplay self ⌝ }
+    {
+        match self {
+            ReplayAnswer::Done(totals) => [0u64, 0, 0, totals.taken, totals.put],
+            ReplayAnswer::Stopped(r) => {
+                let at = r.at;
+                [r.number as u64, at.kind() as u64, at.index() as u64, 0, 0]
+            }
+        }
+    }
+}
+
+// Refusal 23. N is looked at before the length, so that the product fits.
+fn log_fault(log: &[u32]) -> Verdict
+    ensures { λ r. ⌜ r ≡ verdictOf (logFault (now (log .entry))) ⌝ }
+{
+    if log.len() < 1 {
+        return refusal::refuse(Refusal::LOG_SHAPE, Position::Nothing);
+    }
+    let n = log[0];
+    if Limits::FIRINGS < n {
+        return refusal::refuse(Refusal::LOG_SHAPE, Position::Nothing);
+    }
+    if log.len() != 1 + 2 * (n as usize) {
+        return refusal::refuse(Refusal::LOG_SHAPE, Position::Nothing);
+    }
+    Verdict::Accepted
+}
+
+// Refusals 1 to 17, 23, 20 and 24.
+fn checked(net: &[u32], sheet: &[u32], log: &[u32]) -> Verdict
+    ensures { λ r. ⌜ r ≡ replayVerdict (now (net .entry)) (now (sheet .entry)) (now (log .entry)) ⌝ }
+{
+    let found = judge::verdict(net, sheet);
+    if let Verdict::Refused(_) = found {
+        return found;
+    }
+    let found = log_fault(log);
+    if let Verdict::Refused(_) = found {
+        return found;
+    }
+    follow::followed(net, sheet, log)
+}
+
+// The replay without scratch.
+pub fn replay_into(
+    net: &[u32],
+    sheet: &[u32],
+    log: &[u32],
+    taken: &mut [u64],
+    put: &mut [u64],
+) -> ReplayAnswer
+    ensures { λ r. ⌜ ReplayWritten (now (net .entry)) (now (sheet .entry)) (now (log .entry)) (now (taken .entry)) (now (put .entry)) r (now (taken .exit)) (now (put .exit)) ⌝ }
+{
+    let found = checked(net, sheet, log);
+    if let Verdict::Refused(r) = found {
+        return ReplayAnswer::Stopped(r);
+    }
+    let places = net::places(net) as usize;
+    let found = call::output_fault(taken.len(), places);
+    if let Verdict::Refused(r) = found {
+        return ReplayAnswer::Stopped(r);
+    }
+    let found = call::output_fault(put.len(), places);
+    if let Verdict::Refused(r) = found {
+        return ReplayAnswer::Stopped(r);
+    }
+    ReplayAnswer::Done(tally::settle(net, log, taken, put))
+}
+
+// The replay of a log: §10.11.
+pub fn replay(
+    net: &[u32],
+    sheet: &[u32],
+    log: &[u32],
+    taken: &mut [u64],
+    put: &mut [u64],
+    scratch: &mut [u32],
+) -> ReplayAnswer
+    ensures { λ r. ⌜ ReplayDone (now (net .entry)) (now (sheet .entry)) (now (log .entry)) (now (taken .entry)) (now (put .entry)) (now (scratch .entry)) r (now (taken .exit)) (now (put .exit)) (now (scratch .exit)) ⌝ }
+{
+    let found = call::scratch_fault(Limits::SCRATCH, scratch.len());
+    if let Verdict::Refused(r) = found {
+        return ReplayAnswer::Stopped(r);
+    }
+    let answer = replay_into(net, sheet, log, taken, put);
+    scan::clear_front(scratch, Limits::SCRATCH);
+    answer
+}

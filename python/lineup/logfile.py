@@ -1,0 +1,41 @@
+"""Logs of firings as text, a firing to a line: reading and writing."""
+from lineup import tokens
+from lineup.tokens import written
+
+
+class Log:
+    """The firings of a log: their transitions and the nodes that it says they reached. `where` tells the line and column of each."""
+
+    def __init__(self, firings=(), nodes=()):
+        self.name = None
+        self.firings, self.nodes = list(firings), list(nodes)
+        self.where = {}
+
+
+def read(path, text, net, sheet):
+    """The log of a text, over a net and a sheet."""
+    log = Log()
+    transitions = {name: t for t, name in enumerate(net.transitions)}
+    nodes = {name: n for n, name in enumerate(sheet.nodes)}
+    for line in tokens.lines(path, text):
+        if line.kind() == line.kind(1) == "name" and line.tokens[0][1] == "log" and line.left() == 2:
+            log.name = line.tokens[1][1]
+            continue
+        column = line.column()
+        name = line.take("name", "'transition -> NODE'")
+        log.where["firing", len(log.firings)] = (line.number, column)
+        log.firings.append(line.known(name, column, transitions, "transition"))
+        line.take("->", "'->' after a transition")
+        column = line.column()
+        log.nodes.append(line.known(line.take("name", "the node that was reached"), column, nodes, "node"))
+        line.finish("the firing")
+    return log
+
+
+def write(net, sheet, log):
+    """The log as text."""
+    lines = [f"log {written(log.name)}"] if log.name else []
+    names = [written(net.transitions[t]) for t in log.firings]
+    wide = max(map(len, names), default=0)
+    lines += [f"{name:{wide}} -> {written(sheet.nodes[n])}" for name, n in zip(names, log.nodes)]
+    return "".join(f"{line}\n" for line in lines)
