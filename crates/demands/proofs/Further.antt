@@ -17,7 +17,7 @@ use Rattle.net.specs.Checks.{netChecks}
 use Rattle.net.proofs.Checks.{net-judged}
 use Rattle.net.proofs.Laws.{sizes, some-source}
 use Rattle.sequential.specs.Petri.{PetriNet, petriNet}
-use Rattle.sequential.specs.Words.{count}
+use Rattle.sequential.specs.Words.{countAt}
 use Rattle.sequential.specs.Check.{scheduleReply}
 use Rattle.sequential.specs.Checks.{sheetChecks}
 use Rattle.sequential.proofs.Words.{words-hold, words-pass}
@@ -127,7 +127,7 @@ module _ (net sheet : List ℕ) (h : scheduleReply net sheet ≡ verdict.Accepte
           let j = ended y z c in
           let e = run-ends net sheet firings h (run-passed z) in
           let few = few-places net sheet h in
-          walker-out N sheet y (j .passes) .holds p (omega arith) ∙ ap (λ (n : ℕ). count N sheet n p) (j .node) ∙ sym (marking-at N sheet _ p (e .low) l)
+          walker-out N sheet y (j .passes) .holds p (omega arith) ∙ ap (λ (n : ℕ). countAt N sheet n p) (j .node) ∙ sym (marking-at N sheet _ p (e .low) l)
           ∙ ap (λ (x : List ℕ). getD x p 0) (e .counts) ∙ sym (List·getD-append (endCounts net firings) _ 0 p (rw (end-length net firings) l))
           ∙ sym (ap (λ (x : List ℕ). getD x p 0) (done-zero (run-law net sheet firings) d z .written 0));
     }

@@ -58,7 +58,7 @@ closed = graph-closed N nine (unfold transitionCount in (omega arith)) (words-ou
 
 by-labels : classes A 0 ≡ own
 unfolding orElse when first passing least tabulate keyAt valueAt entryWith entryOf equalLabels sameIn leaderBy inClass classes placeCount
-    transitionCount words.entryValue words.entryWithKey words.arcKeys words.count words.marking
+    transitionCount words.entryValue words.entryWithKey words.arcKeys words.countAt words.marking
 by-labels = refl
 
 by-arcs : tabulate (leaderBy (refined A class)) (A .nodes) ≡ own
@@ -74,7 +74,7 @@ is-minimal =
 words-of-it : encoding.encode N (minimalBy (sameClass class) A) ≡ nineForm
 unfolding orElse when found first all passing least tabulate keyAt valueAt entryWith entryOf sameClass classAt indexOf enter expand explored order
     merged minimalBy placeCount transitionCount words.entryKey words.entryValue words.entryWithKey words.arcKeys
-    words.arcEntry words.arc words.count words.marking encoding.gather encoding.gatherRows encoding.keyOfArc encoding.held
+    words.arcEntry words.arc words.countAt words.marking encoding.gather encoding.gatherRows encoding.keyOfArc encoding.held
     encoding.keyOfCount encoding.valueOfCount encoding.keys encoding.values encoding.encode
 words-of-it = refl
 
@@ -90,7 +90,7 @@ unfolding orElse when found first all any bit count passing least tabulate keyAt
     placeCount transitionCount keyLimit entryWeight weightAt taken put start takesNothing isSource hasSource entryCount keyFails foundAt foundBy
     finding sizesPass weightFails netReply tests.holdsEnough tests.enabled petri.firedCount tests.takesNothing tests.isSource tests.takesAlike
     tests.sameChoice words.entryKey words.entryValue words.entryWithKey words.arcKeys words.keyLimit words.arcEntry
-    words.arc words.count words.marking tests.offers tests.offersAsSource tests.isAwait tests.offersSome tests.firstOffered
+    words.arc words.countAt words.marking tests.offers tests.offersAsSource tests.isAwait tests.offersSome tests.firstOffered
     tests.offersAsChoice tests.offersOneChoiceSet check.sizesPass check.targetFails check.countFails words.isArc check.valueFails check.wordsFault
     words.arcNode words.arcTransition check.arcEnabled check.landsAt check.arcLands check.graphFault check.scheduleFault check.arcCount
     check.awaitCount scheduleReply countsOf

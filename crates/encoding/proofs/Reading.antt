@@ -9,7 +9,7 @@ use Rattle.scan.proofs.First.{none-some}
 use Rattle.scan.proofs.Tabulate.{tabulate-length}
 use Rattle.automaton.specs.Quotient.{Confined}
 use Rattle.sequential.specs.Petri.{PetriNet}
-use Rattle.sequential.specs.Words.{nodeCount, entryValue, entryWithKey, arcKeys, arcEntry, arc, count, marking, graph}
+use Rattle.sequential.specs.Words.{nodeCount, entryValue, entryWithKey, arcKeys, arcEntry, arc, countAt, marking, graph}
 use Rattle.sequential.proofs.Entries.{marking-node, marking-at}
 use Rattle.encoding.specs.Encoding.{held}
 use Rattle.scan.specs.Scan.{foundOr}
@@ -26,7 +26,7 @@ module _ (N : PetriNet) (sheet : List ℕ) where
 
   pub held-inside : (n p : ℕ) → n < nodeCount sheet → p < N .places
       → held N (graph N sheet) n p ≡ foundOr 0 (entryValue sheet) (entryWithKey sheet (nodeCount sheet * N .transitions + n * N .places + p))
-  unfolding held count arcKeys
+  unfolding held countAt arcKeys
   held-inside n p l m = marking-at N sheet n p l m ∙ rw (lt-ltb n (nodeCount sheet) l, lt-ltb p (N .places) m)
 
   -- the value at a key, where there is one
@@ -42,4 +42,4 @@ module _ (N : PetriNet) (sheet : List ℕ) where
   graph-confined = record { arcs = arc-no-node; labels = marking-past }
 
   pub graph-places : (n : ℕ) → n < (graph N sheet) .nodes → length ((graph N sheet) .label n) ≡ N .places
-  graph-places n l = ap length (marking-node N sheet n l) ∙ tabulate-length (count N sheet n) (N .places)
+  graph-places n l = ap length (marking-node N sheet n l) ∙ tabulate-length (countAt N sheet n) (N .places)

@@ -17,7 +17,7 @@ use Rattle.table.specs.Row.{entryRow, entryCode}
 use Rattle.table.proofs.Row.{entry-row-is, value-row-is}
 use Rattle.net.specs.Net.{placeCount, transitionCount}
 use Rattle.sequential.specs.Petri.{PetriNet, petriNet}
-use Rattle.sequential.specs.Words.{nodeCount, entryCount, entryValue, entryWithKey, arcKeys, arcEntry, arc, count}
+use Rattle.sequential.specs.Words.{nodeCount, entryCount, entryValue, entryWithKey, arcKeys, arcEntry, arc, countAt}
 use Rattle.sequential.specs.Known.{ArcsHold}
 use Rattle.sequential.proofs.Words.{words-rise, words-fit}
 use Rattle.graph.specs.Readable.{ArcsReadable}
@@ -50,8 +50,8 @@ code-cond : (b : Bool) (o : Option ℕ) → entryCode (cond b o none) ≡ cond b
 code-cond true o = refl
 code-cond false o = refl
 
-pub count-held : (N : PetriNet) (sheet : List ℕ) (n p : ℕ) → count N sheet n p ≡ foundOr 0 (entryValue sheet) (countEntry N sheet n p)
-unfolding count countEntry
+pub count-held : (N : PetriNet) (sheet : List ℕ) (n p : ℕ) → countAt N sheet n p ≡ foundOr 0 (entryValue sheet) (countEntry N sheet n p)
+unfolding countAt countEntry
 count-held N sheet n p = byTest (ltb n (nodeCount sheet) && ltb p (N .places)) (λ h. rw h) (λ h. rw h)
 
 -- ---- words that hold
@@ -80,7 +80,7 @@ module _ (N : PetriNet) (sheet : List ℕ) (w : ArcsHold N sheet) (n : ℕ) (l :
   unfolding arc arcEntryCode
   arc-of-told t h = rw (arcs-are, tabulate-at (arcEntryCode N sheet n) 0 32 t h) (value-code-some sheet (arcEntry N sheet n t))
 
-  pub count-told : (p : ℕ) → p < 32 → valueTold sheet (getD counts p 0) ≡ count N sheet n p
+  pub count-told : (p : ℕ) → p < 32 → valueTold sheet (getD counts p 0) ≡ countAt N sheet n p
   unfolding countEntryCode
   count-told p h = rw (counts-are, tabulate-at (countEntryCode N sheet n) 0 32 p h) (value-code sheet (countEntry N sheet n p)) ∙ sym (count-held N sheet n p)
 
@@ -93,11 +93,11 @@ module _ (net sheet : List ℕ) (r : ArcsReadable net sheet) (n : ℕ) (l : n < 
   w : ArcsHold N sheet
   w = r .holds
 
-  pub marking-right : markingRow net sheet n ≡ tabulate (count (petriNet net) sheet n) 32
-  unfolding markingRow countsStart count entryValue entryWithKey arcKeys
+  pub marking-right : markingRow net sheet n ≡ tabulate (countAt (petriNet net) sheet n) 32
+  unfolding markingRow countsStart countAt entryValue entryWithKey arcKeys
   marking-right =
       rw (has-row net sheet n r l) (value-row-is sheet 2 (entryCount sheet) (nodeCount sheet * transitionCount net + n * placeCount net) (placeCount net)
-      (words-rise N sheet w) (omega (arith, w .shape .whole)) (count N sheet n) (λ p h. rw (lt-ltb n (nodeCount sheet) l)))
+      (words-rise N sheet w) (omega (arith, w .shape .whole)) (countAt N sheet n) (λ p h. rw (lt-ltb n (nodeCount sheet) l)))
 
   pub arcs-right : arcEntryRow net sheet n ≡ tabulate (arcEntryCode (petriNet net) sheet n) 32
   unfolding arcEntryRow arcsStart

@@ -9,7 +9,7 @@ use Rattle.refusal.specs.Checks.{AllPass}
 use Rattle.net.specs.Checks.{IsNet}
 use Rattle.sequential.specs.Petri.{petriNet}
 use Rattle.table.specs.Bisection.{foundOf}
-use Rattle.sequential.specs.Words.{nodeCount, entryValue, arcEntry, arc, count}
+use Rattle.sequential.specs.Words.{nodeCount, entryValue, arcEntry, arc, countAt}
 use Rattle.sequential.specs.Checks.{arcWordChecks, WordsPass}
 use Rattle.sequential.specs.Check.{arcCount}
 use Rattle.graph.specs.Rows.{countEntry, arcEntryCode, countEntryCode, markingRow, arcEntryRow, countEntryRow, arcCountReply}
@@ -17,12 +17,12 @@ use Rattle.graph.specs.LookUp.{arcLookUp}
 
 -- what each place holds at a node, 0 from P on; and the entries of its arcs and of its counts, told as 1 plus the index and as 0 where there is none
 pub record RowsRight (net sheet : List ℕ) (n : ℕ) : Type 0 where
-  pub marking : markingRow net sheet n ≡ tabulate (count (petriNet net) sheet n) mostPlaces
+  pub marking : markingRow net sheet n ≡ tabulate (countAt (petriNet net) sheet n) mostPlaces
   pub arcs : arcEntryRow net sheet n ≡ tabulate (arcEntryCode (petriNet net) sheet n) mostTransitions
   pub counts : countEntryRow net sheet n ≡ tabulate (countEntryCode (petriNet net) sheet n) mostPlaces
   -- the value of an arc's entry is its target, that of a count's the count
   pub target : (t : ℕ) → arc (petriNet net) sheet n t ≡ Option·map (entryValue sheet) (arcEntry (petriNet net) sheet n t)
-  pub held : (p : ℕ) → count (petriNet net) sheet n p ≡ foundOr 0 (entryValue sheet) (countEntry (petriNet net) sheet n p)
+  pub held : (p : ℕ) → countAt (petriNet net) sheet n p ≡ foundOr 0 (entryValue sheet) (countEntry (petriNet net) sheet n p)
 
 abbrev pub RowsMean : Type 0
 RowsMean = (net sheet : List ℕ) (n : ℕ) → IsNet net → WordsPass (petriNet net) sheet → n < nodeCount sheet → RowsRight net sheet n

@@ -21,7 +21,7 @@ use Rattle.table.proofs.Next.{next-hit, next-miss}
 use Rattle.automaton.specs.Equivalence.{sameClass, equalLabels, equalArcs, agree, sameIn}
 use Rattle.automaton.proofs.Same.{equalLabels-in, equalLabels-out}
 use Rattle.sequential.specs.Petri.{PetriNet, petriNet}
-use Rattle.sequential.specs.Words.{nodeCount, entryCount, entryKey, entryValue, entryWithKey, arcKeys, arcEntry, arc, count, graph}
+use Rattle.sequential.specs.Words.{nodeCount, entryCount, entryKey, entryValue, entryWithKey, arcKeys, arcEntry, arc, countAt, graph}
 use Rattle.sequential.specs.Known.{WordsHold}
 use Rattle.sequential.proofs.Words.{words-rise}
 use Rattle.sequential.proofs.Entries.{marking-node, row-lt}
@@ -225,16 +225,16 @@ module _ {net sheet : List ℕ} (readable : Readable net sheet) where
         let (h, k) = entry-some sheet 2 (entryCount sheet) key i z in
         w .values i h .some (unfold entryKey in (rw k l))
 
-    count-value : (n p : ℕ) → n < nodeCount sheet → p < N .places → count N sheet n p ≡ foundOr 0 (entryValue sheet) (entryWithKey sheet (arcKeys N sheet + n * N .places + p))
-    unfolding count
+    count-value : (n p : ℕ) → n < nodeCount sheet → p < N .places → countAt N sheet n p ≡ foundOr 0 (entryValue sheet) (entryWithKey sheet (arcKeys N sheet + n * N .places + p))
+    unfolding countAt
     count-value n p l h = rw (lt-ltb n (nodeCount sheet) l, lt-ltb p (N .places) h)
 
     pub counts-walked : (classes : List ℕ) {n m : ℕ} → n < nodeCount sheet → m < nodeCount sheet
         → all (keysAgree sheet (valuesAgree classes true) (nodeCount sheet * T + n * P) (nodeCount sheet * T + m * P)) P ≡ sameIn (graph N sheet) 0 n m
     unfolding valuesAgree sameIn keysAgree keyValue
     counts-walked classes {n} {m} ln lm =
-        rw (e, f) (all-ext _ (λ p. eqb (count N sheet n p) (count N sheet m p)) (N .places) (λ p l. sym (rw (count-value n p ln l, count-value m p lm l)
+        rw (e, f) (all-ext _ (λ p. eqb (countAt N sheet n p) (countAt N sheet m p)) (N .places) (λ p l. sym (rw (count-value n p ln l, count-value m p lm l)
         (unfold arcKeys in (value-test sheet _ _ (λ i z. count-some (nodeCount sheet * N .transitions + n * N .places + p) i (unfold arcKeys in (omega arith)) z)
         (λ i z. count-some (nodeCount sheet * N .transitions + m * N .places + p) i (unfold arcKeys in (omega arith)) z)))))
-        ∙ sym (labels-all (count N sheet n) (count N sheet m) (N .places))
+        ∙ sym (labels-all (countAt N sheet n) (countAt N sheet m) (N .places))
         ∙ rw (marking-node N sheet n ln, marking-node N sheet m lm))

@@ -73,7 +73,7 @@ module _ (N : PetriNet) (sheet : List ℕ) (w : WordsHold N sheet) (n : ℕ) (l 
   unfolding toldRow widthOf
   node-arc t h = arc-of-told N sheet (w .arcs) n l t h
 
-  count-of-told : (p : ℕ) → p < 32 → words-of.count N sheet n p ≡ valueTold sheet (getD (toldRow N sheet true n) p 0)
+  count-of-told : (p : ℕ) → p < 32 → words-of.countAt N sheet n p ≡ valueTold sheet (getD (toldRow N sheet true n) p 0)
   unfolding toldRow widthOf
   count-of-told p h = sym (count-told N sheet (w .arcs) n l p h)
 

@@ -21,7 +21,7 @@ use Rattle.refusal.proofs.Checks.{Decides, Decided, Lawful, Tells, finding-tell
 use Rattle.net.specs.Check.{netReply}
 use Rattle.net.proofs.Laws.{sizes, put-no-place, start-no-place}
 use Rattle.sequential.specs.Petri.{PetriNet, petriNet, initial, firedCount, fire, Enabled}
-use Rattle.sequential.specs.Words.{nodeCount, arc, count, marking, graph}
+use Rattle.sequential.specs.Words.{nodeCount, arc, countAt, marking, graph}
 use Rattle.sequential.specs.Schedule.{Offers}
 use Rattle.sequential.specs.Check.{scheduleReply}
 use Rattle.sequential.proofs.Entries.{marking-at}
@@ -36,8 +36,8 @@ below-or-not a b = byTest (ltb a b) (λ e. inl (ltb-true a b e)) (λ e. inr (ltb
 
 -- ---- 18 to 20
 
-pub count-past : (N : PetriNet) (sheet : List ℕ) (n p : ℕ) → N .places ≤ p → count N sheet n p ≡ 0
-unfolding count
+pub count-past : (N : PetriNet) (sheet : List ℕ) (n p : ℕ) → N .places ≤ p → countAt N sheet n p ≡ 0
+unfolding countAt
 count-past N sheet n p l = rw (le-ltb p (N .places) l, and-false (ltb n (nodeCount sheet)))
 
 -- an arc that is found is offered
@@ -76,7 +76,7 @@ module _ (N : PetriNet) (sheet : List ℕ) (w : Walker) where
   -- a walker that passes 18 and 19
   pub record WalkerPasses : Type 0 where
     pub node : w .node < nodeCount sheet
-    pub holds : (p : ℕ) → p < 32 → getD (w .counts) p 0 ≡ count N sheet (w .node) p
+    pub holds : (p : ℕ) → p < 32 → getD (w .counts) p 0 ≡ countAt N sheet (w .node) p
 
   pub walker-out : walkerFault N sheet w ≡ none → WalkerPasses
   walker-out h = let (a, (b, u)) = stand-tells .passes .0 h in record { node = a; holds = λ p l. b p l .0 }
@@ -94,16 +94,16 @@ module _ (net sheet : List ℕ) (accepted : scheduleReply net sheet ≡ Accepted
   few-places = sizes net (accepts net sheet accepted .net-accepted) .few-places
 
   -- the counts of node 0 are the starting ones, at every place
-  start-count : (p : ℕ) → petriNet net .start p ≡ count (petriNet net) sheet 0 p
+  start-count : (p : ℕ) → petriNet net .start p ≡ countAt (petriNet net) sheet 0 p
   unfolding initial
   start-count p = ⊎-elim inside outside (below-or-not p (petriNet net .places))
     where
-      inside : p < petriNet net .places → petriNet net .start p ≡ count (petriNet net) sheet 0 p
+      inside : p < petriNet net .places → petriNet net .start p ≡ countAt (petriNet net) sheet 0 p
       inside l =
           sym (tabulate-at (petriNet net .start) 0 (petriNet net .places) p l) ∙ ap (λ (x : List ℕ). getD x p 0) (sym (accepts net sheet accepted .schedule .starts))
           ∙ marking-at (petriNet net) sheet 0 p (closed net sheet accepted .root) l
 
-      outside : petriNet net .places ≤ p → petriNet net .start p ≡ count (petriNet net) sheet 0 p
+      outside : petriNet net .places ≤ p → petriNet net .start p ≡ countAt (petriNet net) sheet 0 p
       outside l = start-no-place net p l ∙ sym (count-past (petriNet net) sheet 0 p l)
 
   pub fresh-passes : walkerFault (petriNet net) sheet (freshWalker (netReply net) net) ≡ none
@@ -132,18 +132,18 @@ module _ (net sheet : List ℕ) (accepted : scheduleReply net sheet ≡ Accepted
     target-node = closed net sheet accepted .lands (w .node) t m (passes .node) e
 
     -- the target's counts are what firing gives, at every place
-    target-count : (p : ℕ) → p < 32 → firedCount (petriNet net) (w .counts) t p ≡ count (petriNet net) sheet m p
+    target-count : (p : ℕ) → p < 32 → firedCount (petriNet net) (w .counts) t p ≡ countAt (petriNet net) sheet m p
     unfolding firedCount fire
     target-count p k = ⊎-elim inside outside (below-or-not p (petriNet net .places))
       where
-        inside : p < petriNet net .places → getD (w .counts) p 0 - petriNet net .taken t p + petriNet net .put t p ≡ count (petriNet net) sheet m p
+        inside : p < petriNet net .places → getD (w .counts) p 0 - petriNet net .taken t p + petriNet net .put t p ≡ countAt (petriNet net) sheet m p
         inside l =
             ap (λ (x : ℕ). x - petriNet net .taken t p + petriNet net .put t p) (held p l)
             ∙ sym (tabulate-at (firedCount (petriNet net) (marking (petriNet net) sheet (w .node)) t) 0 (petriNet net .places) p l)
             ∙ ap (λ (x : List ℕ). getD x p 0) (sym (accepts net sheet accepted .schedule .lands (w .node) t m (passes .node) e))
             ∙ marking-at (petriNet net) sheet m p target-node l
 
-        outside : petriNet net .places ≤ p → getD (w .counts) p 0 - petriNet net .taken t p + petriNet net .put t p ≡ count (petriNet net) sheet m p
+        outside : petriNet net .places ≤ p → getD (w .counts) p 0 - petriNet net .taken t p + petriNet net .put t p ≡ countAt (petriNet net) sheet m p
         outside l =
             let a = passes .holds p k ∙ count-past (petriNet net) sheet (w .node) p l in
             let b = put-no-place net t p l in
@@ -165,7 +165,7 @@ module _ (net sheet : List ℕ) (accepted : scheduleReply net sheet ≡ Accepted
     follows-passes : WalkerPasses (petriNet net) sheet (follows (petriNet net) sheet w t)
     follows-passes = record {
       node = rw follows-node target-node;
-      holds = λ p l. follows-count p l ∙ target-count p l ∙ ap (λ (n : ℕ). count (petriNet net) sheet n p) (sym follows-node);
+      holds = λ p l. follows-count p l ∙ target-count p l ∙ ap (λ (n : ℕ). countAt (petriNet net) sheet n p) (sym follows-node);
     }
 
     pub handed-back : HandedBack (petriNet net) sheet w t (follows (petriNet net) sheet w t)

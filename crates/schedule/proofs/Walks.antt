@@ -20,7 +20,7 @@ use Rattle.refusal.specs.declared.Verdict.{Verdict}
 use Rattle.refusal.specs.declared.Verdict.the-variants.{Accepted, Refused}
 use Rattle.net.proofs.Laws.{put-no-place, sizes}
 use Rattle.sequential.specs.Petri.{PetriNet, petriNet, fire, firedCount}
-use Rattle.sequential.specs.Words.{nodeCount, entryValue, arcEntry, arc, count}
+use Rattle.sequential.specs.Words.{nodeCount, entryValue, arcEntry, arc, countAt}
 use Rattle.sequential.specs.Check.{scheduleReply}
 use Rattle.sequential.specs.Known.{ArcsHold}
 use Rattle.graph.specs.Readable.{Readable}
@@ -64,16 +64,16 @@ module _ (N : PetriNet) (sheet : List ℕ) (w : Walker) where
   unfolding walkerFault countFault finding foundBy lineFinds foundAt
   no-such-node l = orElse-hit _ _ _ (when-hit _ _ (le-leb _ _ l))
 
-  pub count-right : (p : ℕ) → getD (w .counts) p 0 ≡ count N sheet (w .node) p → countFault N sheet w p ≡ none
+  pub count-right : (p : ℕ) → getD (w .counts) p 0 ≡ countAt N sheet (w .node) p → countFault N sheet w p ≡ none
   unfolding countFault lineFinds foundAt
   count-right p e = when-miss _ _ (ap not (eq-eqb _ _ e))
 
-  pub count-astray : (p : ℕ) → (getD (w .counts) p 0 ≡ count N sheet (w .node) p → ⊥) → countFault N sheet w p ≡ some (refusal 19 (Place p))
+  pub count-astray : (p : ℕ) → (getD (w .counts) p 0 ≡ countAt N sheet (w .node) p → ⊥) → countFault N sheet w p ≡ some (refusal 19 (Place p))
   unfolding countFault lineFinds foundAt
   count-astray p e = when-hit _ _ (ap not (ne-eqb _ _ e))
 
   -- the scan of the counts is left at p, or runs out
-  pub astray-at : w .node < nodeCount sheet → (p : ℕ) → first (countFault N sheet w) p ≡ none → p < 32 → (getD (w .counts) p 0 ≡ count N sheet (w .node) p → ⊥)
+  pub astray-at : w .node < nodeCount sheet → (p : ℕ) → first (countFault N sheet w) p ≡ none → p < 32 → (getD (w .counts) p 0 ≡ countAt N sheet (w .node) p → ⊥)
       → walkerFault N sheet w ≡ some (refusal 19 (Place p))
   unfolding walkerFault countFault finding foundBy lineFinds foundAt
   astray-at l p h m e = orElse-next _ _ (when-miss _ _ (lt-leb _ _ l)) ∙ first-hit _ p _ h (count-astray p e) 32 m
@@ -88,13 +88,13 @@ module _ (N : PetriNet) (sheet : List ℕ) (w : Walker) where
     unfolding walkerFault countFault finding foundBy lineFinds foundAt
     walker-node = leb-false _ _ (when-none _ _ (orElse-left _ _ h))
 
-    pub walker-counts : (p : ℕ) → p < 32 → getD (w .counts) p 0 ≡ count N sheet (w .node) p
+    pub walker-counts : (p : ℕ) → p < 32 → getD (w .counts) p 0 ≡ countAt N sheet (w .node) p
     unfolding walkerFault countFault finding foundBy lineFinds foundAt
     walker-counts p l = eqb-true _ _ (not-false _ (when-none _ _ (first-all _ _ (orElse-right _ _ h) p l)))
 
 -- what the code reads of a node
 pub held-at : (net sheet : List ℕ) → Readable net sheet → (n : ℕ) → n < nodeCount sheet → (held : List ℕ) → held ≡ markingRow net sheet n
-    → (p : ℕ) → p < 32 → getD held p 0 ≡ count (petriNet net) sheet n p
+    → (p : ℕ) → p < 32 → getD held p 0 ≡ countAt (petriNet net) sheet n p
 held-at net sheet r n l held e p k = ap (λ (x : List ℕ). getD x p 0) (e ∙ marking-right net sheet (r .arcs) n l) ∙ tabulate-at _ 0 32 p k
 
 -- ---- a single firing
@@ -111,7 +111,7 @@ module _ (N : PetriNet) (sheet : List ℕ) (w : Walker) (t : ℕ) (h : walkerFau
 module _ (net sheet : List ℕ) (w : Walker) (t : ℕ) (a : scheduleReply net sheet ≡ Accepted) (h : walkerFault (petriNet net) sheet w ≡ none) where
   -- the target's counts are what firing gives
   counts-fired : (m : ℕ) → m < nodeCount sheet → arc (petriNet net) sheet (w .node) t ≡ some m → (p : ℕ) → p < 32
-      → count (petriNet net) sheet m p ≡ firedCount (petriNet net) (w .counts) t p
+      → countAt (petriNet net) sheet m p ≡ firedCount (petriNet net) (w .counts) t p
   unfolding firedCount fire
   counts-fired m k e p l =
       let N = petriNet net in
@@ -130,7 +130,7 @@ module _ (net sheet : List ℕ) (w : Walker) (t : ℕ) (a : scheduleReply net sh
       ]
 
   pub step-lands : (i : ℕ) → arcEntry (petriNet net) sheet (w .node) t ≡ some i
-      → walker (entryValue sheet i) (tabulate (count (petriNet net) sheet (entryValue sheet i)) 32) ≡ follows (petriNet net) sheet w t
+      → walker (entryValue sheet i) (tabulate (countAt (petriNet net) sheet (entryValue sheet i)) 32) ≡ follows (petriNet net) sheet w t
   unfolding follows
   step-lands i e =
       let N = petriNet net in

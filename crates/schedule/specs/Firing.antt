@@ -16,7 +16,7 @@ use Rattle.refusal.specs.declared.Refusal.{Refusal}
 use Rattle.refusal.specs.declared.Verdict.{Verdict}
 use Rattle.refusal.specs.declared.Verdict.the-variants.{Accepted, Refused}
 use Rattle.sequential.specs.Petri.{PetriNet, petriNet, initial, firedCount, fireAll}
-use Rattle.sequential.specs.Words.{nodeCount, arc, count}
+use Rattle.sequential.specs.Words.{nodeCount, arc, countAt}
 use Rattle.schedule.specs.Walker.{walker, standChecks, walkerChecks}
 use Rattle.schedule.specs.declared.Walker.{Walker}
 
@@ -30,7 +30,7 @@ freshWalker (Refused r) net = walker 0 (replicate mostPlaces 0)
 
 module _ (N : PetriNet) (sheet : List ℕ) (w : Walker) where
   abbrev pub standTests : List Tests
-  standTests = asked (leb (nodeCount sheet) (w .node)) ∷ ((λ p. not (eqb (getD (w .counts) p 0) (count N sheet (w .node) p))) ∷ []) ∷ []
+  standTests = asked (leb (nodeCount sheet) (w .node)) ∷ ((λ p. not (eqb (getD (w .counts) p 0) (countAt N sheet (w .node) p))) ∷ []) ∷ []
 
   -- §7.19 at one place
   unfoldable pub countFault : ℕ → Option Refusal

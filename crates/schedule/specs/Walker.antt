@@ -9,7 +9,7 @@ use Rattle.refusal.specs.Limits.{mostPlaces}
 use Rattle.refusal.specs.Checks.{_else_, Check, once, each}
 use Rattle.refusal.specs.declared.Position.the-variants.{Place, Record}
 use Rattle.sequential.specs.Petri.{PetriNet}
-use Rattle.sequential.specs.Words.{nodeCount, count, graph}
+use Rattle.sequential.specs.Words.{nodeCount, countAt, graph}
 use Rattle.sequential.specs.Schedule.{Offers}
 use Rattle.schedule.specs.declared.Walker.{Walker}
 
@@ -27,7 +27,7 @@ pub record Stands (N : PetriNet) (w : Walker) (n : ℕ) (held : ℕ → ℕ) : T
 abbrev pub standChecks : PetriNet → List ℕ → Walker → List Check
 standChecks N sheet w =
     once (w .node < nodeCount sheet) 18
-    ∷ each mostPlaces Place ((λ p. getD (w .counts) p 0 ≡ count N sheet (w .node) p) else 19 ∷ [])
+    ∷ each mostPlaces Place ((λ p. getD (w .counts) p 0 ≡ countAt N sheet (w .node) p) else 19 ∷ [])
     ∷ []
 
 -- §7.18 to §7.20, in the order of §7.58; 20 counts nothing here (§7.53)

@@ -11,7 +11,7 @@ use Rattle.automaton.specs.Automaton.{follow, allows}
 use Rattle.automaton.specs.Reach.{Reachable}
 use Rattle.automaton.proofs.Automaton.{follow-lands, allows-follow, follow-allows}
 use Rattle.sequential.specs.Petri.{PetriNet, fireAll, initial}
-use Rattle.sequential.specs.Words.{nodeCount, count, graph}
+use Rattle.sequential.specs.Words.{nodeCount, countAt, graph}
 use Rattle.sequential.specs.Schedule.{IsSchedule}
 use Rattle.sequential.specs.Bounds.{heldAt, bound, bounds}
 use Rattle.sequential.specs.Known.{ArcsHold}
@@ -30,7 +30,7 @@ module _ (N : PetriNet) (sheet : List ℕ) where
 
   module _ (T : 0 < N .transitions) (w : ArcsHold N sheet) (s : IsSchedule N (graph N sheet)) (p : ℕ) (l : p < N .places) where
     -- after an allowed list the place holds what it holds at the node where the list ends
-    held : (σ : List ℕ) (n : ℕ) → follow (graph N sheet) 0 σ ≡ some n → (n < nodeCount sheet) × (getD (fireAll N (initial N) σ) p 0 ≡ count N sheet n p)
+    held : (σ : List ℕ) (n : ℕ) → follow (graph N sheet) 0 σ ≡ some n → (n < nodeCount sheet) × (getD (fireAll N (initial N) σ) p 0 ≡ countAt N sheet n p)
     held σ n e =
         let c = graph-closed N sheet T w in
         let k = follow-lands (graph N sheet) c σ 0 n (c .root) e in

@@ -19,7 +19,7 @@ use Rattle.table.proofs.Table.{rising, entry-at, entry-some}
 use Rattle.automaton.specs.Automaton.{Closed}
 use Rattle.refusal.specs.Limits.{mostCount}
 use Rattle.sequential.specs.Petri.{PetriNet}
-use Rattle.sequential.specs.Words.{nodeCount, entryCount, entryKey, entryValue, entryWithKey, arcKeys, arcEntry, arc, count, marking, graph, isArc, arcNode, arcTransition}
+use Rattle.sequential.specs.Words.{nodeCount, entryCount, entryKey, entryValue, entryWithKey, arcKeys, arcEntry, arc, countAt, marking, graph, isArc, arcNode, arcTransition}
 use Rattle.sequential.specs.Known.{ArcsHold, WordsHold}
 use Rattle.sequential.proofs.Words.{words-rise}
 
@@ -109,8 +109,8 @@ module _ (N : PetriNet) (sheet : List ℕ) (T : 0 < N .transitions) (w : ArcsHol
 -- ---- counts
 
 module _ (N : PetriNet) (sheet : List ℕ) (w : WordsHold N sheet) where
-  pub count-most : (n p : ℕ) → count N sheet n p ≤ mostCount
-  unfolding count
+  pub count-most : (n p : ℕ) → countAt N sheet n p ≤ mostCount
+  unfolding countAt
   count-most n p = go (ltb n (nodeCount sheet)) (ltb p (N .places)) (entryWithKey sheet (arcKeys N sheet + n * N .places + p)) refl
     where
       go : (a b : Bool) (o : Option ℕ) → entryWithKey sheet (arcKeys N sheet + n * N .places + p) ≡ o → cond (a && b) (foundOr 0 (entryValue sheet) o) 0 ≤ mostCount
@@ -123,9 +123,9 @@ module _ (N : PetriNet) (sheet : List ℕ) (w : WordsHold N sheet) where
 
 -- ---- markings
 
-pub marking-node : (N : PetriNet) (sheet : List ℕ) (n : ℕ) → n < nodeCount sheet → marking N sheet n ≡ tabulate (count N sheet n) (N .places)
+pub marking-node : (N : PetriNet) (sheet : List ℕ) (n : ℕ) → n < nodeCount sheet → marking N sheet n ≡ tabulate (countAt N sheet n) (N .places)
 unfolding marking
 marking-node N sheet n l = rw (lt-ltb n (nodeCount sheet) l)
 
-pub marking-at : (N : PetriNet) (sheet : List ℕ) (n p : ℕ) → n < nodeCount sheet → p < N .places → getD (marking N sheet n) p 0 ≡ count N sheet n p
-marking-at N sheet n p l m = ap (λ (x : List ℕ). getD x p 0) (marking-node N sheet n l) ∙ tabulate-at (count N sheet n) 0 (N .places) p m
+pub marking-at : (N : PetriNet) (sheet : List ℕ) (n p : ℕ) → n < nodeCount sheet → p < N .places → getD (marking N sheet n) p 0 ≡ countAt N sheet n p
+marking-at N sheet n p l m = ap (λ (x : List ℕ). getD x p 0) (marking-node N sheet n l) ∙ tabulate-at (countAt N sheet n) 0 (N .places) p m

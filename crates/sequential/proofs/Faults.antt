@@ -22,7 +22,7 @@ use Rattle.refusal.specs.Finding.{foundAt, foundBy, lineFinds, finding}
 use Rattle.refusal.specs.declared.Position.the-variants.{Entry}
 use Rattle.refusal.proofs.Checks.{Decides, Decided, Lawful, Tells, finding-tells}
 use Rattle.sequential.specs.Petri.{PetriNet, initial, fire, firedCount, Enabled}
-use Rattle.sequential.specs.Words.{nodeCount, entryCount, entryValue, count, marking, graph, isArc, arcNode, arcTransition, entryKey, arcKeys}
+use Rattle.sequential.specs.Words.{nodeCount, entryCount, entryValue, countAt, marking, graph, isArc, arcNode, arcTransition, entryKey, arcKeys}
 use Rattle.sequential.specs.Schedule.{Offers, ToAwait}
 use Rattle.sequential.specs.Tests.{isAwait, offersSome}
 use Rattle.sequential.specs.Checks.{graphChecks}
@@ -39,19 +39,19 @@ leads-await N A n = (λ (σ, m, e, g). (σ, m, e, await↔ N A m .0 g), λ (σ, 
 -- ---- markings, place by place
 
 module _ (N : PetriNet) (sheet : List ℕ) where
-  pub start-marking : 0 < nodeCount sheet → (marking N sheet 0 ≡ initial N) ↔ ((p : ℕ) → p < N .places → count N sheet 0 p ≡ N .start p)
+  pub start-marking : 0 < nodeCount sheet → (marking N sheet 0 ≡ initial N) ↔ ((p : ℕ) → p < N .places → countAt N sheet 0 p ≡ N .start p)
   unfolding initial
   start-marking z = (
     λ e p l. sym (marking-at N sheet 0 p z l) ∙ ap (λ (x : List ℕ). getD x p 0) e ∙ tabulate-at (N .start) 0 (N .places) p l,
-    λ h. marking-node N sheet 0 z ∙ tabulate-ext (count N sheet 0) (N .start) (N .places) h,
+    λ h. marking-node N sheet 0 z ∙ tabulate-ext (countAt N sheet 0) (N .start) (N .places) h,
   )
 
   pub fired-marking : (m t : ℕ) (before : List ℕ) → m < nodeCount sheet
-      → (marking N sheet m ≡ fire N before t) ↔ ((p : ℕ) → p < N .places → count N sheet m p ≡ firedCount N before t p)
+      → (marking N sheet m ≡ fire N before t) ↔ ((p : ℕ) → p < N .places → countAt N sheet m p ≡ firedCount N before t p)
   unfolding fire
   fired-marking m t before l = (
     λ e p k. sym (marking-at N sheet m p l k) ∙ ap (λ (x : List ℕ). getD x p 0) e ∙ tabulate-at (firedCount N before t) 0 (N .places) p k,
-    λ h. marking-node N sheet m l ∙ tabulate-ext (count N sheet m) (firedCount N before t) (N .places) h,
+    λ h. marking-node N sheet m l ∙ tabulate-ext (countAt N sheet m) (firedCount N before t) (N .places) h,
   )
 
   -- ---- an entry that is an arc

@@ -17,7 +17,7 @@ use Rattle.refusal.specs.declared.Refusal.{Refusal}
 use Rattle.refusal.specs.declared.Verdict.{Verdict}
 use Rattle.net.specs.Check.{netReply}
 use Rattle.sequential.specs.Petri.{PetriNet, petriNet, firedCount}
-use Rattle.sequential.specs.Words.{nodeCount, entryCount, entryKey, entryValue, arcKeys, keyLimit, marking, graph, isArc, arcNode, arcTransition, count as countAt}
+use Rattle.sequential.specs.Words.{nodeCount, entryCount, entryKey, entryValue, arcKeys, keyLimit, marking, graph, isArc, arcNode, arcTransition, countAt}
 use Rattle.sequential.specs.Tests.{enabled, isAwait, offersSome, offersOneChoiceSet}
 use Rattle.sequential.specs.Checks.{shapeChecks, wordChecks, arcWordChecks, graphChecks}
 

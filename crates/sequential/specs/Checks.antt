@@ -9,7 +9,7 @@ use Rattle.refusal.specs.Limits.{mostNodes, mostEntries, mostCount}
 use Rattle.refusal.specs.Checks.{_else_, Check, once, each, AllPass}
 use Rattle.refusal.specs.declared.Position.the-variants.{Entry, Place, Node}
 use Rattle.sequential.specs.Petri.{PetriNet, Enabled, fire}
-use Rattle.sequential.specs.Words.{nodeCount, entryCount, entryKey, entryValue, arcKeys, keyLimit, count, marking, graph, arcNode, arcTransition}
+use Rattle.sequential.specs.Words.{nodeCount, entryCount, entryKey, entryValue, arcKeys, keyLimit, countAt, marking, graph, arcNode, arcTransition}
 use Rattle.sequential.specs.Schedule.{Offers, Await, OneChoiceSet, ToAwait}
 
 -- ---- the words
@@ -61,7 +61,7 @@ module _ (N : PetriNet) (sheet : List ℕ) where
   -- §7.10 to §7.17, in the order of §7.57: each line has the number of its clause. The first is §6.2
   abbrev pub graphChecks : List Check
   graphChecks =
-      each (N .places) Place ((λ p. count N sheet 0 p ≡ N .start p) else 10 ∷ [])
+      each (N .places) Place ((λ p. countAt N sheet 0 p ≡ N .start p) else 10 ∷ [])
       ∷ each (nodeCount sheet) Node ((λ n. (t : ℕ) × Offers N (graph N sheet) n t) else 11 ∷ OneChoiceSet N (graph N sheet) else 12 ∷ [])
       ∷ each 1 Node (Await N (graph N sheet) else 13 ∷ [])
       ∷ each (entryCount sheet) Entry (ArcEnabled else 14 ∷ ArcLands else 15 ∷ [])

@@ -43,12 +43,12 @@ module _ (N : PetriNet) (sheet : List ℕ) where
   arc n t = Option·map (entryValue sheet) (arcEntry n t)
 
   -- 0 where the key is missing: §3.8
-  unfoldable pub count : ℕ → ℕ → ℕ
-  count n p = cond (ltb n (nodeCount sheet) && ltb p (N .places)) (foundOr 0 (entryValue sheet) (entryWithKey sheet (arcKeys + n * N .places + p))) 0
+  unfoldable pub countAt : ℕ → ℕ → ℕ
+  countAt n p = cond (ltb n (nodeCount sheet) && ltb p (N .places)) (foundOr 0 (entryValue sheet) (entryWithKey sheet (arcKeys + n * N .places + p))) 0
 
   -- §4.1
   unfoldable pub marking : ℕ → List ℕ
-  marking n = cond (ltb n (nodeCount sheet)) (tabulate (count n) (N .places)) []
+  marking n = cond (ltb n (nodeCount sheet)) (tabulate (countAt n) (N .places)) []
 
   -- the graph that the words say, each node with its marking
   abbrev pub graph : Automaton
