@@ -7,3 +7,5 @@ pub mod Reading
 pub mod Decoded
 pub mod Recoded
 pub mod Length
+pub mod Rows
+pub mod Kept
