@@ -9,17 +9,21 @@ use Rattle.scan.proofs.Count.{count-prefix}
 use Rattle.table.specs.Bisection.{lowerBound}
 use Rattle.table.proofs.Bisection.{LowerBound, lower-bound}
 use Rattle.sequential.specs.Petri.{petriNet}
-use Rattle.sequential.specs.Words.{entryCount, entryKey, arcKeys, isArc}
+use Rattle.sequential.specs.Words.{nodeCount, entryCount, entryKey, arcKeys, isArc}
 use Rattle.sequential.specs.Check.{arcCount}
 use Rattle.sequential.proofs.Words.{words-rise, words-fit}
 use Rattle.graph.specs.Readable.{ArcsReadable}
-use Rattle.graph.specs.Rows.{countsStart, arcCountReply}
+use Rattle.graph.specs.Rows.{arcCountReply}
+use Rattle.graph.proofs.Starts.{arcs-start, counts-start}
 use Rattle.graph.proofs.HasRow.{has-row}
 
 module _ (net sheet : List ℕ) (r : ArcsReadable net sheet) where
   bound-is : arcCountReply net sheet ≡ lowerBound sheet 2 (entryCount sheet) (arcKeys (petriNet net) sheet)
-  unfolding arcCountReply countsStart arcKeys
-  bound-is = rw (has-row net sheet 0 r (r .sizes .some-node)) (ap (lowerBound sheet 2 (entryCount sheet)) (omega arith))
+  unfolding arcCountReply arcKeys
+  bound-is =
+      let s = r .sizes in
+      rw (has-row net sheet 0 r (s .some-node), ← counts-start net (nodeCount sheet) 0 (omega arith) (s .few-places), ← arcs-start net (nodeCount sheet) (s .few-nodes) (s .few-transitions))
+      (ap (lowerBound sheet 2 (entryCount sheet)) (omega arith))
 
   bound : LowerBound sheet 2 (entryCount sheet) (arcKeys (petriNet net) sheet) (arcCountReply net sheet)
   bound = rw bound-is (lower-bound sheet 2 (entryCount sheet) (arcKeys (petriNet net) sheet) (words-rise (petriNet net) sheet (r .holds)) (words-fit (petriNet net) sheet (r .holds)))

@@ -1,7 +1,5 @@
 -- When there are rows of a node, on any words: the sizes are in range and it is a node. On readable words there are.
 use Prim.Native.Nat.{ℕ, _≤_, _<_}
-use native.Mathlib.Nat.{mul-le-mul}
-use native.Mathlib.Omega.{arith}
 use mathlib.Core.Path.{_≡_, ap, _∙_}
 use mathlib.Core.List.{List}
 use mathlib.Core.Bool.{true, false, not}
@@ -19,7 +17,7 @@ use Rattle.sequential.specs.Words.{nodeCount}
 use Rattle.sequential.specs.Check.{shapeFault}
 use Rattle.sequential.proofs.Words.{shape-out, shape-in}
 use Rattle.graph.specs.Readable.{ArcsReadable}
-use Rattle.graph.specs.Rows.{arcsStart, hasRow, HasRow}
+use Rattle.graph.specs.Rows.{hasRow, HasRow}
 
 module _ (net sheet : List ℕ) (n : ℕ) where
   pub has-row-out : hasRow net sheet n ≡ true → HasRow net sheet n
@@ -38,11 +36,6 @@ module _ (net sheet : List ℕ) (n : ℕ) where
         long = s .whole;
         node = ltb-true _ _ (and-right (not (found (shapeFault sheet))) _ h2);
       }
-
-  -- the first key of its arcs is a word
-  pub arcs-start-low : HasRow net sheet n → arcsStart net n ≤ 4096
-  unfolding arcsStart
-  arcs-start-low h = let m : n ≤ 128 = omega (arith, h .node, h .few-nodes) in mul-le-mul m (h .few-transitions)
 
   -- ---- the tests, one after the other
 

@@ -1,4 +1,5 @@
 pub mod Readable
+pub mod Starts
 pub mod HasRow
 pub mod Rows
 pub mod LookUp

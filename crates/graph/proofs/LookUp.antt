@@ -21,6 +21,7 @@ use Rattle.sequential.proofs.Words.{words-rise, words-fit}
 use Rattle.graph.specs.Readable.{ArcsReadable}
 use Rattle.graph.specs.Rows.{arcsStart, hasRow}
 use Rattle.graph.specs.LookUp.{entryByKey, arcLookUp}
+use Rattle.graph.proofs.Starts.{arcs-start}
 use Rattle.graph.proofs.HasRow.{has-row, has-row-out}
 
 -- ---- the look-up on any words, as the code goes
@@ -47,10 +48,11 @@ module _ (net sheet : List ℕ) (n t : ℕ) where
 module _ (net sheet : List ℕ) (r : ArcsReadable net sheet) (n t : ℕ) where
   -- below T the look-up among rising keys is the entry with the key; from T on there is neither
   by-key : n < nodeCount sheet → entryByKey net sheet n t ≡ foundOf (arcEntry (petriNet net) sheet n t)
-  unfolding entryByKey arcEntry entryWithKey arcsStart
+  unfolding entryByKey arcEntry entryWithKey
   by-key l =
       let w = r .holds in
-      byTest (ltb t (transitionCount net)) (λ e. rw (lt-ltb n (nodeCount sheet) l, e) (look-up sheet 2 (entryCount sheet) _ (words-rise _ sheet w) (words-fit _ sheet w)))
+      let m : n ≤ 128 = omega (arith, r .sizes .few-nodes) in
+      byTest (ltb t (transitionCount net)) (λ e. rw (lt-ltb n (nodeCount sheet) l, e, ← arcs-start net n m (r .sizes .few-transitions)) (look-up sheet 2 (entryCount sheet) _ (words-rise _ sheet w) (words-fit _ sheet w)))
       (λ e. rw (lt-ltb n (nodeCount sheet) l, e))
 
   pub look-up-right : arcLookUp net sheet n t ≡ foundOf (arcEntry (petriNet net) sheet n t)

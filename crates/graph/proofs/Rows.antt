@@ -1,5 +1,5 @@
 -- The rows that the code answers are, on readable words, the node's marking and the entries of its arcs and counts.
-use Prim.Native.Nat.{ℕ, zero, suc, _+_, _*_, _<_}
+use Prim.Native.Nat.{ℕ, zero, suc, _+_, _*_, _≤_, _<_}
 use native.Mathlib.Omega.{arith}
 use native.Mathlib.Numerals.{add-one}
 use mathlib.Core.Path.{_≡_, refl, sym, _∙_}
@@ -22,6 +22,7 @@ use Rattle.sequential.specs.Known.{ArcsHold}
 use Rattle.sequential.proofs.Words.{words-rise, words-fit}
 use Rattle.graph.specs.Readable.{ArcsReadable}
 use Rattle.graph.specs.Rows.{arcsStart, countsStart, countEntry, arcEntryCode, countEntryCode, valueTold, markingRow, arcEntryRow, countEntryRow}
+use Rattle.graph.proofs.Starts.{arcs-start, counts-start}
 use Rattle.graph.proofs.HasRow.{has-row}
 
 -- ---- an entry that is told
@@ -93,16 +94,25 @@ module _ (net sheet : List ℕ) (r : ArcsReadable net sheet) (n : ℕ) (l : n < 
   w : ArcsHold N sheet
   w = r .holds
 
+  few : n ≤ 128
+  few = omega (arith, r .sizes .few-nodes)
+
+  first-arc : arcsStart net n ≡ n * transitionCount net
+  first-arc = sym (arcs-start net n few (r .sizes .few-transitions))
+
+  first-count : countsStart net (nodeCount sheet) n ≡ nodeCount sheet * transitionCount net + n * placeCount net
+  first-count = sym (counts-start net (nodeCount sheet) n few (r .sizes .few-places)) ∙ rw (← arcs-start net (nodeCount sheet) (r .sizes .few-nodes) (r .sizes .few-transitions)) refl
+
   pub marking-right : markingRow net sheet n ≡ tabulate (countAt (petriNet net) sheet n) 32
-  unfolding markingRow countsStart countAt entryValue entryWithKey arcKeys
+  unfolding markingRow countAt entryValue entryWithKey arcKeys
   marking-right =
-      rw (has-row net sheet n r l) (value-row-is sheet 2 (entryCount sheet) (nodeCount sheet * transitionCount net + n * placeCount net) (placeCount net)
+      rw (has-row net sheet n r l, first-count) (value-row-is sheet 2 (entryCount sheet) (nodeCount sheet * transitionCount net + n * placeCount net) (placeCount net)
       (words-rise N sheet w) (omega (arith, w .shape .whole)) (countAt N sheet n) (λ p h. rw (lt-ltb n (nodeCount sheet) l)))
 
   pub arcs-right : arcEntryRow net sheet n ≡ tabulate (arcEntryCode (petriNet net) sheet n) 32
-  unfolding arcEntryRow arcsStart
-  arcs-right = rw (has-row net sheet n r l) (arcs-are N sheet w n l)
+  unfolding arcEntryRow
+  arcs-right = rw (has-row net sheet n r l, first-arc) (arcs-are N sheet w n l)
 
   pub counts-right : countEntryRow net sheet n ≡ tabulate (countEntryCode (petriNet net) sheet n) 32
-  unfolding countEntryRow countsStart arcKeys
-  counts-right = rw (has-row net sheet n r l) (counts-are N sheet w n l)
+  unfolding countEntryRow arcKeys
+  counts-right = rw (has-row net sheet n r l, first-count) (counts-are N sheet w n l)

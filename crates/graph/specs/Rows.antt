@@ -36,15 +36,15 @@ valueTold sheet (suc i) = entryValue sheet i
 
 -- ---- rows
 
--- the first key of node n's arcs: §3.5
+-- the first key of node n's arcs (§3.5), 0 where a size is out of range
 unfoldable pub arcsStart : List ℕ → ℕ → ℕ
-arcsStart net n = n * transitionCount net
+arcsStart net n = cond (leb n mostNodes && leb (transitionCount net) mostTransitions) (n * transitionCount net) 0
+
+-- the first key of its counts, which follow the arcs of all nodes (§3.6), 0 likewise
+unfoldable pub countsStart : List ℕ → ℕ → ℕ → ℕ
+countsStart net nodes n = cond (leb n mostNodes && leb (placeCount net) mostPlaces) (arcsStart net nodes + n * placeCount net) 0
 
 module _ (net sheet : List ℕ) (n : ℕ) where
-  -- the first key of its counts: §3.6
-  unfoldable pub countsStart : ℕ
-  countsStart = nodeCount sheet * transitionCount net + n * placeCount net
-
   -- the sizes are in range and n is a node
   unfoldable pub hasRow : Bool
   hasRow = leb (placeCount net) mostPlaces && (leb (transitionCount net) mostTransitions && (not (found (shapeFault sheet)) && ltb n (nodeCount sheet)))
@@ -59,14 +59,14 @@ module _ (net sheet : List ℕ) (n : ℕ) where
     pub node : n < getD sheet 0 0
 
   unfoldable pub markingRow : List ℕ
-  markingRow = cond hasRow (valueRow sheet 2 (entryCount sheet) countsStart (placeCount net)) (replicate mostPlaces 0)
+  markingRow = cond hasRow (valueRow sheet 2 (entryCount sheet) (countsStart net (nodeCount sheet) n) (placeCount net)) (replicate mostPlaces 0)
 
   unfoldable pub arcEntryRow : List ℕ
   arcEntryRow = cond hasRow (entryRow sheet 2 (entryCount sheet) (arcsStart net n) (transitionCount net)) (replicate mostTransitions 0)
 
   unfoldable pub countEntryRow : List ℕ
-  countEntryRow = cond hasRow (entryRow sheet 2 (entryCount sheet) countsStart (placeCount net)) (replicate mostPlaces 0)
+  countEntryRow = cond hasRow (entryRow sheet 2 (entryCount sheet) (countsStart net (nodeCount sheet) n) (placeCount net)) (replicate mostPlaces 0)
 
 -- how many entries have a key before those of counts: on keys that rise, the arcs
 unfoldable pub arcCountReply : List ℕ → List ℕ → ℕ
-arcCountReply net sheet = cond (hasRow net sheet 0) (lowerBound sheet 2 (entryCount sheet) (countsStart net sheet 0)) 0
+arcCountReply net sheet = cond (hasRow net sheet 0) (lowerBound sheet 2 (entryCount sheet) (countsStart net (nodeCount sheet) 0)) 0

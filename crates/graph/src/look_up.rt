@@ -2,7 +2,6 @@
 ghost use mathlib.Core.Path.{_≡_};
 ghost use Rattle.graph.specs.Rows.{HasRow};
 ghost use Rattle.graph.specs.LookUp.{entryByKey};
-use super::node_rows;
 use table::Found;
 
 // The entry that bisection finds for the arc of t at node n.
@@ -14,6 +13,6 @@ pub(crate) fn entry_by_key(net: &[u32], sheet: &[u32], n: u32, t: u32) -> Found
     if net::transitions(net) <= t {
         return Found::Nothing;
     }
-    let first = node_rows::arcs_start(net, n);
+    let first = super::arcs_start(net, n);
     table::find(sheet, 2, sheet[1] as usize, first + t)
 }

@@ -2,7 +2,7 @@
 use native.Mathlib.Omega.{arith}
 use mathlib.Core.Path.{_∙_}
 use borrow.Author.Needs.{needs}
-use Rattle.graph.proofs.HasRow.{arcs-start-low}
+use Rattle.graph.proofs.Starts.{arcs-start-low}
 use Rattle.graph.proofs.LookUp.{by-key-below, by-key-past}
 use Rattle.graph.proofs.look_up.entry_by_key.Statement.{statement}
 use Rattle.graph.proofs.look_up.entry_by_key.Tie as tie
@@ -12,8 +12,9 @@ returns c = by-key-past _ _ _ _ (omega (arith, c .before .transitions .ensures))
 
 add-find : tie.Need-add-find
 add-find c =
-    let a = arcs-start-low _ _ _ (c .before .before .before .before .before .before .pre) in
-    omega (arith, c .before .arcs-start .ensures, c .before .before .before .transitions .ensures)
+    let a = c .before .before .before .before .before .before .args in
+    let p = c .before .before .before .before .before .before .pre in
+    omega (arith, c .before .arcs-start .ensures, arcs-start-low (a .net .now) (a .n), c .before .before .before .transitions .ensures)
 
 returns-2 : tie.Need-returns-2
 returns-2 c =

@@ -1,0 +1,51 @@
+-- The first keys of a node's rows: small numbers on any words, and where the sizes are in range those of §3.5 and §3.6.
+use Prim.Native.Nat.{ℕ, _+_, _*_, _≤_, _<_}
+use native.Mathlib.Omega.{arith}
+use native.Mathlib.Nat.{mul-le-mul}
+use mathlib.Core.Path.{_≡_, refl}
+use mathlib.Core.List.{List}
+use mathlib.Core.Bool.{_&&_}
+use lib.Dec.{leb}
+use borrow.Author.Tests.{leb-true, le-leb, lt-leb}
+use Rattle.scan.proofs.Tests.{byTest, and-left, and-right}
+use Rattle.net.specs.Net.{placeCount, transitionCount}
+use Rattle.graph.specs.Rows.{arcsStart, countsStart}
+
+module _ (net : List ℕ) (n : ℕ) where
+  pub arcs-start : n ≤ 128 → transitionCount net ≤ 32 → n * transitionCount net ≡ arcsStart net n
+  unfolding arcsStart
+  arcs-start h k = rw (le-leb n 128 h, le-leb (transitionCount net) 32 k) refl
+
+  pub arcs-start-nodes : 128 < n → 0 ≡ arcsStart net n
+  unfolding arcsStart
+  arcs-start-nodes h = rw (lt-leb n 128 h) refl
+
+  pub arcs-start-transitions : n ≤ 128 → 32 < transitionCount net → 0 ≡ arcsStart net n
+  unfolding arcsStart
+  arcs-start-transitions h k = rw (le-leb n 128 h, lt-leb (transitionCount net) 32 k) refl
+
+  pub arcs-start-low : arcsStart net n ≤ 4096
+  unfolding arcsStart
+  arcs-start-low =
+      byTest (leb n 128 && leb (transitionCount net) 32)
+      (λ e. rw e (mul-le-mul (leb-true n 128 (and-left _ _ e)) (leb-true (transitionCount net) 32 (and-right (leb n 128) _ e)))) (λ e. rw e (omega arith))
+
+module _ (net : List ℕ) (nodes n : ℕ) where
+  pub counts-start : n ≤ 128 → placeCount net ≤ 32 → arcsStart net nodes + n * placeCount net ≡ countsStart net nodes n
+  unfolding countsStart
+  counts-start h k = rw (le-leb n 128 h, le-leb (placeCount net) 32 k) refl
+
+  pub counts-start-nodes : 128 < n → 0 ≡ countsStart net nodes n
+  unfolding countsStart
+  counts-start-nodes h = rw (lt-leb n 128 h) refl
+
+  pub counts-start-places : n ≤ 128 → 32 < placeCount net → 0 ≡ countsStart net nodes n
+  unfolding countsStart
+  counts-start-places h k = rw (le-leb n 128 h, lt-leb (placeCount net) 32 k) refl
+
+  pub counts-start-low : countsStart net nodes n ≤ 8192
+  unfolding countsStart
+  counts-start-low =
+      byTest (leb n 128 && leb (placeCount net) 32)
+      (λ e. rw e (omega (arith, arcs-start-low net nodes, mul-le-mul (leb-true n 128 (and-left _ _ e)) (leb-true (placeCount net) 32 (and-right (leb n 128) _ e)))))
+      (λ e. rw e (omega arith))
