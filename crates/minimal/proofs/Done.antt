@@ -1,15 +1,36 @@
--- The call as an instance of what every call is.
-use mathlib.Core.Path.{refl}
+-- The call as an instance of what every call is; and that what asks for words that can be read alone does the same for a schedule.
+use mathlib.Core.Path.{_≡_, refl, ap, _∙_}
 use mathlib.Core.List.{List, [], _∷_, _++_}
 use Prim.Native.Nat.{ℕ}
 use lib.ListN.{length}
+use Rattle.net.specs.Check.{netReply}
 use Rattle.net.specs.Checks.{netChecks}
 use Rattle.sequential.specs.Petri.{petriNet}
 use Rattle.sequential.specs.Checks.{sheetChecks}
+use Rattle.sequential.specs.Check.{wordsFault, scheduleFault, scheduleReply}
 use Rattle.sequential.proofs.Accepted.{schedule-judged}
+use Rattle.scan.proofs.First.{orElse-left}
+use Rattle.refusal.specs.Verdict.{verdictOf}
+use Rattle.refusal.specs.declared.Verdict.the-variants.{Accepted}
+use Rattle.refusal.proofs.Verdicts.{then-next, then-accepted, answer-none}
+use Rattle.graph.specs.Readable.{wordsReply}
+use Rattle.call.specs.Call.{wordsVerdict}
 use Rattle.call.proofs.Judged.{Lawful}
 use Rattle.minimal.specs.Minimal.{minimalForm}
-use Rattle.minimal.specs.Form.{formCore, plainForm}
+use Rattle.minimal.specs.Form.{formCore, plainForm, FormOf, FormWritten}
+use Rattle.minimal.specs.declared.FormAnswer.{FormAnswer}
 
 pub form-law : (net sheet : List ℕ) → Lawful (formCore net sheet) plainForm 1 (length (minimalForm net sheet) ∷ []) (netChecks net ++ sheetChecks (petriNet net) sheet)
 form-law net sheet = record { judged = schedule-judged net sheet; proper = refl; plain-accepted = refl; own-length = refl; plain-refused = λ r. refl }
+
+module _ (net sheet : List ℕ) (h : scheduleReply net sheet ≡ Accepted) where
+  -- the words of a schedule can be read
+  pub words-accepted : wordsReply net sheet ≡ Accepted
+  unfolding wordsReply scheduleReply scheduleFault
+  words-accepted =
+      let (a, b) = then-accepted (netReply net) (verdictOf (scheduleFault (petriNet net) sheet)) h in
+      then-next (netReply net) _ a ∙ ap verdictOf (orElse-left (wordsFault (petriNet net) sheet) _ (answer-none (scheduleFault (petriNet net) sheet) b))
+
+  pub form-of-schedule : {out out′ : List ℕ} {r : FormAnswer} → FormOf net sheet out r out′ → FormWritten net sheet out r out′
+  unfolding wordsVerdict
+  form-of-schedule d = record { reply = d .reply ∙ rw (words-accepted, h) refl; written = d .written ∙ rw (words-accepted, h) refl }

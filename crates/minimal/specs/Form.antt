@@ -4,6 +4,7 @@ use mathlib.Core.List.{List, [], _∷_}
 use lib.ListN.{length}
 use Rattle.refusal.specs.Refusal.{told}
 use Rattle.sequential.specs.Check.{scheduleReply}
+use Rattle.graph.specs.Readable.{wordsReply}
 use Rattle.call.specs.Call.{Core, WordsDone, CallDone}
 use Rattle.refusal.specs.Limits.{scratchLimit}
 use Rattle.minimal.specs.Minimal.{minimalForm}
@@ -17,6 +18,18 @@ formCore net sheet = record {
   refused = Refused;
   results = minimalForm net sheet ∷ [];
 }
+
+-- the same of words that can be read, whether they are a schedule or not: only 1 to 9 are asked
+abbrev pub readCore : List ℕ → List ℕ → Core FormAnswer
+readCore net sheet = record {
+  verdict = wordsReply net sheet;
+  accepted = Written (length (minimalForm net sheet));
+  refused = Refused;
+  results = minimalForm net sheet ∷ [];
+}
+
+abbrev pub FormOf : List ℕ → List ℕ → List ℕ → FormAnswer → List ℕ → Type 0
+FormOf net sheet out r out′ = WordsDone (readCore net sheet) (out ∷ []) r (out′ ∷ [])
 
 -- without scratch
 abbrev pub FormWritten : List ℕ → List ℕ → List ℕ → FormAnswer → List ℕ → Type 0

@@ -4,7 +4,5 @@ pub mod Leaders
 pub mod SearchState
 pub mod SearchArcs
 pub mod SearchOrder
-pub mod Placed
-pub mod Gathered
-pub mod Cells
-pub mod Parts
+pub mod NewNodes
+pub mod Writing

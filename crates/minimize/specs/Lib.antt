@@ -2,4 +2,3 @@ pub mod Tables
 pub mod Agree
 pub mod Leaders
 pub mod Search
-pub mod Sections

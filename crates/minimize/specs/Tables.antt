@@ -1,12 +1,16 @@
 -- What the tables hold that the functions hand to each other. No contract of a public function cites it.
-use Prim.Native.Nat.{ℕ, _<_}
+use Prim.Native.Nat.{ℕ, _≤_, _<_}
 use mathlib.Core.Path.{_≡_}
 use mathlib.Core.List.{List}
 use lib.ListN.{length, getD, take}
 use Rattle.automaton.specs.Automaton.{Automaton}
 use Rattle.automaton.specs.Equivalence.{same, sameClass}
 use Rattle.automaton.specs.BreadthFirst.{order}
-use Rattle.automaton.specs.Quotient.{number}
+use Rattle.automaton.specs.Quotient.{minimal, number}
+use Rattle.sequential.specs.Petri.{petriNet}
+use Rattle.sequential.specs.Words.{graph}
+use Rattle.graph.specs.Readable.{Readable}
+use Rattle.encoding.specs.Kept.{Kept}
 
 -- the class of a node in a table
 unfoldable pub classIn : List ℕ → ℕ → ℕ
@@ -22,3 +26,10 @@ pub record Numbered (A : Automaton) (reps numbers : List ℕ) (found : ℕ) : Ty
   pub size : found ≡ length (order (same A) A)
   pub represent : take found reps ≡ order (same A) A
   pub number : (n : ℕ) → n < A .nodes → number A n < found → getD numbers n 0 ≡ number A n
+
+-- the minimal form's nodes of words that can be read: the nodes that stand for them, so many, and the new number of each node that an arc of theirs leads to
+pub record NewNodes (net sheet reps numbers : List ℕ) (found : ℕ) : Type 0 where
+  pub readable : Readable net sheet
+  pub size : minimal (graph (petriNet net) sheet) .nodes ≡ found
+  pub few : found ≤ 128
+  pub kept : Kept (graph (petriNet net) sheet) (minimal (graph (petriNet net) sheet)) reps numbers

@@ -3,12 +3,25 @@ mod classes;
 mod numbering;
 mod writer;
 
-ghost use Rattle.minimal.specs.Form.{FormWritten, FormDone};
+ghost use Rattle.minimal.specs.Form.{FormOf, FormWritten, FormDone};
 use minimal::FormAnswer;
 use refusal::Verdict;
 use schedule::Walker;
 
-// The minimal form without scratch.
+// The minimal form of words that can be read, whether they are a schedule or not: a refusal by 1 to 9 is the reply.
+pub fn form_of(net: &[u32], sheet: &[u32], out: &mut [u32]) -> FormAnswer
+    ensures { λ r. ⌜ FormOf (now (net .entry)) (now (sheet .entry)) (now (out .entry)) r (now (out .exit)) ⌝ }
+{
+    let found = graph::check(net, sheet);
+    if let Verdict::Refused(r) = found {
+        return FormAnswer::Refused(r);
+    }
+    let classes = classes::classes(net, sheet);
+    let new = numbering::numbering(net, sheet, classes);
+    writer::write(net, sheet, new, out)
+}
+
+// The minimal form of a schedule without scratch.
 pub fn form_into(net: &[u32], sheet: &[u32], out: &mut [u32]) -> FormAnswer
     ensures { λ r. ⌜ FormWritten (now (net .entry)) (now (sheet .entry)) (now (out .entry)) r (now (out .exit)) ⌝ }
 {
@@ -16,11 +29,7 @@ pub fn form_into(net: &[u32], sheet: &[u32], out: &mut [u32]) -> FormAnswer
     if let Verdict::Refused(r) = found {
         return FormAnswer::Refused(r);
     }
-    let classes = classes::classes(net, sheet);
-    let numbering = numbering::numbering(net, sheet, classes);
-    let reps = numbering.reps;
-    let numbers = numbering.numbers;
-    writer::write(net, sheet, reps, numbers, numbering.found, out)
+    form_of(net, sheet, out)
 }
 
 // The minimal form: §10.9.
