@@ -12,7 +12,7 @@ from lineup.words import LOG_WORDS, NET_WORDS, SHEET_WORDS
 SCRATCH, OUT_BLANK = 8_192, 9  # the words of scratch lent, and what an output buffer holds before a call
 KINDS = ("none", "entry", "place", "node", "record")
 ANSWER = re.compile(
-    rf"answer (?P<number>\d+) (?P<kind>{'|'.join(KINDS)}) (?P<index>\d+)(?P<own>(?: (?:nodes|arcs|awaits|fired|node|length|taken|put) \d+)*)"
+    rf"answer (?P<number>\d+) (?P<kind>{'|'.join(KINDS)}) (?P<index>\d+)(?P<own>(?: (?:nodes|arcs|awaits|fired|node|length|taken|put|entry) \d+)*)"
     r"(?P<outs>(?: out(?: \d+)* rest \d+)*)(?: scratch [\d ]+)?"
 )
 OUT = re.compile(r" out((?: \d+)*) rest (\d+)")

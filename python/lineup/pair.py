@@ -3,8 +3,9 @@ from lineup import causes, core, explain, inputs
 from lineup.explain import Disagreement
 from lineup.refusals import OF_NET, OF_WORDS
 from lineup.report import refused
-from lineup.trouble import Trouble
+from lineup.trouble import Trouble, place
 from lineup.wordfile import packed
+from lineup.words import SHEET_HEAD, sheet_key
 
 
 class Pair:
@@ -39,6 +40,18 @@ class Pair:
         greatest = [max(counts.get(p, 0) for counts in sheet.counts) for p in range(len(net.places))]
         if bounds.out != greatest:
             raise Disagreement(f"the core answers {bounds.whole!r}, and the sheet shows {greatest}")
+
+    def last_entry(self, answer, last, report):
+        """Tells the entry that the core names for the last firing, `last` its node and transition, or nothing: it has to be that arrow's in the sheet."""
+        net, sheet, words = self.net.model, self.sheet.model, self.sheet.words
+        seen = None
+        if last:
+            seen = words.index(sheet_key(len(net.places), len(net.transitions), len(sheet.nodes), ("arc", *last)), SHEET_HEAD) - SHEET_HEAD
+        if answer.own["entry"] != (0 if seen is None else seen + 1):
+            raise Disagreement(f"the core answers {answer.whole!r}, and the sheet has the last arrow at entry {seen}")
+        report.data["entry"] = seen
+        if last:
+            report.say(f"  the last arrow: {place(self.sheet.path, *(self.sheet.locate(('arc', *last)) or ()))}entry {seen}")
 
 
 def ask_each(pairs, call):

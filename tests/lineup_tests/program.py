@@ -57,12 +57,13 @@ def statuses(tally, folder):
         (1, "short x.net torn.sheet", ["11 dead end", "core: answer 11"]),
         (0, "bounds x.net greedy.sheet", ["a 2  at o", "core: answer 0 none 0 out 2 rest 0"]),
         (1, "bounds x.net torn.sheet", ["11 dead end"]),
-        (0, "run x.net x.sheet", ["0 firings from node n", "core: answer 0 none 0 fired 0 node 0"]),
-        (0, "run x.net x.sheet s u s", ["3 firings", "3  s -> m: a", "core: answer 0 none 0 fired 3 node 1 out 1 rest 0"]),
+        (0, "run x.net x.sheet", ["0 firings from node n", "core: answer 0 none 0 fired 0 node 0 entry 0"]),
+        (0, "run x.net x.sheet s u s", ["3 firings", "3  s -> m: a", "the last arrow: x.sheet:2:3: entry 0", "core: answer 0 none 0 fired 3 node 1 entry 1 out 1 rest 0"]),
+        (0, "run x.net x.sheet s u", ["the last arrow: x.sheet:4:3: entry 1", "core: answer 0 none 0 fired 2 node 0 entry 2"]),
         (1, "run x.net x.sheet s s", ["refused, 20 not offered", "firing 2 of 2, s: node m offers u", "core: answer 20 record 1"]),
         (1, "run x.net torn.sheet s", ["11 dead end"]),
-        (0, "replay x.net x.sheet x.log", ["x.log: 3 firings from node n to node m", "a     taken 1 put 2   0 + 2 - 1 = 1", "total taken 1 put 2", "core: answer 0 none 0 taken 1 put 2 out 1 rest 0 out 2 rest 0"]),
-        (1, "replay x.net greedy.sheet x.log", ["x.log:3:1: refused, 20 not offered", "firing 2 of 3, u: node m offers s", "core: answer 20 record 1 taken 0 put 0"]),
+        (0, "replay x.net x.sheet x.log", ["x.log: 3 firings from node n to node m", "a     taken 1 put 2   0 + 2 - 1 = 1", "total taken 1 put 2", "the last arrow: x.sheet:2:3: entry 0", "core: answer 0 none 0 taken 1 put 2 entry 1 out 1 rest 0 out 2 rest 0"]),
+        (1, "replay x.net greedy.sheet x.log", ["x.log:3:1: refused, 20 not offered", "firing 2 of 3, u: node m offers s", "core: answer 20 record 1 taken 0 put 0 entry 0"]),
         (1, "replay x.net longer.sheet x.log", ["x.log:3:1: refused, 24 logged node differs", "firing 2 of 3, u: leads from node m to node o, and the log says node n", "core: answer 24 record 1"]),
         (1, "replay x.net torn.sheet x.log", ["11 dead end"]),
         (0, "words x.net x.sheet", ["net 1 2 2 1 2 1 1", "sheet 2 3 0 3 5 1 0 1"]),
@@ -175,8 +176,8 @@ def word_logs(tally, folder, net, sheet):
     save(folder, "logged/net.bin", net)
     save(folder, "logged/sheet.bin", sheet)
     cases = {
-        "3 0 1 0 1 0 1": (0, ["3 firings from node n0 to node n1", "taken 1 put 2"]),
-        "0": (0, ["0 firings from node n0 to node n0", "core: answer 0 none 0 taken 0 put 0"]),
+        "3 0 1 0 1 0 1": (0, ["3 firings from node n0 to node n1", "taken 1 put 2", "sheet.bin: entry 0"]),
+        "0": (0, ["0 firings from node n0 to node n0", "core: answer 0 none 0 taken 0 put 0 entry 0"]),
         "": (1, ["refused, 23 no record", "there is no word"]),
         "3 0 1 0 1 0": (1, ["log.txt:1:1: refused, 23 no record", "which makes 1 + 2 * 3 = 7 words; there are 6, 1 too few"]),
         "1 0 1 1": (1, ["there are 4, 1 too many"]),
@@ -238,7 +239,7 @@ def trouble(tally, folder):
     long = lineup(folder, "run", "x.net", "x.sheet", *["s", "u"] * 13_000)
     tally.same("a list that is too long", (long[0], "24,000 together" in long[2]), (2, True))
     hundreds = lineup(folder, "run", "x.net", "x.sheet", *["s", "u"] * 3_000)
-    tally.holds("a long list", hundreds[1], "fired 6000 node 0")
+    tally.holds("a long list", hundreds[1], "fired 6000 node 0 entry 2")
 
 
 def disagreements(tally, folder):

@@ -11,7 +11,7 @@ use Rattle.call.specs.Call.{Core, CallDone, buffer}
 
 -- ---- an answer as plain numbers: §8.1
 
--- its number, and the i-th of the call's own, which stand behind number, kind and position; none can be missing (§8.4)
+-- its number, and the i-th of the call's own, which stand behind number, kind and position; one that can be missing stands there by §8.4
 abbrev pub number : List ℕ → ℕ
 number plain = getD plain 0 0
 

@@ -1,6 +1,8 @@
-// What every call asks of what it is lent: enough scratch before all else, and room for its result after all else (§7.54).
+// What every call asks of what it is lent: enough scratch before all else, and room for its result after all else (§7.54). And a number of a
+// call's own that can be missing.
 ghost use mathlib.Core.Path.{_≡_};
 ghost use Rattle.call.specs.Call.{scratchFault, roomFault};
+ghost use Rattle.call.specs.Index.{plainIndex};
 use refusal::Position;
 use refusal::Refusal;
 use refusal::Verdict;
@@ -23,4 +25,22 @@ pub fn output_fault(lent: usize, needed: usize) -> Verdict
         return refusal::refuse(Refusal::SMALL_OUTPUT, Position::Nothing);
     }
     Verdict::Accepted
+}
+
+// An index that an answer tells, or says to be missing: §8.4.
+pub enum Index {
+    Known(u32),
+    Missing,
+}
+
+impl Index {
+    // Its plain number.
+    pub fn plain(self) -> usize
+        ensures { λ r. ⌜ r ≡ plainIndex self ⌝ }
+    {
+        match self {
+            Index::Known(i) => i as usize + 1,
+            Index::Missing => 0,
+        }
+    }
 }

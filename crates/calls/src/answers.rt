@@ -45,9 +45,9 @@ fn walker(words: &[u32]) -> Walker {
 
 fn single_firing(net: &[u32], sheet: &[u32], from: Walker, t: u32, scratch: &mut [u32]) {
     let fired = from.fire(net, sheet, t, scratch);
-    let verdict = fired.verdict;
+    let answer = fired.answer;
     let next = fired.next;
-    print::verdict(verdict);
+    print::fire_answer(answer);
     print::walker(next);
 }
 

@@ -7,6 +7,7 @@ use libc::STDOUT_FILENO;
 use minimal::FormAnswer;
 use refusal::Verdict;
 use replay::ReplayAnswer;
+use schedule::FireAnswer;
 use schedule::RunAnswer;
 use schedule::Walker;
 
@@ -51,11 +52,18 @@ pub(crate) fn check_answer(answer: CheckAnswer) {
     named(b" awaits", plain[5] as u64);
 }
 
+pub(crate) fn fire_answer(answer: FireAnswer) {
+    let plain = answer.plain();
+    told(plain[0], plain[1], plain[2]);
+    named(b" entry", plain[3] as u64);
+}
+
 pub(crate) fn run_answer(answer: RunAnswer) {
     let plain = answer.plain();
     told(plain[0], plain[1], plain[2]);
     named(b" fired", plain[3] as u64);
     named(b" node", plain[4] as u64);
+    named(b" entry", plain[5] as u64);
 }
 
 pub(crate) fn replay_answer(answer: ReplayAnswer) {
@@ -63,6 +71,7 @@ pub(crate) fn replay_answer(answer: ReplayAnswer) {
     told(plain[0] as usize, plain[1] as usize, plain[2] as usize);
     named(b" taken", plain[3]);
     named(b" put", plain[4]);
+    named(b" entry", plain[5]);
 }
 
 pub(crate) fn form_answer(answer: FormAnswer) {

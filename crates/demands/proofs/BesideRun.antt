@@ -48,11 +48,11 @@ told-same r x k e =
     ap (λ (y : ℕ). refusal y (r .at)) n ∙ ap (refusal (x .number)) at
 
 -- what is told by 20 at an index is the check that fails first
-pub named : {checks : List Check} {plain : List ℕ} {i : ℕ} → ByChecks checks plain 2 → (plain ≡ told (refusal 20 (Record i)) 2) ↔ FirstFails checks (refusal 20 (Record i))
+pub named : {checks : List Check} {plain : List ℕ} {i : ℕ} → ByChecks checks plain 3 → (plain ≡ told (refusal 20 (Record i)) 3) ↔ FirstFails checks (refusal 20 (Record i))
 named {checks} {plain} {i} b = (
   λ e. let n : number plain ≡ 20 = ap number e in
       let (x, f, q) = b .named (λ z. omega arith) in
-      let same : x ≡ refusal 20 (Record i) = told-same x (refusal 20 (Record i)) 2 (sym q ∙ e) in
+      let same : x ≡ refusal 20 (Record i) = told-same x (refusal 20 (Record i)) 3 (sym q ∙ e) in
       rw same at f,
   b .this (refusal 20 (Record i)),
 )

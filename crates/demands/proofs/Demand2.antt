@@ -42,8 +42,9 @@ use Rattle.schedule.specs.Walker.{Stands}
 use Rattle.schedule.specs.Firing.{freshWalker, endCounts}
 use Rattle.refusal.specs.Limits.{scratchLimit}
 use Rattle.schedule.specs.Calls.{checkCore, CheckDone, BoundsDone, FreshDone, FireDone, RunDone}
-use Rattle.schedule.specs.Plain.{plainRun}
+use Rattle.schedule.specs.Plain.{plainFire, plainRun}
 use Rattle.schedule.specs.declared.Walker.{Walker}
+use Rattle.schedule.specs.declared.FireAnswer.{FireAnswer}
 use Rattle.schedule.specs.declared.RunAnswer.{RunAnswer}
 use Rattle.schedule.proofs.Walkers.{walker-out, step-tells, handed-back}
 use Rattle.schedule.proofs.Following.{run-leads, end-length}
@@ -107,15 +108,15 @@ fresh net v w d z =
       zeros = λ p l m. tabulate-at (petriNet net .start) 0 32 p m ∙ start-no-place net p l;
     })
 
-fires : (net sheet s s′ : List ℕ) (w next : Walker) (t : ℕ) (v : Verdict) → FireDone net sheet s w t v next s′ → number (plainOf v) ≡ 0
+fires : (net sheet s s′ : List ℕ) (w next : Walker) (t : ℕ) (r : FireAnswer) → FireDone net sheet s w t r next s′ → number (plainFire r) ≡ 0
     → FiresRight (petriNet net) sheet (said net sheet) w t next
 unfolding firedCount
-fires net sheet s s′ w next t v d z =
+fires net sheet s s′ w next t r d z =
     let f = done-zero (fire-law net sheet w t) d z in
     let (a, b) = then-accepted (scheduleReply net sheet) _ (f .passed) in
     let (n, (c, ((m, o), u))) = step-tells (petriNet net) sheet w t .passes .0 (answer-none _ b) in
     let h = handed-back net sheet a w t m (record { node = n; holds = λ p l. c p l .0 }) o in
-    subst (FiresRight (petriNet net) sheet (said net sheet) w t) (sym (ap (λ (x : Verdict × Walker). x .1) (f .reply))) (
+    subst (FiresRight (petriNet net) sheet (said net sheet) w t) (sym (ap (λ (x : FireAnswer × Walker). x .1) (f .reply))) (
     let p = walker-out (petriNet net) sheet _ (h .passes) in
     record {
       arc = h .target;

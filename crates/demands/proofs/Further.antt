@@ -33,12 +33,14 @@ use Rattle.call.proofs.Judged.{words-judged}
 use Rattle.call.proofs.Done.{by-checks, done-zero, own-answered}
 use Rattle.call.proofs.Laws.{served, answered-none}
 use Rattle.schedule.specs.Walker.{runChecks}
-use Rattle.schedule.specs.Firing.{freshWalker, walkerFault, stepFault, follows, runFault, nodeAfter, endCounts}
+use Rattle.schedule.specs.Firing.{freshWalker, walkerFault, stepFault, follows, entryFired, runFault, nodeAfter, endCounts}
 use Rattle.refusal.specs.Limits.{scratchLimit}
-use Rattle.schedule.specs.Calls.{runCore, FireDone, RunDone}
+use Rattle.schedule.specs.Calls.{runCore, FreshDone, FireDone, RunDone}
 use Rattle.schedule.specs.Plain.{plainRun}
 use Rattle.schedule.specs.Walks.{Chain, stays, goes}
 use Rattle.schedule.specs.declared.Walker.{Walker}
+use Rattle.schedule.specs.declared.FireAnswer.{FireAnswer}
+use Rattle.schedule.specs.declared.FireAnswer.the-variants.{Done}
 use Rattle.schedule.specs.declared.RunAnswer.{RunAnswer}
 use Rattle.schedule.proofs.Walkers.{walker-out, few-places, fresh-passes, fresh-node, fresh-length}
 use Rattle.schedule.proofs.Following.{run-leads, run-allowed, run-ends, end-length}
@@ -80,19 +82,19 @@ module _ (net sheet : List ℕ) (h : scheduleReply net sheet ≡ verdict.Accepte
 
   -- a call of the single firing for each firing that passes, and the other way round
   fire-call : (w : Walker) (t : ℕ) → stepFault (petriNet net) sheet w t ≡ none
-      → FireDone net sheet some-scratch w t verdict.Accepted (follows (petriNet net) sheet w t) (cleared scratchLimit some-scratch)
+      → FireDone net sheet some-scratch w t (Done (entryFired (petriNet net) sheet w t)) (follows (petriNet net) sheet w t) (cleared scratchLimit some-scratch)
   fire-call w t e = served (scratch-enough scratchLimit (length some-scratch) enough-scratch) (answered-none refl (then-next _ _ h ∙ ap verdictOf e) refl) refl
 
   chain-calls : (w y : Walker) (σ : List ℕ) → Chain (petriNet net) sheet w σ y → Firings net sheet w σ y
   chain-calls w y σ (stays x) = none-fired x
-  chain-calls w y σ (goes x z t τ e c) = one-fired x (follows N sheet x t) z t τ some-scratch _ (fire-call x t e) (chain-calls (follows N sheet x t) z τ c)
+  chain-calls w y σ (goes x z t τ e c) = one-fired x (follows N sheet x t) z t _ τ some-scratch _ (fire-call x t e) (chain-calls (follows N sheet x t) z τ c)
 
-  calls-chain : (w y : Walker) (σ : List ℕ) → Firings net sheet w σ y → Chain (petriNet net) sheet w σ y
+  pub calls-chain : (w y : Walker) (σ : List ℕ) → Firings net sheet w σ y → Chain (petriNet net) sheet w σ y
   calls-chain w y σ (none-fired x) = stays x
-  calls-chain w y σ (one-fired x n z t τ s s′ d c) =
+  calls-chain w y σ (one-fired x n z t i τ s s′ d c) =
       let f = done-zero (fire-law net sheet x t) d refl in
       let e = answer-none _ (then-accepted (scheduleReply net sheet) _ (f .passed) .1) in
-      let q : n ≡ follows N sheet x t = ap (λ (a : Verdict × Walker). a .1) (f .reply) in
+      let q : n ≡ follows N sheet x t = ap (λ (a : FireAnswer × Walker). a .1) (f .reply) in
       goes x z t τ e (subst (λ (u : Walker). Chain N sheet u τ z) q (calls-chain n z τ c))
 
   module _ (firings out s out′ s′ : List ℕ) (a : RunAnswer) (w : Walker) (d : RunDone net sheet firings out s a out′ s′) (k : Kept net sheet h w 0) where
@@ -140,12 +142,13 @@ fresh-fires net sheet v w t h f o =
     let n : w .node ≡ 0 = sym (ap (λ (x : Walker). x .node) q) ∙ fresh-node net sheet r in
     (p .node, ((λ i l. (p .holds i l, tt)), (rw n o, tt)))
 
+pub fresh-kept : (net sheet : List ℕ) (r : scheduleReply net sheet ≡ verdict.Accepted) (v : Verdict) (w : Walker) → FreshDone net v w → Kept net sheet r w 0
+fresh-kept net sheet r v w f =
+    subst (λ (x : Walker). Kept net sheet r x 0) (sym (f .made ∙ ap (λ (x : Verdict). freshWalker x net) (f .reply)))
+    (record { passes = fresh-passes net sheet r; node = fresh-node net sheet r; counts = fresh-length net sheet r })
+
 pub run-folds : RunFolds
-run-folds net sheet firings out s out′ s′ a v w h d f =
-    let r = accepted-reply net sheet h in
-    folds net sheet r firings out s out′ s′ a w d
-    (subst (λ (x : Walker). Kept net sheet r x 0) (sym (f .made ∙ ap (λ (x : Verdict). freshWalker x net) (f .reply)))
-    (record { passes = fresh-passes net sheet r; node = fresh-node net sheet r; counts = fresh-length net sheet r }))
+run-folds net sheet firings out s out′ s′ a v w h d f = let r = accepted-reply net sheet h in folds net sheet r firings out s out′ s′ a w d (fresh-kept net sheet r v w f)
 
 -- ---- words and graphs
 

@@ -5,5 +5,6 @@ pub mod Demand3
 pub mod Further
 pub mod BesideRun
 pub mod Replay
+pub mod Entries
 pub mod Examples
 pub mod Nine

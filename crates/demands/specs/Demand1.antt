@@ -16,7 +16,7 @@ use Rattle.call.specs.Demands.{number, ByChecks, EveryCall}
 use Rattle.schedule.specs.Walker.{walkerChecks, runChecks}
 use Rattle.refusal.specs.Limits.{scratchLimit, mostPlaces}
 use Rattle.schedule.specs.Calls.{CheckDone, BoundsDone, FreshDone, FireDone, RunDone}
-use Rattle.schedule.specs.Plain.{plainRun}
+use Rattle.schedule.specs.Plain.{plainFire, plainRun}
 use Rattle.schedule.specs.declared.Walker.{Walker}
 use Rattle.minimal.specs.Form.{plainForm, FormDone}
 use Rattle.demands.specs.Terms.{allChecks}
@@ -36,9 +36,9 @@ pub record Demand1 : Type 0 where
   pub place-bounds : (net sheet out : List ℕ)
       → EveryCall scratchLimit plainOf 0 (allChecks net sheet (once (petriNet net .places ≤ length out) 22 ∷ [])) out (BoundsDone net sheet out)
   pub fire : (net sheet : List ℕ) (w : Walker) (t : ℕ)
-      → EveryCall scratchLimit plainOf 0 (allChecks net sheet (walkerChecks (petriNet net) sheet w t)) w (λ s v next s′. FireDone net sheet s w t v next s′)
+      → EveryCall scratchLimit plainFire 1 (allChecks net sheet (walkerChecks (petriNet net) sheet w t)) w (λ s a next s′. FireDone net sheet s w t a next s′)
   pub run : (net sheet firings out : List ℕ)
-      → EveryCall scratchLimit plainRun 2 (allChecks net sheet (runChecks (petriNet net) sheet firings ++ (once (petriNet net .places ≤ length out) 22 ∷ []))) out (RunDone net sheet firings out)
+      → EveryCall scratchLimit plainRun 3 (allChecks net sheet (runChecks (petriNet net) sheet firings ++ (once (petriNet net .places ≤ length out) 22 ∷ []))) out (RunDone net sheet firings out)
   -- how many words the minimal form needs is said by demand 3 (§11.7)
   pub minimal-form : (net sheet : List ℕ) → (needed : ℕ)
       × ((out : List ℕ) → EveryCall scratchLimit plainForm 1 (allChecks net sheet (once (needed ≤ length out) 22 ∷ [])) out (FormDone net sheet out))

@@ -24,8 +24,9 @@ use Rattle.call.specs.Demands.{number, own, ByChecks}
 use Rattle.schedule.specs.Walker.{Stands, walkerChecks}
 use Rattle.refusal.specs.Limits.{scratchLimit}
 use Rattle.schedule.specs.Calls.{CheckDone, BoundsDone, FreshDone, FireDone, RunDone}
-use Rattle.schedule.specs.Plain.{plainRun}
+use Rattle.schedule.specs.Plain.{plainFire, plainRun}
 use Rattle.schedule.specs.declared.Walker.{Walker}
+use Rattle.schedule.specs.declared.FireAnswer.{FireAnswer}
 use Rattle.schedule.specs.declared.RunAnswer.{RunAnswer}
 use Rattle.demands.specs.Terms.{said, allChecks, Accepted}
 
@@ -76,7 +77,7 @@ pub record Demand2 : Type 0 where
       → Counted (petriNet net) (said net sheet) (own (plainCheck a) 0) (own (plainCheck a) 1) (own (plainCheck a) 2)
   -- what is fired, from a fresh walker on: §10.6 to §10.8
   pub fresh : (net : List ℕ) (v : Verdict) (w : Walker) → FreshDone net v w → number (plainOf v) ≡ 0 → Stands (petriNet net) w 0 (petriNet net .start)
-  pub fires : (net sheet s s′ : List ℕ) (w next : Walker) (t : ℕ) (v : Verdict) → FireDone net sheet s w t v next s′ → number (plainOf v) ≡ 0
+  pub fires : (net sheet s s′ : List ℕ) (w next : Walker) (t : ℕ) (a : FireAnswer) → FireDone net sheet s w t a next s′ → number (plainFire a) ≡ 0
       → FiresRight (petriNet net) sheet (said net sheet) w t next
   pub runs : (net sheet firings out s out′ s′ : List ℕ) (a : RunAnswer) → RunDone net sheet firings out s a out′ s′ → number (plainRun a) ≡ 0
       → RanAll (petriNet net) (said net sheet) firings out (own (plainRun a) 0) (own (plainRun a) 1) out′

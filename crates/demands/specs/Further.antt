@@ -8,7 +8,6 @@ use lib.ListN.{length, getD}
 use Rattle.automaton.specs.Automaton.{Automaton, allows, SameLists}
 use Rattle.refusal.specs.Checks.{AllPass}
 use Rattle.refusal.specs.declared.Verdict.{Verdict}
-use Rattle.refusal.specs.declared.Verdict.the-variants as verdict
 use Rattle.net.specs.Checks.{IsNet}
 use Rattle.sequential.specs.Petri.{PetriNet, petriNet, Source, SameChoice}
 use Rattle.sequential.specs.Words.{graph}
@@ -21,6 +20,7 @@ use Rattle.schedule.specs.Calls.{FreshDone, FireDone, RunDone}
 use Rattle.schedule.specs.Walker.{walkerChecks}
 use Rattle.schedule.specs.Plain.{plainRun}
 use Rattle.schedule.specs.declared.Walker.{Walker}
+use Rattle.schedule.specs.declared.FireAnswer.the-variants.{Done}
 use Rattle.schedule.specs.declared.RunAnswer.{RunAnswer}
 use Rattle.encoding.specs.Encoding.{encode, Encodable}
 use Rattle.minimal.specs.Minimal.{Fewest}
@@ -58,7 +58,7 @@ FreshPasses = (net sheet : List ℕ) (v : Verdict) (w : Walker) (t : ℕ) → Ac
 -- calls of the single firing, each accepted, each with the walker that the one before handed back
 pub data Firings (net sheet : List ℕ) : Walker → List ℕ → Walker → Type 0 where
   none-fired : (w : Walker) → Firings net sheet w [] w
-  one-fired : (w x y : Walker) (t : ℕ) (σ s s′ : List ℕ) → FireDone net sheet s w t verdict.Accepted x s′ → Firings net sheet x σ y → Firings net sheet w (t ∷ σ) y
+  one-fired : (w x y : Walker) (t e : ℕ) (σ s s′ : List ℕ) → FireDone net sheet s w t (Done e) x s′ → Firings net sheet x σ y → Firings net sheet w (t ∷ σ) y
 
 -- from a fresh walker: a run answers 0 exactly where they do, and ends where they end, with the counts that they hand back
 pub record Folds (net sheet firings out s : List ℕ) (a : RunAnswer) (out′ : List ℕ) (w : Walker) : Type 0 where

@@ -4,4 +4,5 @@ pub mod Demand2
 pub mod Demand3
 pub mod Further
 pub mod Replay
+pub mod Entries
 pub mod Examples

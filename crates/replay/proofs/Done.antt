@@ -4,7 +4,6 @@ use mathlib.Core.Path.{_≡_, refl, sym, ap, _∙_}
 use mathlib.Core.List.{List, [], _∷_, _++_}
 use mathlib.Core.Option.{none}
 use lib.ListN.{length}
-use Rattle.scan.specs.Scan.{first}
 use Rattle.scan.proofs.First.{orElse-next}
 use Rattle.scan.proofs.Tabulate.{tabulate-length}
 use Rattle.refusal.specs.Verdict.{verdictOf}
@@ -22,10 +21,14 @@ use Rattle.sequential.proofs.Accepted.{schedule-judged}
 use Rattle.call.specs.Call.{roomFault}
 use Rattle.call.proofs.Laws.{refused-first, refused-second, answered-two}
 use Rattle.call.proofs.Judged.{Lawful}
-use Rattle.replay.specs.Log.{firingCount, moved}
+use Rattle.call.specs.Index.{plainIndex}
+use Rattle.call.specs.declared.Index.{Index}
+use Rattle.schedule.specs.Firing.{lastEntry}
+use Rattle.schedule.proofs.Walks.{refused-accepted}
+use Rattle.replay.specs.Log.{firings, moved}
 use Rattle.replay.specs.Checks.{replayChecks}
-use Rattle.replay.specs.Tests.{logFault, firingFault}
-use Rattle.replay.specs.Calls.{replayVerdict, totalsOf, takenRow, putRow, replayCore, ReplayWritten}
+use Rattle.replay.specs.Tests.{logFault}
+use Rattle.replay.specs.Calls.{replayVerdict, totalsOf, takenRow, putRow, replayCore, ReplayWritten, LogFollowed, LogChecked}
 use Rattle.replay.specs.Plain.{plainReplay}
 use Rattle.replay.specs.Tally.{Settled}
 use Rattle.replay.specs.declared.Totals.{Totals}
@@ -34,19 +37,25 @@ use Rattle.replay.proofs.Logs.{replay-tells, replay-fault}
 
 -- ---- what is found before the buffers are measured
 
-module _ (net sheet log : List ℕ) {v : Verdict} where
-  pub sheet-refused : {r : Refusal} → v ≡ scheduleReply net sheet → v ≡ Refused r → v ≡ replayVerdict net sheet log
+module _ (net sheet log : List ℕ) {v : Verdict} {x : Index} where
+  pub sheet-refused : {r : Refusal} → v ≡ scheduleReply net sheet → v ≡ Refused r → LogChecked net sheet log v x
   unfolding replayVerdict
-  sheet-refused e h = e ∙ sym (then-refused (scheduleReply net sheet) _ _ (sym e ∙ h))
+  sheet-refused e h = record { reply = e ∙ sym (then-refused (scheduleReply net sheet) _ _ (sym e ∙ h)); entry = λ a. refused-accepted _ _ h a }
 
   module _ (a : scheduleReply net sheet ≡ Accepted) where
-    pub log-refused : {r : Refusal} → v ≡ verdictOf (logFault log) → v ≡ Refused r → v ≡ replayVerdict net sheet log
+    pub log-refused : {r : Refusal} → v ≡ verdictOf (logFault log) → v ≡ Refused r → LogChecked net sheet log v x
     unfolding replayVerdict
-    log-refused e h = answer-left (logFault log) _ v _ e h ∙ ap verdictOf (sym (replay-fault (petriNet net) sheet log)) ∙ sym (then-next _ _ a)
+    log-refused e h = record {
+      reply = answer-left (logFault log) _ v _ e h ∙ ap verdictOf (sym (replay-fault (petriNet net) sheet log)) ∙ sym (then-next _ _ a);
+      entry = λ b. refused-accepted _ _ h b;
+    }
 
-    pub firings-judged : logFault log ≡ none → v ≡ verdictOf (first (firingFault (petriNet net) sheet log) (firingCount log)) → v ≡ replayVerdict net sheet log
+    pub firings-judged : logFault log ≡ none → LogFollowed (petriNet net) sheet log v x → LogChecked net sheet log v x
     unfolding replayVerdict
-    firings-judged n e = e ∙ ap verdictOf (sym (replay-fault (petriNet net) sheet log ∙ orElse-next _ _ n)) ∙ sym (then-next _ _ a)
+    firings-judged n f = record {
+      reply = f .reply ∙ ap verdictOf (sym (replay-fault (petriNet net) sheet log ∙ orElse-next _ _ n)) ∙ sym (then-next _ _ a);
+      entry = f .entry;
+    }
 
 -- ---- the buffers: a row has room where P numbers have
 
@@ -65,16 +74,18 @@ module _ (net sheet log taken put : List ℕ) (ok : replayVerdict net sheet log 
   pub put-short : {v : Verdict} {r : Refusal} → v ≡ roomFault (length put) n → v ≡ Refused r → ReplayWritten net sheet log taken put (Stopped r) taken put
   put-short h k = refused-second refl ok (put-room h k) refl
 
-  pub all-written : {v w : Verdict} {r : Totals} {taken′ put′ : List ℕ} → v ≡ roomFault (length taken) n → v ≡ Accepted → w ≡ roomFault (length put) n → w ≡ Accepted
-      → Settled net log taken put r taken′ put′ → ReplayWritten net sheet log taken put (Done r) taken′ put′
+  pub all-written : {v w : Verdict} {r : Totals} {x : Index} {taken′ put′ : List ℕ} → x ≡ lastEntry (petriNet net) sheet (firings log)
+      → v ≡ roomFault (length taken) n → v ≡ Accepted → w ≡ roomFault (length put) n → w ≡ Accepted
+      → Settled net log taken put r taken′ put′ → ReplayWritten net sheet log taken put (Done (record { totals = r; entry = x })) taken′ put′
   unfolding takenRow putRow
-  all-written h k i j s =
-      answered-two refl ok (unfold takenRow in (taken-room h k)) (unfold putRow in (put-room i j)) (ap Done (s .all))
+  all-written q h k i j s =
+      answered-two refl ok (unfold takenRow in (taken-room h k)) (unfold putRow in (put-room i j)) (rw (s .all, q))
       (s .taken-written ∙ rw (tabulate-length (moved (petriNet net .taken) log) (placeCount net))) (s .put-written ∙ rw (tabulate-length (moved (petriNet net .put) log) (placeCount net)))
 
 -- ---- what the call shows of its core
 
-pub replay-law : (net sheet log : List ℕ) → Lawful (replayCore net sheet log) plainReplay 2 (totalsOf (petriNet net) log .taken ∷ totalsOf (petriNet net) log .put ∷ [])
+pub replay-law : (net sheet log : List ℕ) → Lawful (replayCore net sheet log) plainReplay 3
+    (totalsOf (petriNet net) log .taken ∷ totalsOf (petriNet net) log .put ∷ plainIndex (lastEntry (petriNet net) sheet (firings log)) ∷ [])
     ((netChecks net ++ sheetChecks (petriNet net) sheet) ++ replayChecks (petriNet net) sheet log)
 unfolding replayVerdict
 replay-law net sheet log = record {

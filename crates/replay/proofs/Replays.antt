@@ -3,23 +3,28 @@ use Prim.Native.Nat.{ℕ, zero, suc, _+_, _-_, _≤_, _<_}
 use native.Mathlib.Omega.{arith}
 use mathlib.Core.Path.{_≡_, sym, ap, _∙_}
 use mathlib.Core.List.{List}
-use mathlib.Core.Option.{some}
+use mathlib.Core.Option.{none, some}
 use lib.ListN.{getD}
 use Rattle.scan.specs.Scan.{sum}
-use Rattle.scan.proofs.Tabulate.{tabulate-at}
-use Rattle.automaton.proofs.Automaton.{same-target, arc-transition, follow-lands}
+use Rattle.scan.proofs.Tabulate.{tabulate-at, take-tabulate}
+use Rattle.automaton.specs.Automaton.{follow}
+use Rattle.automaton.proofs.Automaton.{same-target, arc-transition, follow-lands, follow-allows}
 use Rattle.refusal.specs.Checks.{AllPass}
 use Rattle.refusal.specs.declared.Verdict.the-variants.{Accepted}
 use Rattle.refusal.proofs.Verdicts.{answer-none, then-accepted}
 use Rattle.sequential.specs.Petri.{petriNet, initial, firedCount, fire}
-use Rattle.sequential.specs.Words.{nodeCount, arc, marking, graph}
+use Rattle.sequential.specs.Words.{nodeCount, entryValue, arcEntry, arc, marking, graph}
 use Rattle.sequential.specs.Check.{scheduleReply}
 use Rattle.sequential.proofs.Accepted.{accepts, closed}
-use Rattle.replay.specs.Log.{firingCount, firedAt, loggedAt, firingsTo, movedBy, moved}
+use Rattle.call.specs.declared.Index.the-variants.{Known}
+use Rattle.schedule.specs.Firing.{nodeAfter, lastEntry, runFault}
+use Rattle.schedule.proofs.Following.{run-allowed, run-leads, last-firing}
+use Rattle.replay.specs.Log.{firingCount, firedAt, loggedAt, firingsTo, firings, movedBy, moved}
 use Rattle.replay.specs.Checks.{leads, NodeReached, replayChecks}
 use Rattle.replay.specs.Calls.{replayVerdict}
 use Rattle.replay.specs.Tally.{LogHolds, Countable}
 use Rattle.replay.proofs.Logs.{replay-tells, leads-none, leads-next}
+use Rattle.replay.proofs.Following.{firings-long, firings-at}
 
 -- where the firing at index i is made: at node 0, or at the node logged before it
 stoodAt : List ℕ → ℕ → ℕ
@@ -52,6 +57,32 @@ module _ (net sheet log : List ℕ) (ok : replayVerdict net sheet log ≡ Accept
 
   pub passed-ends : (n : ℕ) × (leads (petriNet net) sheet log (firingCount log) ≡ some n)
   passed-ends = (stoodAt log (firingCount log), stands (firingCount log) (omega arith))
+
+  pub passed-run : runFault (petriNet net) sheet (firings log) ≡ none
+  passed-run = let (n, e) = passed-ends in run-allowed (petriNet net) sheet (firings log) .1 (follow-allows (graph (petriNet net) sheet) 0 n (firings log) e)
+
+  -- the last firing: the node where it is made, the entry of its arc, and where that leads
+  pub record LastOfLog (i n k : ℕ) : Type 0 where
+    pub before : leads (petriNet net) sheet log i ≡ some n
+    pub entry : arcEntry (petriNet net) sheet n (firedAt log i) ≡ some k
+    pub named : lastEntry (petriNet net) sheet (firings log) ≡ Known k
+    pub lands : entryValue sheet k ≡ loggedAt log i
+
+  pub last-of-log : (i : ℕ) → firingCount log ≡ suc i → (n : ℕ) × (k : ℕ) × LastOfLog i n k
+  unfolding firingsTo
+  last-of-log i l =
+      let N = petriNet net in
+      let (k, f) = last-firing N sheet (firings log) passed-run i (firings-long log ∙ l) in
+      let end = ap (λ (m : ℕ). leads N sheet log m) l ∙ passed-node i (omega arith) in (
+        nodeAfter N sheet (firings log) i,
+        k,
+        record {
+          before = ap (follow (graph N sheet) 0) (sym (take-tabulate (firedAt log) i (firingCount log) (omega arith))) ∙ f .before;
+          entry = ap (arcEntry N sheet (nodeAfter N sheet (firings log) i)) (sym (firings-at log i (omega arith))) ∙ f .entry;
+          named = f .named;
+          lands = f .lands ∙ same-target _ _ _ (run-leads N sheet (firings log) passed-run) end;
+        },
+      )
 
   pub countable : Countable net log
   countable = record {

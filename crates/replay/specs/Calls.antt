@@ -1,15 +1,19 @@
 -- The replay of a log (§10.11): what it makes of its words, and its postcondition. What is true of every call is said in the crate `call`.
 use Prim.Native.Nat.{ℕ}
+use mathlib.Core.Path.{_≡_}
 use mathlib.Core.List.{List, [], _∷_}
-use Rattle.scan.specs.Scan.{sum, tabulate}
+use Rattle.scan.specs.Scan.{first, sum, tabulate}
 use Rattle.refusal.specs.Limits.{scratchLimit}
 use Rattle.refusal.specs.Verdict.{verdictOf, andThen}
 use Rattle.refusal.specs.declared.Verdict.{Verdict}
+use Rattle.refusal.specs.declared.Verdict.the-variants.{Accepted}
 use Rattle.sequential.specs.Petri.{PetriNet, petriNet}
 use Rattle.sequential.specs.Check.{scheduleReply}
 use Rattle.call.specs.Call.{Core, WordsDone, CallDone}
-use Rattle.replay.specs.Log.{moved}
-use Rattle.replay.specs.Tests.{replayFault}
+use Rattle.call.specs.declared.Index.{Index}
+use Rattle.schedule.specs.Firing.{lastEntry}
+use Rattle.replay.specs.Log.{firingCount, firings, moved}
+use Rattle.replay.specs.Tests.{firingFault, replayFault}
 use Rattle.replay.specs.declared.Totals.{Totals}
 use Rattle.replay.specs.declared.ReplayAnswer.{ReplayAnswer}
 use Rattle.replay.specs.declared.ReplayAnswer.the-variants.{Done, Stopped}
@@ -29,10 +33,11 @@ takenRow N log = tabulate (moved (N .taken) log) (N .places)
 unfoldable pub putRow : PetriNet → List ℕ → List ℕ
 putRow N log = tabulate (moved (N .put) log) (N .places)
 
+-- the entry is that of the run of the log's transitions: §10.13
 abbrev pub replayCore : List ℕ → List ℕ → List ℕ → Core ReplayAnswer
 replayCore net sheet log = record {
   verdict = replayVerdict net sheet log;
-  accepted = Done (totalsOf (petriNet net) log);
+  accepted = Done (record { totals = totalsOf (petriNet net) log; entry = lastEntry (petriNet net) sheet (firings log) });
   refused = Stopped;
   results = takenRow (petriNet net) log ∷ putRow (petriNet net) log ∷ [];
 }
@@ -44,3 +49,13 @@ ReplayWritten net sheet log taken put r taken′ put′ = WordsDone (replayCore 
 abbrev pub ReplayDone : List ℕ → List ℕ → List ℕ → List ℕ → List ℕ → List ℕ → ReplayAnswer → List ℕ → List ℕ → List ℕ → Type 0
 ReplayDone net sheet log taken put scratch r taken′ put′ scratch′ =
     CallDone scratchLimit (replayCore net sheet log) (taken ∷ put ∷ []) scratch r (taken′ ∷ put′ ∷ []) scratch′
+
+-- ---- what following the firings finds, and all checks: a fault, or the entry of the last arc where there is none
+
+pub record LogFollowed (N : PetriNet) (sheet log : List ℕ) (r : Verdict) (e : Index) : Type 0 where
+  pub reply : r ≡ verdictOf (first (firingFault N sheet log) (firingCount log))
+  pub entry : r ≡ Accepted → e ≡ lastEntry N sheet (firings log)
+
+pub record LogChecked (net sheet log : List ℕ) (r : Verdict) (e : Index) : Type 0 where
+  pub reply : r ≡ replayVerdict net sheet log
+  pub entry : r ≡ Accepted → e ≡ lastEntry (petriNet net) sheet (firings log)

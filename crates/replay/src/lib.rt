@@ -6,7 +6,9 @@ ghost use mathlib.Core.Path.{_≡_};
 ghost use Rattle.refusal.specs.Verdict.{verdictOf};
 ghost use Rattle.replay.specs.Tests.{logFault};
 ghost use Rattle.replay.specs.Plain.{plainReplay};
-ghost use Rattle.replay.specs.Calls.{replayVerdict, ReplayWritten, ReplayDone};
+ghost use Rattle.replay.specs.Calls.{LogChecked, ReplayWritten, ReplayDone};
+use call::Index;
+use follow::Findings;
 use refusal::Limits;
 use refusal::Position;
 use refusal::Refusal;
@@ -18,21 +20,38 @@ pub struct Totals {
     pub put: u64,
 }
 
+// The totals, and the entry of the last arc: §10.13.
+pub struct Outcome {
+    pub totals: Totals,
+    pub entry: Index,
+}
+
 pub enum ReplayAnswer {
-    Done(Totals),
+    Done(Outcome),
     Stopped(Refusal),
 }
 
 impl ReplayAnswer {
     // Its plain numbers: §8.1.
-    pub fn plain(self) -> [u64; 5]
+    pub fn plain(self) -> [u64; 6]
         ensures { λ r. ⌜ r ≡ plainReplay self ⌝ }
     {
         match self {
-            ReplayAnswer::Done(totals) => [0u64, 0, 0, totals.taken, totals.put],
+            ReplayAnswer::Done(outcome) => {
+                let totals = outcome.totals;
+                let entry = outcome.entry;
+                [0u64, 0, 0, totals.taken, totals.put, entry.plain() as u64]
+            }
             ReplayAnswer::Stopped(r) => {
                 let at = r.at;
-                [r.number as u64, at.kind() as u64, at.index() as u64, 0, 0]
+                [
+                    r.number as u64,
+                    at.kind() as u64,
+                    at.index() as u64,
+                    0,
+                    0,
+                    0,
+                ]
             }
         }
     }
@@ -56,16 +75,22 @@ fn log_fault(log: &[u32]) -> Verdict
 }
 
 // Refusals 1 to 17, 23, 20 and 24.
-fn checked(net: &[u32], sheet: &[u32], log: &[u32]) -> Verdict
-    ensures { λ r. ⌜ r ≡ replayVerdict (now (net .entry)) (now (sheet .entry)) (now (log .entry)) ⌝ }
+fn checked(net: &[u32], sheet: &[u32], log: &[u32]) -> Findings
+    ensures { λ r. ⌜ LogChecked (now (net .entry)) (now (sheet .entry)) (now (log .entry)) (r .verdict) (r .entry) ⌝ }
 {
     let found = judge::verdict(net, sheet);
     if let Verdict::Refused(_) = found {
-        return found;
+        return Findings {
+            verdict: found,
+            entry: Index::Missing,
+        };
     }
     let found = log_fault(log);
     if let Verdict::Refused(_) = found {
-        return found;
+        return Findings {
+            verdict: found,
+            entry: Index::Missing,
+        };
     }
     follow::followed(net, sheet, log)
 }
@@ -80,7 +105,9 @@ pub fn replay_into(
 ) -> ReplayAnswer
     ensures { λ r. ⌜ ReplayWritten (now (net .entry)) (now (sheet .entry)) (now (log .entry)) (now (taken .entry)) (now (put .entry)) r (now (taken .exit)) (now (put .exit)) ⌝ }
 {
-    let found = checked(net, sheet, log);
+    let checked = checked(net, sheet, log);
+    let entry = checked.entry;
+    let found = checked.verdict;
     if let Verdict::Refused(r) = found {
         return ReplayAnswer::Stopped(r);
     }
@@ -93,7 +120,8 @@ pub fn replay_into(
     if let Verdict::Refused(r) = found {
         return ReplayAnswer::Stopped(r);
     }
-    ReplayAnswer::Done(tally::settle(net, log, taken, put))
+    let totals = tally::settle(net, log, taken, put);
+    ReplayAnswer::Done(Outcome { totals, entry })
 }
 
 // The replay of a log: §10.11.

@@ -18,9 +18,11 @@ use Rattle.call.specs.Call.{WordsDone}
 use Rattle.call.proofs.Laws.{refused-words, answered-none}
 use Rattle.call.proofs.Judged.{Lawful}
 use Rattle.schedule.specs.Walker.{walkerChecks, runChecks}
-use Rattle.schedule.specs.Firing.{nodeAfter}
+use Rattle.call.specs.Index.{plainIndex}
+use Rattle.call.specs.declared.Index.the-variants.{Known}
+use Rattle.schedule.specs.Firing.{entryFired, nodeAfter, lastEntry}
 use Rattle.schedule.specs.Calls.{checkCore, boundsCore, fireCore, runCore}
-use Rattle.schedule.specs.Plain.{plainRun}
+use Rattle.schedule.specs.Plain.{plainFire, plainRun}
 use Rattle.schedule.specs.declared.Walker.{Walker}
 use Rattle.schedule.proofs.Walkers.{step-tells}
 use Rattle.schedule.proofs.Following.{run-tells}
@@ -43,7 +45,8 @@ module _ (net sheet : List ℕ) where
   pub bounds-law : Lawful (boundsCore net sheet) plainOf 0 [] (netChecks net ++ sheetChecks (petriNet net) sheet)
   bounds-law = record { judged = schedule-judged net sheet; proper = refl; plain-accepted = refl; own-length = refl; plain-refused = λ r. refl }
 
-  pub fire-law : (w : Walker) (t : ℕ) → Lawful (fireCore net sheet w t) (λ a. plainOf (a .0)) 0 [] ((netChecks net ++ sheetChecks (petriNet net) sheet) ++ walkerChecks (petriNet net) sheet w t)
+  pub fire-law : (w : Walker) (t : ℕ) → Lawful (fireCore net sheet w t) (λ a. plainFire (a .0)) 1 (plainIndex (Known (entryFired (petriNet net) sheet w t)) ∷ [])
+      ((netChecks net ++ sheetChecks (petriNet net) sheet) ++ walkerChecks (petriNet net) sheet w t)
   fire-law w t = record {
     judged = judges-then _ _ (netChecks net ++ sheetChecks (petriNet net) sheet) _ (schedule-judged net sheet) (λ p. judges-found _ _ (step-tells (petriNet net) sheet w t));
     proper = refl;
@@ -52,7 +55,9 @@ module _ (net sheet : List ℕ) where
     plain-refused = λ r. refl;
   }
 
-  pub run-law : (firings : List ℕ) → Lawful (runCore net sheet firings) plainRun 2 (length firings ∷ nodeAfter (petriNet net) sheet firings (length firings) ∷ []) ((netChecks net ++ sheetChecks (petriNet net) sheet) ++ runChecks (petriNet net) sheet firings)
+  pub run-law : (firings : List ℕ) → Lawful (runCore net sheet firings) plainRun 3
+      (length firings ∷ nodeAfter (petriNet net) sheet firings (length firings) ∷ plainIndex (lastEntry (petriNet net) sheet firings) ∷ [])
+      ((netChecks net ++ sheetChecks (petriNet net) sheet) ++ runChecks (petriNet net) sheet firings)
   run-law firings = record {
     judged = judges-then _ _ (netChecks net ++ sheetChecks (petriNet net) sheet) _ (schedule-judged net sheet) (λ p. judges-found _ _ (run-tells (petriNet net) sheet firings));
     proper = refl;

@@ -20,14 +20,17 @@ use Rattle.refusal.specs.declared.Refusal.{Refusal}
 use Rattle.refusal.specs.declared.Verdict.the-variants.{Accepted}
 use Rattle.refusal.proofs.Checks.{says-when, Tells}
 use Rattle.sequential.specs.Petri.{PetriNet, petriNet, initial, firedCount, fire, fireAll}
-use Rattle.sequential.specs.Words.{nodeCount, arc, marking, graph}
+use Rattle.sequential.specs.Words.{nodeCount, entryValue, arcEntry, arc, marking, graph}
 use Rattle.sequential.specs.Schedule.{Offers}
 use Rattle.sequential.specs.Check.{scheduleReply}
 use Rattle.sequential.proofs.Accepted.{accepts, closed}
 use Rattle.sequential.proofs.Runs.{from-root}
 use Rattle.schedule.specs.Walker.{runChecks}
-use Rattle.schedule.specs.Firing.{nodeAfter, firingFault, runFault, endCounts}
+use Rattle.call.specs.Index.{indexFrom}
+use Rattle.call.specs.declared.Index.the-variants.{Known}
+use Rattle.schedule.specs.Firing.{nodeAfter, entryAfter, lastEntry, firingFault, runFault, endCounts}
 use Rattle.schedule.proofs.Walkers.{offered↔}
+use Rattle.schedule.proofs.Walks.{entry-at}
 
 module _ (N : PetriNet) (sheet firings : List ℕ) where
   -- a firing passes exactly where its node offers it
@@ -60,6 +63,28 @@ module _ (N : PetriNet) (sheet firings : List ℕ) where
   pub run-leads : runFault N sheet firings ≡ none → follow (graph N sheet) 0 firings ≡ some (nodeAfter N sheet firings (length firings))
   unfolding runFault
   run-leads h = ap (follow (graph N sheet) 0) (sym (take-length firings)) ∙ leads (length firings) (omega arith) (first-all _ _ h)
+
+  -- the last firing of a run that passes: the node where it is made, the entry of its arc, and where that leads
+  pub record LastFiring (i k : ℕ) : Type 0 where
+    pub before : follow (graph N sheet) 0 (take i firings) ≡ some (nodeAfter N sheet firings i)
+    pub entry : arcEntry N sheet (nodeAfter N sheet firings i) (getD firings i 0) ≡ some k
+    pub named : lastEntry N sheet firings ≡ Known k
+    pub lands : entryValue sheet k ≡ nodeAfter N sheet firings (length firings)
+
+  pub last-firing : runFault N sheet firings ≡ none → (i : ℕ) → length firings ≡ suc i → (k : ℕ) × LastFiring i k
+  unfolding runFault entryAfter
+  last-firing h i l =
+      let passes : (j : ℕ) → j < length firings → firingFault N sheet firings j ≡ none = first-all _ _ h in
+      let (m, a) = firing-none i .0 (passes i (omega arith)) in
+      let (k, e, v) = entry-at N sheet (nodeAfter N sheet firings i) (getD firings i 0) m a in (
+        k,
+        record {
+          before = leads i (omega arith) (λ j b. passes j (omega arith));
+          entry = e;
+          named = ap (λ (j : ℕ). indexFrom (entryAfter N sheet firings j)) l ∙ ap indexFrom e;
+          lands = v ∙ sym (node-next i m a) ∙ ap (nodeAfter N sheet firings) (sym l);
+        },
+      )
 
   -- the next firing, where those before it pass
   next-leads : (i : ℕ) → i < length firings → ((j : ℕ) → j < i → firingFault N sheet firings j ≡ none)

@@ -1,17 +1,20 @@
 -- Walks along the arcs: where an arc's entry leads, the faults of a walker, a single firing, and a list of firings from node 0.
-use Prim.Native.Nat.{ℕ, _+_, _≤_, _<_}
+use Prim.Native.Nat.{ℕ, _+_, _*_, _≤_, _<_}
 use native.Mathlib.Omega.{arith}
 use native.Mathlib.Numerals.{add-one}
 use native.Mathlib.Decide.{decLt}
 use mathlib.Core.Path.{_≡_, refl, sym, ap, _∙_}
 use mathlib.Core.List.{List, []}
-use mathlib.Core.Bool.{not}
-use mathlib.Core.Option.{none, some}
+use mathlib.Core.Bool.{not, _&&_}
+use mathlib.Core.Option.{Option, none, some, Option·map}
 use lib.ListN.{getD}
+use lib.Dec.{ltb}
 use borrow.Author.Tests.{le-leb, lt-leb, leb-false, eq-eqb, ne-eqb, eqb-true, not-false}
 use Rattle.scan.specs.Scan.{found, first, tabulate}
-use Rattle.scan.proofs.First.{orElse-left, orElse-right, orElse-next, orElse-hit, when-hit, when-miss, when-none, first-hit, first-all}
+use Rattle.scan.proofs.Tests.{byTest}
+use Rattle.scan.proofs.First.{none-some, orElse-left, orElse-right, orElse-next, orElse-hit, when-hit, when-miss, when-none, first-hit, first-all}
 use Rattle.scan.proofs.Tabulate.{tabulate-at, tabulate-ext}
+use Rattle.table.proofs.Table.{entry-some}
 use Rattle.net.specs.Net.{placeCount}
 use Rattle.refusal.specs.Refusal.{refusal}
 use Rattle.refusal.specs.declared.Position.the-variants.{Nothing, Place, Record}
@@ -20,7 +23,7 @@ use Rattle.refusal.specs.declared.Verdict.{Verdict}
 use Rattle.refusal.specs.declared.Verdict.the-variants.{Accepted, Refused}
 use Rattle.net.proofs.Laws.{put-no-place, sizes}
 use Rattle.sequential.specs.Petri.{PetriNet, petriNet, fire, firedCount}
-use Rattle.sequential.specs.Words.{nodeCount, entryValue, arcEntry, arc, countAt}
+use Rattle.sequential.specs.Words.{nodeCount, entryCount, entryKey, entryValue, entryWithKey, arcEntry, arc, countAt}
 use Rattle.sequential.specs.Check.{scheduleReply}
 use Rattle.sequential.specs.Known.{ArcsHold}
 use Rattle.graph.specs.Readable.{Readable}
@@ -30,11 +33,14 @@ use Rattle.judge.proofs.Judged.{accepted-readable}
 use Rattle.refusal.specs.Verdict.{verdictOf}
 use Rattle.refusal.proofs.Verdicts.{answer-some, then-next}
 use Rattle.call.specs.Call.{WordsDone}
+use Rattle.call.specs.Index.{indexFrom}
+use Rattle.call.specs.declared.Index.the-variants.{Known, Missing}
 use Rattle.call.proofs.Laws.{refused-words, answered-none}
 use Rattle.schedule.specs.Calls.{fireCore}
 use Rattle.schedule.specs.Walker.{walker}
-use Rattle.schedule.specs.Firing.{countFault, walkerFault, stepFault, follows, nodeAfter, firingFault}
+use Rattle.schedule.specs.Firing.{countFault, walkerFault, stepFault, follows, entryFired, nodeAfter, entryAfter, firingFault}
 use Rattle.schedule.specs.declared.Walker.{Walker}
+use Rattle.schedule.specs.declared.FireAnswer.the-variants.{Done, Stopped}
 use Rattle.sequential.proofs.Entries.{graph-closed, marking-at}
 use Rattle.sequential.proofs.Accepted.{accepts}
 use Rattle.schedule.proofs.Walkers.{count-past, step-fault}
@@ -56,6 +62,22 @@ module _ (N : PetriNet) (sheet : List ℕ) (n t : ℕ) where
 
   pub target-node : 0 < N .transitions → ArcsHold N sheet → n < nodeCount sheet → (i : ℕ) → arcEntry N sheet n t ≡ some i → entryValue sheet i < nodeCount sheet
   target-node T w l i e = graph-closed N sheet T w .lands n t (entryValue sheet i) l (entry-leads i e)
+
+  pub entry-at : (m : ℕ) → arc N sheet n t ≡ some m → (i : ℕ) × (arcEntry N sheet n t ≡ some i) × (entryValue sheet i ≡ m)
+  unfolding arc
+  entry-at m e = go (arcEntry N sheet n t) refl e
+    where
+      go : (o : Option ℕ) → arcEntry N sheet n t ≡ o → Option·map (entryValue sheet) o ≡ some m → (i : ℕ) × (arcEntry N sheet n t ≡ some i) × (entryValue sheet i ≡ m)
+      go none q e = none-some none m refl e
+      go (some i) q e = (i, q, cc)
+
+  -- its key; it is one of the entries, and those are few
+  pub entry-key : (i : ℕ) → arcEntry N sheet n t ≡ some i → (i < entryCount sheet) × (entryKey sheet i ≡ n * N .transitions + t)
+  unfolding arcEntry entryWithKey entryKey
+  entry-key i e = byTest (ltb n (nodeCount sheet) && ltb t (N .transitions)) (λ h. entry-some sheet 2 (entryCount sheet) _ i (rw h at e)) (λ h. none-some none i refl (rw h at e))
+
+  pub entry-fits : ArcsHold N sheet → (i : ℕ) → arcEntry N sheet n t ≡ some i → i < 4096
+  entry-fits w i e = omega (arith, entry-key i e .0, w .shape .few-entries)
 
 -- ---- 18 and 19
 
@@ -99,6 +121,10 @@ held-at net sheet r n l held e p k = ap (λ (x : List ℕ). getD x p 0) (e ∙ m
 
 -- ---- a single firing
 
+pub entry-fired : (N : PetriNet) (sheet : List ℕ) (w : Walker) (t i : ℕ) → arcEntry N sheet (w .node) t ≡ some i → entryFired N sheet w t ≡ i
+unfolding entryFired
+entry-fired N sheet w t i e = rw e
+
 module _ (N : PetriNet) (sheet : List ℕ) (w : Walker) (t : ℕ) (h : walkerFault N sheet w ≡ none) where
   pub step-refused : arcEntry N sheet (w .node) t ≡ none → stepFault N sheet w t ≡ some (refusal 20 Nothing)
   unfolding found
@@ -140,27 +166,25 @@ module _ (net sheet : List ℕ) (w : Walker) (t : ℕ) (a : scheduleReply net sh
 
 -- ---- a single firing without scratch
 
-pub refused-fired : {w : Walker} {v : Verdict} {r : Refusal} → v ≡ Refused r → _≡_ {A = Verdict × Walker} (v, w) (Refused r, w)
-refused-fired {w} e = ap (λ (x : Verdict). (x, w)) e
-
 module _ (net sheet : List ℕ) (w : Walker) (t : ℕ) (a : scheduleReply net sheet ≡ Accepted) where
-  step-refuses : (v : Verdict) (r : Refusal) → v ≡ Refused r → stepFault (petriNet net) sheet w t ≡ some r → WordsDone (fireCore net sheet w t) [] (v, w) []
-  step-refuses v r e f = refused-words (then-next _ _ a ∙ ap verdictOf f) (refused-fired e)
+  step-refuses : (r : Refusal) → stepFault (petriNet net) sheet w t ≡ some r → WordsDone (fireCore net sheet w t) [] (Stopped r, w) []
+  step-refuses r f = refused-words (then-next _ _ a ∙ ap verdictOf f) refl
 
-  pub walker-refused : (v : Verdict) (r : Refusal) → v ≡ verdictOf (walkerFault (petriNet net) sheet w) → v ≡ Refused r → WordsDone (fireCore net sheet w t) [] (v, w) []
-  walker-refused v r h e = step-refuses v r e (step-fault (petriNet net) sheet w t ∙ orElse-hit _ _ r (answer-some _ r (sym h ∙ e)))
+  pub walker-refused : (v : Verdict) (r : Refusal) → v ≡ verdictOf (walkerFault (petriNet net) sheet w) → v ≡ Refused r → WordsDone (fireCore net sheet w t) [] (Stopped r, w) []
+  walker-refused v r h e = step-refuses r (step-fault (petriNet net) sheet w t ∙ orElse-hit _ _ r (answer-some _ r (sym h ∙ e)))
 
   module _ (h : walkerFault (petriNet net) sheet w ≡ none) where
-    pub not-offered : (v : Verdict) → v ≡ Refused (refusal 20 Nothing) → arcEntry (petriNet net) sheet (w .node) t ≡ none → WordsDone (fireCore net sheet w t) [] (v, w) []
-    not-offered v e q = step-refuses v _ e (step-refused (petriNet net) sheet w t h q)
+    pub not-offered : arcEntry (petriNet net) sheet (w .node) t ≡ none → WordsDone (fireCore net sheet w t) [] (Stopped (refusal 20 Nothing), w) []
+    not-offered q = step-refuses _ (step-refused (petriNet net) sheet w t h q)
 
     pub follows-on : (i m : ℕ) (counts : List ℕ) → arcEntry (petriNet net) sheet (w .node) t ≡ some i → m ≡ entryValue sheet i
-        → counts ≡ markingRow net sheet m → WordsDone (fireCore net sheet w t) [] (Accepted, walker m counts) []
+        → counts ≡ markingRow net sheet m → WordsDone (fireCore net sheet w t) [] (Done i, walker m counts) []
     follows-on i m counts q e k =
         let r = accepted-readable net sheet a in
         let l = target-node (petriNet net) sheet (w .node) t (r .arcs .sizes .some-transition) (r .arcs .holds) (walker-node (petriNet net) sheet w h) i q in
         answered-none refl (then-next _ _ a ∙ ap verdictOf (step-goes (petriNet net) sheet w t h i q))
-        (ap (λ (x : Walker). (Accepted, x)) (rw (k, e) (ap (walker (entryValue sheet i)) (marking-right net sheet (r .arcs) _ l) ∙ step-lands net sheet w t a h i q)))
+        (rw (entry-fired (petriNet net) sheet w t i q) (ap (λ (x : Walker). (Done i, x))
+        (rw (k, e) (ap (walker (entryValue sheet i)) (marking-right net sheet (r .arcs) _ l) ∙ step-lands net sheet w t a h i q))))
 
 -- ---- a list of firings
 
@@ -169,10 +193,18 @@ module _ (N : PetriNet) (sheet firings : List ℕ) where
   unfolding nodeAfter
   after-none = refl
 
+  pub entry-none : Missing ≡ indexFrom (entryAfter N sheet firings 0)
+  unfolding entryAfter
+  entry-none = refl
+
   module _ (i n : ℕ) (e : n ≡ nodeAfter N sheet firings i) where
     pub after-more : (k : ℕ) → arcEntry N sheet n (getD firings i 0) ≡ some k → entryValue sheet k ≡ nodeAfter N sheet firings (i + 1)
     unfolding nodeAfter
     after-more k h = rw (add-one, ← e, entry-leads N sheet n (getD firings i 0) k h)
+
+    pub entry-more : (k : ℕ) → arcEntry N sheet n (getD firings i 0) ≡ some k → Known k ≡ indexFrom (entryAfter N sheet firings (i + 1))
+    unfolding entryAfter
+    entry-more k h = rw (add-one, ← e, h)
 
     pub firing-passes : (k : ℕ) → arcEntry N sheet n (getD firings i 0) ≡ some k → firingFault N sheet firings i ≡ none
     unfolding firingFault found

@@ -15,8 +15,10 @@ use Rattle.judge.specs.Answer.{countsOf}
 use Rattle.judge.specs.declared.CheckAnswer.{CheckAnswer}
 use Rattle.judge.specs.declared.CheckAnswer.the-variants.{Passed, Failed}
 use Rattle.call.specs.Call.{Core, WordsDone, CallDone}
-use Rattle.schedule.specs.Firing.{freshWalker, stepFault, follows, nodeAfter, runFault, endCounts}
+use Rattle.schedule.specs.Firing.{freshWalker, stepFault, follows, entryFired, nodeAfter, lastEntry, runFault, endCounts}
 use Rattle.schedule.specs.declared.Walker.{Walker}
+use Rattle.schedule.specs.declared.FireAnswer.{FireAnswer}
+use Rattle.schedule.specs.declared.FireAnswer.the-variants as fire
 use Rattle.schedule.specs.declared.RunAnswer.{RunAnswer}
 use Rattle.schedule.specs.declared.RunAnswer.the-variants.{Done, Stopped}
 
@@ -48,19 +50,19 @@ pub record FreshDone (net : List ℕ) (r : Verdict) (w : Walker) : Type 0 where
 
 -- ---- a single firing: §10.7
 
-abbrev pub fireCore : List ℕ → List ℕ → Walker → ℕ → Core (Verdict × Walker)
+abbrev pub fireCore : List ℕ → List ℕ → Walker → ℕ → Core (FireAnswer × Walker)
 fireCore net sheet w t = record {
   verdict = andThen (scheduleReply net sheet) (verdictOf (stepFault (petriNet net) sheet w t));
-  accepted = (Accepted, follows (petriNet net) sheet w t);
-  refused = λ r. (Refused r, w);
+  accepted = (fire.Done (entryFired (petriNet net) sheet w t), follows (petriNet net) sheet w t);
+  refused = λ r. (fire.Stopped r, w);
   results = [];
 }
 
 -- without scratch
-abbrev pub StepDone : List ℕ → List ℕ → Walker → ℕ → Verdict → Walker → Type 0
+abbrev pub StepDone : List ℕ → List ℕ → Walker → ℕ → FireAnswer → Walker → Type 0
 StepDone net sheet w t r next = WordsDone (fireCore net sheet w t) [] (r, next) []
 
-abbrev pub FireDone : List ℕ → List ℕ → List ℕ → Walker → ℕ → Verdict → Walker → List ℕ → Type 0
+abbrev pub FireDone : List ℕ → List ℕ → List ℕ → Walker → ℕ → FireAnswer → Walker → List ℕ → Type 0
 FireDone net sheet scratch w t r next scratch′ = CallDone scratchLimit (fireCore net sheet w t) [] scratch (r, next) [] scratch′
 
 -- ---- a run: §10.8
@@ -68,7 +70,7 @@ FireDone net sheet scratch w t r next scratch′ = CallDone scratchLimit (fireCo
 abbrev pub runCore : List ℕ → List ℕ → List ℕ → Core RunAnswer
 runCore net sheet firings = record {
   verdict = andThen (scheduleReply net sheet) (verdictOf (runFault (petriNet net) sheet firings));
-  accepted = Done (record { fired = length firings; node = nodeAfter (petriNet net) sheet firings (length firings) });
+  accepted = Done (record { fired = length firings; node = nodeAfter (petriNet net) sheet firings (length firings); entry = lastEntry (petriNet net) sheet firings });
   refused = Stopped;
   results = endCounts net firings ∷ [];
 }

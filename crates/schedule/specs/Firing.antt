@@ -3,7 +3,7 @@ use Prim.Native.Nat.{ℕ, zero, suc}
 use mathlib.Core.Path.{_≡_}
 use mathlib.Core.List.{List, [], _∷_, _++_}
 use mathlib.Core.Bool.{not}
-use mathlib.Core.Option.{Option}
+use mathlib.Core.Option.{Option, none}
 use lib.ListN.{length, getD, replicate}
 use lib.Dec.{leb, eqb}
 use Rattle.scan.specs.Scan.{when, found, first, tabulate, foundOr}
@@ -16,7 +16,9 @@ use Rattle.refusal.specs.declared.Refusal.{Refusal}
 use Rattle.refusal.specs.declared.Verdict.{Verdict}
 use Rattle.refusal.specs.declared.Verdict.the-variants.{Accepted, Refused}
 use Rattle.sequential.specs.Petri.{PetriNet, petriNet, initial, firedCount, fireAll}
-use Rattle.sequential.specs.Words.{nodeCount, arc, countAt}
+use Rattle.sequential.specs.Words.{nodeCount, arcEntry, arc, countAt}
+use Rattle.call.specs.Index.{indexFrom}
+use Rattle.call.specs.declared.Index.{Index}
 use Rattle.schedule.specs.Walker.{walker, standChecks, walkerChecks}
 use Rattle.schedule.specs.declared.Walker.{Walker}
 
@@ -51,6 +53,10 @@ module _ (N : PetriNet) (sheet : List ℕ) (w : Walker) where
   unfoldable pub follows : ℕ → Walker
   follows t = walker (foundOr (w .node) (λ m. m) (arc N sheet (w .node) t)) (tabulate (firedCount N (w .counts) t) mostPlaces)
 
+  -- the entry of the arc: §10.13
+  unfoldable pub entryFired : ℕ → ℕ
+  entryFired t = foundOr 0 (λ i. i) (arcEntry N sheet (w .node) t)
+
 -- ---- a run: §10.8
 
 module _ (N : PetriNet) (sheet firings : List ℕ) where
@@ -58,6 +64,14 @@ module _ (N : PetriNet) (sheet firings : List ℕ) where
   unfoldable pub nodeAfter : ℕ → ℕ
   nodeAfter zero = 0
   nodeAfter (suc i) = foundOr (nodeAfter i) (λ m. m) (arc N sheet (nodeAfter i) (getD firings i 0))
+
+  -- the entry of the arc of the last of so many firings, at the node that those before it lead to; none where nothing is fired: §10.13
+  unfoldable pub entryAfter : ℕ → Option ℕ
+  entryAfter zero = none
+  entryAfter (suc i) = arcEntry N sheet (nodeAfter i) (getD firings i 0)
+
+  abbrev pub lastEntry : Index
+  lastEntry = indexFrom (entryAfter (length firings))
 
   -- §7.20 at one index, at the node that the firings before it lead to (§7.58)
   unfoldable pub firingFault : ℕ → Option Refusal
@@ -69,7 +83,8 @@ module _ (N : PetriNet) (sheet firings : List ℕ) where
 unfoldable pub endCounts : List ℕ → List ℕ → List ℕ
 endCounts net firings = fireAll (petriNet net) (initial (petriNet net)) firings
 
--- what following the firings finds: the first that is not offered, or the node at the end where all are
-pub record FollowedTo (N : PetriNet) (sheet firings : List ℕ) (r : Verdict) (n : ℕ) : Type 0 where
+-- what following the firings finds: the first that is not offered, or the node at the end and the entry of the last arc where all are
+pub record FollowedTo (N : PetriNet) (sheet firings : List ℕ) (r : Verdict) (n : ℕ) (e : Index) : Type 0 where
   pub reply : r ≡ verdictOf (runFault N sheet firings)
   pub node : r ≡ Accepted → n ≡ nodeAfter N sheet firings (length firings)
+  pub entry : r ≡ Accepted → e ≡ lastEntry N sheet firings

@@ -7,8 +7,10 @@ ghost use Rattle.sequential.specs.Check.{scheduleReply};
 ghost use Rattle.graph.specs.Readable.{Readable};
 ghost use Rattle.schedule.specs.Firing.{walkerFault, FollowedTo};
 ghost use Rattle.schedule.specs.Calls.{StepDone};
+use super::FireAnswer;
 use super::Fired;
 use super::Walker;
+use call::Index;
 use refusal::Position;
 use refusal::Refusal;
 use refusal::Verdict;
@@ -38,43 +40,48 @@ fn walker_fault(walker: Walker, net: &[u32], sheet: &[u32]) -> Verdict
 // A single firing: refusals 18 to 20 (§7.58), or the walker that follows. The target's counts are what firing gives (§6.6).
 pub(crate) fn step(walker: Walker, net: &[u32], sheet: &[u32], t: u32) -> Fired
     requires { ⌜ scheduleReply (now net) (now sheet) ≡ Accepted ⌝ }
-    ensures { λ r. ⌜ StepDone (now (net .entry)) (now (sheet .entry)) walker t (r .verdict) (r .next) ⌝ }
+    ensures { λ r. ⌜ StepDone (now (net .entry)) (now (sheet .entry)) walker t (r .answer) (r .next) ⌝ }
 {
     let found = walker_fault(walker, net, sheet);
-    if let Verdict::Refused(_) = found {
+    if let Verdict::Refused(r) = found {
         return Fired {
-            verdict: found,
+            answer: FireAnswer::Stopped(r),
             next: walker,
         };
     }
     let n = walker.node;
     match graph::arc(net, sheet, n, t) {
         Found::Nothing => Fired {
-            verdict: refusal::refuse(Refusal::NOT_OFFERED, Position::Nothing),
+            answer: FireAnswer::Stopped(Refusal {
+                number: Refusal::NOT_OFFERED,
+                at: Position::Nothing,
+            }),
             next: walker,
         },
         Found::At(i) => {
             let m = graph::value(sheet, i);
             let counts = graph::marking(net, sheet, m);
             Fired {
-                verdict: Verdict::Accepted,
+                answer: FireAnswer::Done(i as u32),
                 next: Walker { node: m, counts },
             }
         }
     }
 }
 
-// Where a list of transitions leads from node 0, or the first that is not offered: §7.58.
+// Where a list of transitions leads from node 0, and by which entry at last, or the first that is not offered: §7.58.
 pub(crate) struct Followed {
     pub verdict: Verdict,
     pub node: u32,
+    pub entry: Index,
 }
 
 pub(crate) fn follow(net: &[u32], sheet: &[u32], firings: &[u32]) -> Followed
     requires { ⌜ Readable (now net) (now sheet) ⌝ }
-    ensures { λ r. ⌜ FollowedTo (petriNet (now (net .entry))) (now (sheet .entry)) (now (firings .entry)) (r .verdict) (r .node) ⌝ }
+    ensures { λ r. ⌜ FollowedTo (petriNet (now (net .entry))) (now (sheet .entry)) (now (firings .entry)) (r .verdict) (r .node) (r .entry) ⌝ }
 {
     let mut node = 0;
+    let mut entry = Index::Missing;
     let mut i = 0;
     while i < firings.len() {
         match graph::arc(net, sheet, node, firings[i]) {
@@ -82,16 +89,19 @@ pub(crate) fn follow(net: &[u32], sheet: &[u32], firings: &[u32]) -> Followed
                 return Followed {
                     verdict: refusal::refuse(Refusal::NOT_OFFERED, Position::Record(i)),
                     node,
+                    entry,
                 };
             }
             Found::At(e) => {
                 i += 1;
                 node = graph::value(sheet, e);
+                entry = Index::Known(e as u32);
             }
         }
     }
     Followed {
         verdict: Verdict::Accepted,
         node,
+        entry,
     }
 }

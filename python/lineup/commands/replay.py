@@ -43,6 +43,7 @@ def told(both, log, answer):
         start, held, (taken, put) = net.start.get(p, 0), sheet.counts[end].get(p, 0), (side[p] for side in sums)
         report.say(f"  {name:{wide}} taken {taken:{deep}} put {put:{deep}}   {start} + {put} - {taken} = {held}")
     report.say(f"  {'total':{wide}} taken {sum(sums[0]):{deep}} put {sum(sums[1]):{deep}}")
+    both.last_entry(answer, (([0] + log.model.nodes)[-2], log.model.firings[-1]) if log.model.firings else None, report)
     return report.quote(answer, whole=True)
 
 

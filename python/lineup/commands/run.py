@@ -48,14 +48,16 @@ def fired(both, record, answer):
     net, sheet = both.net.model, both.sheet.model
     report = Report(accepted=True, fired=answer.own["fired"], steps=[])
     report.say(f"{inline(both.sheet.path)}: {plural(answer.own['fired'], 'firing')} from node {sheet.nodes[0]}, which holds {net.held(sheet.counts[0])}")
-    node, counts = 0, sheet.counts[0]
+    node, counts, last = 0, sheet.counts[0], None
     for i, t in enumerate(record, 1):
+        last = node, t
         node, counts = sheet.arcs[node][t], net.fired(counts, t)
         report.data["steps"].append({"fires": net.transitions[t], "node": sheet.nodes[node], "counts": named(net, counts)})
         report.say(f"  {i:{len(str(len(record)))}}  {net.transitions[t]} -> {sheet.nodes[node]}: {net.held(counts)}")
     if answer.own["node"] != node or answer.out != [counts.get(p, 0) for p in range(len(net.places))]:
         raise Disagreement(f"the core answers {answer.whole!r}, and the firings lead to node {node} with {counts}")
     report.data.update(node=sheet.nodes[node], counts=named(net, counts))
+    both.last_entry(answer, last, report)
     return report.quote(answer, whole=True)
 
 

@@ -45,9 +45,10 @@ impl Kind {
     pub fn own(self) -> &'static [&'static str] {
         match self {
             SheetCheck => &["nodes", "arcs", "awaits"],
-            Run => &["fired", "node"],
+            SingleFiring => &["entry"],
+            Run => &["fired", "node", "entry"],
             ShortForm => &["length"],
-            Replay => &["taken", "put"],
+            Replay => &["taken", "put", "entry"],
             _ => &[],
         }
     }

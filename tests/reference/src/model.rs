@@ -74,6 +74,11 @@ fn plain<const N: usize>(answer: Result<Vec<u64>, Refusal>) -> [u64; N] {
     reply
 }
 
+/// An own number that may be missing: §8.4.
+fn sent(number: Option<u64>) -> u64 {
+    number.map_or(0, |number| number + 1)
+}
+
 // ---- What the calls share ----
 
 /// The checks that begin every call on a sheet: scratch, the net, the sheet (§7.54). Scratch that
@@ -164,14 +169,15 @@ pub fn fresh_walker(net: &[u32], walker: &mut Walker) -> [u64; 3] {
     plain(net.map(|_| vec![]))
 }
 
-/// Single firing: hands back the walker that follows, where refused the same one (§10.7).
+/// Single firing: hands back the walker that follows, where refused the same one (§10.7), and tells
+/// the entry of the arc (§10.13).
 pub fn single_firing(
     net: &[u32],
     sheet: &[u32],
     walker: &mut Walker,
     transition: u32,
     scratch: &mut [u32],
-) -> [u64; 3] {
+) -> [u64; 4] {
     let answer = accept(net, sheet, scratch).and_then(|(net, sheet)| {
         let node = walker[0] as usize;
         if node >= sheet.nodes() {
@@ -186,29 +192,30 @@ pub fn single_firing(
             return refuse(20, Nothing);
         };
         *walker = walker_at(target, &net.fire(marking, transition as usize));
-        Ok(vec![])
+        Ok(vec![sent(sheet.entry(node, transition))])
     });
     plain(answer)
 }
 
-/// Run: §10.8.
+/// Run: §10.8, §10.13.
 pub fn run(
     net: &[u32],
     sheet: &[u32],
     record: &[u32],
     out: &mut [u32],
     scratch: &mut [u32],
-) -> [u64; 5] {
+) -> [u64; 6] {
     let answer = accept(net, sheet, scratch).and_then(|(net, sheet)| {
-        let (mut node, mut marking) = (0, net.start.clone());
+        let (mut node, mut marking, mut last) = (0, net.start.clone(), None);
         for (i, &t) in record.iter().enumerate() {
             let Some(target) = sheet.arc(node, t) else {
                 return refuse(20, Record(i));
             };
+            last = Some((node, t));
             (node, marking) = (target, net.fire(&marking, t as usize));
         }
         write(out, &as_words(&marking))?;
-        Ok(vec![record.len() as u64, node as u64])
+        Ok(vec![record.len() as u64, node as u64, sent(sheet.last_entry(last))])
     });
     plain(answer)
 }
@@ -223,7 +230,7 @@ fn read_log(log: &[u32]) -> Result<(&[u32], &[u32]), Refusal> {
     }
 }
 
-/// Replay: §10.11. The sums are those of §10.12, firing by firing.
+/// Replay: §10.11, §10.13. The sums are those of §10.12, firing by firing.
 pub fn replay(
     net: &[u32],
     sheet: &[u32],
@@ -231,12 +238,12 @@ pub fn replay(
     taken: &mut [u64],
     put: &mut [u64],
     scratch: &mut [u32],
-) -> [u64; 5] {
+) -> [u64; 6] {
     let answer = accept(net, sheet, scratch).and_then(|(net, sheet)| {
         let (firings, named) = read_log(log)?;
         let places = net.places();
         let (mut from, mut into) = (vec![0; places], vec![0; places]);
-        let mut node = 0;
+        let (mut node, mut last) = (0, None);
         for (i, (&t, &name)) in firings.iter().zip(named).enumerate() {
             let Some(target) = sheet.arc(node, t) else {
                 return refuse(20, Record(i));
@@ -248,6 +255,7 @@ pub fn replay(
                 from[p] += net.taken[t as usize][p];
                 into[p] += net.put[t as usize][p];
             }
+            last = Some((node, t));
             node = target;
         }
         if taken.len() < places || put.len() < places {
@@ -255,7 +263,7 @@ pub fn replay(
         }
         taken[..places].copy_from_slice(&from);
         put[..places].copy_from_slice(&into);
-        Ok(vec![from.iter().sum(), into.iter().sum()])
+        Ok(vec![from.iter().sum(), into.iter().sum(), sent(sheet.last_entry(last))])
     });
     plain(answer)
 }

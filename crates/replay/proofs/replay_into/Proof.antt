@@ -10,18 +10,18 @@ use Rattle.replay.proofs.replay_into.Statement.{statement}
 use Rattle.replay.proofs.replay_into.Tie as tie
 
 returns : tie.Need-returns
-returns c = refused-words (sym (c .before .before .before .checked .ensures) ∙ c .before .found .given .1) refl
+returns c = refused-words (sym (c .before .before .before .checked .ensures .reply) ∙ c .before .found .given .1) refl
 
 returns-2 : tie.Need-returns-2
 returns-2 c =
     let b = c .before .before .before .before in
-    taken-short _ _ _ _ _ (sym (b .before .before .before .checked .ensures) ∙ b .before .enum-told .given .1) (b .places .ensures)
+    taken-short _ _ _ _ _ (sym (b .before .before .before .checked .ensures .reply) ∙ b .before .enum-told .given .1) (b .places .ensures)
     (c .before .before .before .output-fault .ensures) (c .before .found2 .given .1)
 
 returns-3 : tie.Need-returns-3
 returns-3 c =
     let b = c .before .before .before .before .before .before .before in
-    put-short _ _ _ _ _ (sym (b .before .before .before .checked .ensures) ∙ b .before .enum-told .given .1) (b .places .ensures)
+    put-short _ _ _ _ _ (sym (b .before .before .before .checked .ensures .reply) ∙ b .before .enum-told .given .1) (b .places .ensures)
     (c .before .before .before .output-fault2 .ensures) (c .before .found3 .given .1)
 
 settle-requires : tie.Need-settle-requires
@@ -29,13 +29,14 @@ settle-requires c κs =
     let b = c .before .before .before .before .before .before .before .before in
     let x = room-holds _ _ (sym (c .before .before .before .before .before .before .before .output-fault .ensures) ∙ c .before .before .before .before .before .enum-told2 .given .1) in
     let y = room-holds _ _ (sym (c .before .before .before .before .output-fault2 .ensures) ∙ c .before .before .enum-told3 .given .1) in
-    (countable _ _ _ (sym (b .before .before .before .checked .ensures) ∙ b .before .enum-told .given .1), (omega (arith, b .places .ensures), omega (arith, b .places .ensures)))
+    (countable _ _ _ (sym (b .before .before .before .checked .ensures .reply) ∙ b .before .enum-told .given .1), (omega (arith, b .places .ensures), omega (arith, b .places .ensures)))
 
 returns-4 : tie.Need-returns-4
 returns-4 c =
     let d = c .before .before .before .before .before .before .before in
     let b = d .before .before .before .before .before .before in
-    all-written _ _ _ _ _ (sym (b .before .before .before .checked .ensures) ∙ b .before .enum-told .given .1) (b .places .ensures)
+    let e = b .before .enum-told .given .1 in
+    all-written _ _ _ _ _ (sym (b .before .before .before .checked .ensures .reply) ∙ e) (b .places .ensures) (b .before .before .before .checked .ensures .entry e)
     (d .before .before .before .before .before .output-fault .ensures) (d .before .before .before .enum-told2 .given .1)
     (d .before .before .output-fault2 .ensures) (d .enum-told3 .given .1) (c .before .before .before .before .settle .ensures)
 

@@ -60,6 +60,12 @@ impl Words {
         self.values.get(&key).copied().filter(|_| t < net.transitions())
     }
 
+    /// 1 more than the entry of an arc, which is how many keys lie up to its own; 0 where there is none.
+    pub fn told_entry(&self, net: &Words, n: u64, t: u64) -> u64 {
+        let key = n * net.transitions() + t;
+        self.arc(net, n, t).map_or(0, |_| self.values.range(..=key).count() as u64)
+    }
+
     /// The arcs in entry order, as node, transition and target.
     pub fn arcs(&self, net: &Words) -> Vec<(u64, u64, u64)> {
         let end = self.nodes() * net.transitions();

@@ -4,15 +4,15 @@ use native.Mathlib.Omega.{arith}
 use mathlib.Core.Path.{sym, _∙_}
 use borrow.Author.Needs.{needs}
 use Rattle.replay.specs.Log.{firingCount}
-use Rattle.replay.proofs.Following.{Along, sets-out, arrives, not-offered, other-node, goes-on}
+use Rattle.replay.proofs.Following.{Along, sets-out, arrives, not-offered, other-node, fits, goes-on}
 use Rattle.replay.proofs.follow.followed.Statement.{statement}
 use Rattle.replay.proofs.follow.followed.Tie as tie
 
 abbrev Inv-loop : tie.InvT-loop
-Inv-loop net sheet log n node₀ i₀ node i = Along net sheet log n node i
+Inv-loop net sheet log n node₀ entry₀ i₀ node entry i = Along net sheet log n node entry i
 
 abbrev μ-loop : tie.MeasureT-loop
-μ-loop net sheet log n node₀ i₀ node i = n - i
+μ-loop net sheet log n node₀ entry₀ i₀ node entry i = n - i
 
 read-n : tie.Need-shared-slice-read-n Inv-loop μ-loop
 read-n c = omega (arith, c .before .before .before .before .pre .1 .whole)
@@ -35,6 +35,15 @@ returns-2 c =
     other-node (w .inv) (c .before .before .before .before .before .before .before .before .before .loop-test .taken) _ _
     (sym (c .before .before .before .before .before .before .before .arc .ensures) ∙ c .before .before .before .before .before .e .given .1) (c .before .before .before .value .ensures)
     (c .before .if1 .taken) (c .refuse2 .ensures)
+
+cast-entry : tie.Need-cast-t23 Inv-loop μ-loop
+cast-entry c =
+    let w = c .before .before .before .before .before .before .before .before .before .loop in
+    omega (
+      arith,
+      fits (w .inv) (c .before .before .before .before .before .before .before .before .loop-test .taken) _ _
+          (sym (c .before .before .before .before .before .before .arc .ensures) ∙ c .before .before .before .before .e .given .1) (c .before .before .value .ensures),
+    )
 
 loop-again : tie.Need-loop-again Inv-loop μ-loop
 loop-again c =
@@ -69,6 +78,7 @@ followed-spec =
     (λ c. search needs)
     (λ c κs. search needs)
     returns-2
+    cast-entry
     (λ c. search needs)
     (λ c. omega arith)
     loop-again

@@ -7,9 +7,10 @@ use Rattle.scan.proofs.First.{first-none, first-more, first-hit}
 use Rattle.refusal.specs.Verdict.{verdictOf}
 use Rattle.sequential.specs.Petri.{petriNet}
 use Rattle.sequential.specs.Words.{nodeCount}
-use Rattle.schedule.specs.Firing.{nodeAfter, firingFault, runFault}
+use Rattle.call.specs.Index.{indexFrom}
+use Rattle.schedule.specs.Firing.{nodeAfter, entryAfter, firingFault, runFault}
 use Rattle.graph.proofs.LookUp.{arc-found, arc-missing}
-use Rattle.schedule.proofs.Walks.{refused-accepted, target-node, after-none, after-more, firing-passes, firing-fails}
+use Rattle.schedule.proofs.Walks.{refused-accepted, target-node, entry-fits, after-none, after-more, entry-none, entry-more, firing-passes, firing-fails}
 use borrow.Author.Needs.{needs}
 use native.Mathlib.Omega.{arith}
 use mathlib.Core.Path.{_≡_, sym, ap, _∙_}
@@ -17,29 +18,51 @@ use Rattle.schedule.proofs.firing.follow.Statement.{statement}
 use Rattle.schedule.proofs.firing.follow.Tie as tie
 
 abbrev Inv-loop : tie.InvT-loop
-Inv-loop net sheet firings node₀ i₀ node i = (i ≤ length firings) × (node ≡ nodeAfter (petriNet net) sheet firings i) × (node < nodeCount sheet) × (first (firingFault (petriNet net) sheet firings) i ≡ none)
+Inv-loop net sheet firings node₀ entry₀ i₀ node entry i =
+    (i ≤ length firings) × (node ≡ nodeAfter (petriNet net) sheet firings i) × (node < nodeCount sheet) × (first (firingFault (petriNet net) sheet firings) i ≡ none)
+    × (entry ≡ indexFrom (entryAfter (petriNet net) sheet firings i))
 
 abbrev μ-loop : tie.MeasureT-loop
-μ-loop net sheet firings node₀ i₀ node i = length firings - i
+μ-loop net sheet firings node₀ entry₀ i₀ node entry i = length firings - i
 
 loop-holds : tie.Need-loop-holds Inv-loop μ-loop
-loop-holds c = (omega arith, after-none _ _ _, omega arith, first-none _)
+loop-holds c = (omega arith, after-none _ _ _, omega arith, first-none _, entry-none _ _ _)
+
+cast-entry : tie.Need-cast-t15 Inv-loop μ-loop
+cast-entry c =
+    let r = c .before .before .before .before .before .before .before .before .before .before .before .pre .arcs in
+    omega (arith, entry-fits _ _ _ _ (r .holds) _ (arc-found _ _ r _ _ _ (sym (c .before .before .before .before .arc .ensures) ∙ (c .before .before .e .given .1))))
 
 returns : tie.Need-returns Inv-loop μ-loop
 unfolding runFault
-returns c = record { reply = (c .refuse .ensures) ∙ ap verdictOf (sym (first-hit _ _ _ (c .before .before .before .before .before .before .loop .inv .3) (firing-fails _ _ _ _ _ (c .before .before .before .before .before .before .loop .inv .1) (arc-missing _ _ (c .before .before .before .before .before .before .before .before .before .before .pre .arcs) _ _ (sym (c .before .before .before .arc .ensures) ∙ (c .before .enum-told .given .1)))) _ (c .before .before .before .before .before .loop-test .taken))); node = λ h. refused-accepted _ _ (c .refuse .ensures) h }
+returns c =
+    let w = c .before .before .before .before .before .before in
+    let e = arc-missing _ _ (w .before .before .before .before .pre .arcs) _ _ (sym (c .before .before .before .arc .ensures) ∙ (c .before .enum-told .given .1)) in
+    record {
+      reply = (c .refuse .ensures) ∙ ap verdictOf (sym (first-hit _ _ _ (w .loop .inv .3) (firing-fails _ _ _ _ _ (w .loop .inv .1) e) _ (c .before .before .before .before .before .loop-test .taken)));
+      node = λ h. refused-accepted _ _ (c .refuse .ensures) h;
+      entry = λ h. refused-accepted _ _ (c .refuse .ensures) h;
+    }
 
 loop-again : tie.Need-loop-again Inv-loop μ-loop
-loop-again c = let e = arc-found _ _ (c .before .before .before .before .before .before .before .before .before .before .before .pre .arcs) _ _ _ (sym (c .before .before .before .before .arc .ensures) ∙ (c .before .before .e .given .1)) in (
-  omega arith,
-  (c .value .ensures) ∙ after-more _ _ _ _ _ (c .before .before .before .before .before .before .before .loop .inv .1) _ e,
-  rw (c .value .ensures) (target-node _ _ _ _ (c .before .before .before .before .before .before .before .before .before .before .before .pre .arcs .sizes .some-transition) (c .before .before .before .before .before .before .before .before .before .before .before .pre .arcs .holds) (c .before .before .before .before .before .before .before .loop .inv .2) _ e),
-  first-more _ _ (c .before .before .before .before .before .before .before .loop .inv .3) (firing-passes _ _ _ _ _ (c .before .before .before .before .before .before .before .loop .inv .1) _ e),
-)
+loop-again c =
+    let w = c .before .before .before .before .before .before .before in
+    let r = w .before .before .before .before .pre .arcs in
+    let e = arc-found _ _ r _ _ _ (sym (c .before .before .before .before .arc .ensures) ∙ (c .before .before .e .given .1)) in (
+      omega arith,
+      (c .value .ensures) ∙ after-more _ _ _ _ _ (w .loop .inv .1) _ e,
+      rw (c .value .ensures) (target-node _ _ _ _ (r .sizes .some-transition) (r .holds) (w .loop .inv .2) _ e),
+      first-more _ _ (w .loop .inv .3) (firing-passes _ _ _ _ _ (w .loop .inv .1) _ e),
+      entry-more _ _ _ _ _ (w .loop .inv .1) _ e,
+    )
 
 returns-2 : tie.Need-returns-2 Inv-loop μ-loop
 unfolding runFault
-returns-2 c = let q : (c .before .loop .i) ≡ length (c .before .before .before .before .before .args .firings .now) = omega arith in record { reply = ap verdictOf (sym (rw q at (c .before .loop .inv .3))); node = λ h. rw q at (c .before .loop .inv .1) }
+returns-2 c = let q : (c .before .loop .i) ≡ length (c .before .before .before .before .before .args .firings .now) = omega arith in record {
+  reply = ap verdictOf (sym (rw q at (c .before .loop .inv .3)));
+  node = λ h. rw q at (c .before .loop .inv .1);
+  entry = λ h. rw q at (c .before .loop .inv .4);
+}
 
 pub follow-spec : {M : Type 1} → statement M
 follow-spec =
@@ -57,6 +80,7 @@ follow-spec =
     (λ c. search needs)
     (λ c. search needs)
     (λ c κs. search needs)
+    cast-entry
     (λ c. omega arith)
     loop-again
     returns-2)

@@ -3,7 +3,8 @@ use mathlib.Core.Path.{sym, _∙_}
 use Rattle.refusal.proofs.Verdicts.{answer-none}
 use Rattle.graph.proofs.LookUp.{arc-found, arc-missing}
 use Rattle.judge.proofs.Judged.{accepted-readable}
-use Rattle.schedule.proofs.Walks.{walker-refused, not-offered, follows-on}
+use Rattle.schedule.proofs.Walks.{entry-fits, walker-refused, not-offered, follows-on}
+use native.Mathlib.Omega.{arith}
 use borrow.Author.Needs.{needs}
 use Rattle.schedule.proofs.firing.step.Statement.{statement}
 use Rattle.schedule.proofs.firing.step.Tie as tie
@@ -12,18 +13,23 @@ walker-fault-requires : tie.Need-walker-fault-requires
 walker-fault-requires c κs = accepted-readable _ _ (c .before .before .pre)
 
 returns : tie.Need-returns
-returns c = walker-refused _ _ _ _ (c .before .before .before .before .before .pre) _ _ (c .before .before .walker-fault .ensures) (c .enum-told .given .1)
+returns c = walker-refused _ _ _ _ (c .before .before .before .before .before .before .pre) _ _ (c .before .before .before .walker-fault .ensures) (c .before .found .given .1)
+
+cast-entry : tie.Need-cast-t17
+cast-entry c =
+    let r = accepted-readable _ _ (c .before .before .before .before .before .before .before .before .before .before .before .pre) .arcs in
+    omega (arith, entry-fits _ _ _ _ (r .holds) _ (arc-found _ _ r _ _ _ (sym (c .before .before .before .before .before .arc .ensures) ∙ c .before .before .before .i .given .1)))
 
 returns-2 : tie.Need-returns-2
 returns-2 c =
-    let a = c .before .before .before .before .before .before .before .before .before .pre in
-    let f = answer-none _ (sym (c .before .before .before .before .before .before .walker-fault .ensures) ∙ c .before .before .before .before .enum-told2 .given .1) in
-    not-offered _ _ _ _ a f _ (c .refuse .ensures) (arc-missing _ _ (accepted-readable _ _ a .arcs) _ _ (sym (c .before .before .before .arc .ensures) ∙ c .before .enum-told3 .given .1))
+    let a = c .before .before .before .before .before .before .before .before .pre in
+    let f = answer-none _ (sym (c .before .before .before .before .before .walker-fault .ensures) ∙ c .before .before .before .enum-told .given .1) in
+    not-offered _ _ _ _ a f (arc-missing _ _ (accepted-readable _ _ a .arcs) _ _ (sym (c .before .before .arc .ensures) ∙ c .enum-told2 .given .1))
 
 returns-3 : tie.Need-returns-3
 returns-3 c =
     let a = c .before .before .before .before .before .before .before .before .before .before .before .pre in
-    let f = answer-none _ (sym (c .before .before .before .before .before .before .before .before .walker-fault .ensures) ∙ c .before .before .before .before .before .before .enum-told2 .given .1) in
+    let f = answer-none _ (sym (c .before .before .before .before .before .before .before .before .walker-fault .ensures) ∙ c .before .before .before .before .before .before .enum-told .given .1) in
     let e = arc-found _ _ (accepted-readable _ _ a .arcs) _ _ _ (sym (c .before .before .before .before .before .arc .ensures) ∙ c .before .before .before .i .given .1) in
     follows-on _ _ _ _ a f _ _ _ e (c .before .value .ensures) (c .marking .ensures)
 
@@ -37,9 +43,9 @@ step-spec =
     (λ c. search needs)
     (λ c κs. search needs)
     (λ c. search needs)
-    (λ c κs. search needs)
     (λ c. search needs)
     (λ c κs. search needs)
     (λ c κs. search needs)
+    cast-entry
     returns-2
     returns-3)

@@ -1,0 +1,13 @@
+-- `call::Index::plain` meets its contract.
+use mathlib.Core.Path.{sym, ap}
+use borrow.Author.Needs.{needs}
+use Rattle.call.specs.Index.{plainIndex}
+use Rattle.call.proofs.Index.plain.Statement.{statement}
+use Rattle.call.proofs.Index.plain.Tie as tie
+
+returns : tie.Need-returns
+returns c = sym (ap plainIndex (c .before .self .given .1))
+
+pub plain-spec : {M : Type 1} → statement M
+plain-spec =
+    tie.close (tie.spec (λ c. search needs) (λ c. search needs) (λ c. search needs) (λ c. search needs) returns (λ c. search needs))
