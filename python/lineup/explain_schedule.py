@@ -27,8 +27,13 @@ def torn_choice(n, net, source):
     if lacking:
         takes = net.held(net.taken[first])
         lines.append(f"{net.listed(whole)} take the same ({takes}), so the plant decides between them: {net.listed(lacking)} has no arrow here")
+    alike, rivals = net.alike(first), net.rivals(first)
+    if rivals and len(set(alike).intersection(offered)) > 1:
+        takes = net.held(net.taken[first])
+        others = ", ".join(f"{net.transitions[t]} ({net.held(net.taken[t])})" for t in rivals)
+        lines.append(f"{net.listed(alike)} take the same ({takes}), but on a place of theirs draws {others}: so the schedule decides, and each of them stands alone")
     for t in offered:
-        if t not in whole:
+        if t not in alike:
             takes, other = net.held(net.taken[t]), net.held(net.taken[first])
             lines.append(f"{net.transitions[t]} takes {takes}, and {net.transitions[first]} takes {other}: these are not one choice")
     return at_node(source, n), lines, {"nodes": [n]}

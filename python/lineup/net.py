@@ -16,9 +16,17 @@ class Net:
         """The transitions that take nothing."""
         return [t for t, taken in enumerate(self.taken) if not taken]
 
-    def choice_set(self, t):
+    def alike(self, t):
         """The transitions that take the same as t."""
         return [u for u, taken in enumerate(self.taken) if taken == self.taken[t]]
+
+    def rivals(self, t):
+        """The transitions that draw on a place which t draws on, and take otherwise."""
+        return [u for u, taken in enumerate(self.taken) if taken != self.taken[t] and not taken.keys().isdisjoint(self.taken[t])]
+
+    def choice_set(self, t):
+        """All that take the same as t, or t alone where others draw on a place of theirs."""
+        return [t] if self.rivals(t) else self.alike(t)
 
     def starved(self, counts, t):
         """The places that hold less than t takes."""

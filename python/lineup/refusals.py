@@ -64,8 +64,8 @@ REFUSALS = {
     ),
     12: Refusal(
         "torn choice",
-        "The node answers only some of the outcomes that the plant decides between, or mixes outcomes of different questions.",
-        "Add an arrow for every transition that takes the same, and leave only these at the node.",
+        "The node answers only some of the outcomes that the plant decides between, or mixes outcomes of different questions, or leaves open what the schedule has to decide.",
+        "Leave one choice set at the node, whole: every transition that takes the same, or a single one where others draw on a place of theirs.",
     ),
     13: Refusal(
         "busy root",

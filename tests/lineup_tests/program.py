@@ -19,12 +19,14 @@ SHEET = "n:\n  s -> m\nm: a\n  u -> n\n"
 LONGER = "n:\n  s -> m\nm: a\n  u -> o\no:\n  s -> p\np: a\n  u -> n\n"
 GREEDY = "n:\n  s -> m\nm: a\n  s -> o\no: a*2\n  u -> p\np: a\n  u -> n\n"
 TORN = "n:\n  s -> m\nm: a\n"
+SHARED = "tr s -> a\ntr t a ->\ntr u a ->\ntr w a*2 ->\n"
+BOTH = "n:\n  s -> m\nm: a\n  t -> n\n  u -> n\n"
 LOG = "log x\ns -> m\nu -> n\ns -> m\n"
 
 
 def run(tally):
     with tempfile.TemporaryDirectory() as folder:
-        for name, text in (("x.net", NET), ("x.sheet", SHEET), ("longer.sheet", LONGER), ("greedy.sheet", GREEDY), ("torn.sheet", TORN), ("x.log", LOG)):
+        for name, text in (("x.net", NET), ("x.sheet", SHEET), ("longer.sheet", LONGER), ("greedy.sheet", GREEDY), ("torn.sheet", TORN), ("shared.net", SHARED), ("both.sheet", BOTH), ("x.log", LOG)):
             save(folder, name, text)
         statuses(tally, folder)
         outputs(tally, folder)
@@ -52,6 +54,8 @@ def statuses(tally, folder):
         (1, "check x.net torn.sheet", ["torn.sheet:3:1: refused, 11 dead end", "core: answer 11 node 1"]),
         (0, "diff x.net x.sheet longer.sheet", ["same: ", "core: x.sheet: answer 0 none 0 length 8"]),
         (1, "diff x.net x.sheet greedy.sheet", ["different: after 1 firing", "only x.sheet allows: s, u", "only greedy.sheet allows: s, s", "answer 20 record 1"]),
+        (1, "check shared.net both.sheet", ["t, u take the same (a), but on a place of theirs draws w (a*2)", "each of them stands alone", "core: answer 12 node 1"]),
+        (0, "check shared.net x.sheet", ["accepted", "core: answer 0 none 0 nodes 2 arcs 2 awaits 1"]),
         (2, "diff x.net x.sheet torn.sheet", ["torn.sheet:3:1: refused, 11 dead end; it cannot be compared", "core: answer 11"]),
         (0, "short x.net longer.sheet", ["4 nodes became 2", "# n, o became n", "# core: answer 0 none 0 length 8"]),
         (1, "short x.net torn.sheet", ["11 dead end", "core: answer 11"]),

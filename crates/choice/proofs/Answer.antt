@@ -107,7 +107,7 @@ module _ {net sheet leaders : List ℕ} {source transitions nodes : ℕ} (g : Gr
   start = record { ground = g; passed = first-none _; marks = none-below N A }
 
   pub row-tells : (n : ℕ) (row : List ℕ) (offer : Offer) → row ≡ arcEntryRow net sheet n → offer ≡ offerOf row leaders transitions → Tells N A n offer
-  row-tells n row offer e f = rw (f, e) (offer-tells N A n (let z = g .few-transitions in omega (arith, g .transitions-are)) (arcEntryRow net sheet n) leaders transitions (row-offers n) (g .choices .leaders-are) (g .transitions-are))
+  row-tells n row offer e f = rw (f, e) (offer-tells N A n (arcEntryRow net sheet n) leaders transitions (row-offers n) (g .choices .leaders-are) (g .transitions-are))
 
 -- ---- each way on
 

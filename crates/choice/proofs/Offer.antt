@@ -8,11 +8,10 @@ use mathlib.Core.Option.{none, some}
 use lib.ListN.{getD}
 use lib.Dec.{ltb, eqb}
 use borrow.Author.Tests.{ltb-true, ltb-false}
-use Rattle.scan.specs.Scan.{orElse, when, all, least, tabulate}
+use Rattle.scan.specs.Scan.{orElse, when, all, least}
 use Rattle.scan.proofs.Tests.{byTest, iff→eq}
 use Rattle.scan.proofs.Every.{all-ext, all-fails, any-in, any-none}
 use Rattle.scan.proofs.Least.{least-hit, least-low, least-ext}
-use Rattle.scan.proofs.Tabulate.{tabulate-at}
 use Rattle.refusal.specs.Refusal.{refusal}
 use Rattle.refusal.specs.declared.Position.the-variants.{Node}
 use Rattle.automaton.specs.Automaton.{Automaton}
@@ -59,14 +58,11 @@ Tells N A n Nothing = offerFault N A n ≡ some (refusal 11 (Node n))
 Tells N A n Torn = offerFault N A n ≡ some (refusal 12 (Node n))
 Tells N A n (Whole c) = (offerFault N A n ≡ none) × (isAwait N A n ≡ eqb c (firstSource N))
 
-module _ (N : PetriNet) (A : Automaton) (n : ℕ) (few : N .transitions ≤ 32) (row leaders : List ℕ) (T : ℕ)
-    (offered : (t : ℕ) → present row t ≡ offers N A n t) (choices : leaders ≡ tabulate (choiceOf N) 32) (all-of : T ≡ N .transitions) where
+module _ (N : PetriNet) (A : Automaton) (n : ℕ) (row leaders : List ℕ) (T : ℕ) (offered : (t : ℕ) → present row t ≡ offers N A n t)
+    (leader-is : (t : ℕ) → t < N .transitions → getD leaders t 0 ≡ choiceOf N t) (all-of : T ≡ N .transitions) where
   first-is : least (present row) T ≡ firstOffered N A n
   unfolding firstOffered
   first-is = rw all-of (least-ext (present row) (offers N A n) (N .transitions) (λ t l. offered t))
-
-  leader-is : (t : ℕ) → t < N .transitions → getD leaders t 0 ≡ choiceOf N t
-  leader-is t l = rw choices (tabulate-at (choiceOf N) 0 32 t (omega arith))
 
   -- the row has exactly the arcs of u's choice set
   as-choice : (u : ℕ) → u < N .transitions → (t : ℕ) → t < N .transitions → presentAsChoice row leaders (getD leaders u 0) t ≡ Bool·beq (offers N A n t) (sameChoice N u t)

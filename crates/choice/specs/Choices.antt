@@ -1,14 +1,14 @@
 -- How the code keeps choice sets and reads what a row of arcs offers. No contract of a public function cites it.
-use Prim.Native.Nat.{ℕ}
+use Prim.Native.Nat.{ℕ, _<_}
 use mathlib.Core.Path.{_≡_}
 use mathlib.Core.List.{List}
-use mathlib.Core.Bool.{Bool, cond, Bool·beq}
+use mathlib.Core.Bool.{Bool, true, false, cond, not, _&&_, _||_, Bool·beq}
 use lib.ListN.{getD}
 use lib.Dec.{ltb, eqb}
-use Rattle.scan.specs.Scan.{all, least, tabulate}
+use Rattle.scan.specs.Scan.{all, any, least}
 use Rattle.automaton.specs.Equivalence.{leaderBy}
 use Rattle.sequential.specs.Petri.{PetriNet}
-use Rattle.sequential.specs.Tests.{isSource, sameChoice}
+use Rattle.sequential.specs.Tests.{isSource, freeChoice, sameChoice}
 use Rattle.choice.specs.Rows.{present}
 use Rattle.choice.specs.declared.offers.Offer.{Offer}
 use Rattle.choice.specs.declared.offers.Offer.the-variants.{Nothing, Whole, Torn}
@@ -21,10 +21,20 @@ choiceOf N t = leaderBy (sameChoice N) t
 unfoldable pub firstSource : PetriNet → ℕ
 firstSource N = least (isSource N) (N .transitions)
 
--- the choice sets of the net, and its least source
+-- the choice sets of the net's transitions, and its least source
 pub record ChoicesOf (N : PetriNet) (leaders : List ℕ) (source : ℕ) : Type 0 where
-  pub leaders-are : leaders ≡ tabulate (choiceOf N) 32
+  pub leaders-are : (t : ℕ) → t < N .transitions → getD leaders t 0 ≡ choiceOf N t
   pub source-is : source ≡ firstSource N
+
+-- what is noted of a transition that leads those that take the same: 1 that their choice is free, more that it is not, 0 nothing
+pub record Noted (N : PetriNet) (note leader : ℕ) : Type 0 where
+  pub free : note ≡ 1 → freeChoice N leader ≡ true
+  pub not-free : 1 < note → freeChoice N leader ≡ false
+
+-- and after it was asked for t, one of those that it leads: nothing only if t leads them itself
+pub record NotedAfter (N : PetriNet) (note leader t : ℕ) : Type 0 where
+  pub noted : Noted N note leader
+  pub asked : note ≡ 0 → leader ≡ t
 
 -- two rows have the same weight at place p
 unfoldable pub equalAt : List ℕ → List ℕ → ℕ → Bool
@@ -33,6 +43,14 @@ equalAt a b p = eqb (getD a p 0) (getD b p 0)
 -- a row has no weight at place p
 unfoldable pub zeroAt : List ℕ → ℕ → Bool
 zeroAt row p = eqb (getD row p 0) 0
+
+-- both rows have a weight at place p
+unfoldable pub bothAt : List ℕ → List ℕ → ℕ → Bool
+bothAt a b p = ltb 0 (getD a p 0) && ltb 0 (getD b p 0)
+
+-- two rows meet at no place, or have the same weights
+unfoldable pub rowsFit : List ℕ → List ℕ → ℕ → Bool
+rowsFit a b places = not (any (bothAt a b) places) || all (equalAt a b) places
 
 -- a row has an arc by t exactly if t's choice set is known by c
 unfoldable pub presentAsChoice : List ℕ → List ℕ → ℕ → ℕ → Bool

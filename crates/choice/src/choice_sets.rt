@@ -1,11 +1,15 @@
 // Choice sets (§5.1): each is known by its least transition. The weights are those that the rows of the net tell.
 ghost use mathlib.Core.Path.{_≡_};
 ghost use Prim.Native.Nat.{_≤_, min};
-ghost use Rattle.scan.specs.Scan.{all};
+ghost use mathlib.Core.Bool.{cond};
+ghost use lib.Dec.{eqb};
+ghost use Rattle.scan.specs.Scan.{all, any};
+ghost use Rattle.automaton.specs.Equivalence.{leaderBy};
 ghost use Rattle.refusal.specs.Limits.{mostPlaces, mostTransitions};
 ghost use Rattle.net.specs.Net.{placeCount, transitionCount};
+ghost use Rattle.sequential.specs.Tests.{takesSame, freeChoice};
 ghost use Rattle.choice.specs.Rows.{netByRows};
-ghost use Rattle.choice.specs.Choices.{choiceOf, firstSource, ChoicesOf, equalAt, zeroAt};
+ghost use Rattle.choice.specs.Choices.{firstSource, ChoicesOf, equalAt, zeroAt, bothAt, rowsFit, Noted, NotedAfter};
 use refusal::Limits;
 
 // The least transition of each transition's choice set, and the least source, which stands for all of them (§5.2).
@@ -51,9 +55,35 @@ fn rows_equal(a: [u32; 32], b: [u32; 32], places: usize) -> bool
     true
 }
 
-// The least transition of t's choice set.
-fn choice_of(net: &[u32], t: u32) -> u32
-    ensures { λ r. ⌜ r ≡ choiceOf (netByRows (now (net .entry))) t ⌝ }
+// Whether two rows have a weight at one place.
+fn rows_meet(a: [u32; 32], b: [u32; 32], places: usize) -> bool
+    requires { ⌜ places ≤ 32 ⌝ }
+    ensures { λ r. ⌜ r ≡ any (bothAt a b) places ⌝ }
+{
+    let mut p = 0;
+    while p < places {
+        if (0 < a[p]) & (0 < b[p]) {
+            return true;
+        }
+        p += 1;
+    }
+    false
+}
+
+// Whether two rows meet at no place, or have the same weights.
+fn rows_fit(a: [u32; 32], b: [u32; 32], places: usize) -> bool
+    requires { ⌜ places ≤ 32 ⌝ }
+    ensures { λ r. ⌜ r ≡ rowsFit a b places ⌝ }
+{
+    if rows_meet(a, b, places) {
+        return rows_equal(a, b, places);
+    }
+    true
+}
+
+// The least transition that takes the same as t.
+fn least_alike(net: &[u32], t: u32) -> u32
+    ensures { λ r. ⌜ r ≡ leaderBy (takesSame (netByRows (now (net .entry)))) t ⌝ }
 {
     let taken = net::taken_row(net, t);
     let places = places(net);
@@ -98,14 +128,67 @@ fn first_source(net: &[u32]) -> u32
     transitions
 }
 
-// Made once for a net: every node is held to them.
+// Whether every transition that draws on a place of t's takes the same as t.
+fn is_free(net: &[u32], t: u32) -> bool
+    ensures { λ r. ⌜ r ≡ freeChoice (netByRows (now (net .entry))) t ⌝ }
+{
+    let taken = net::taken_row(net, t);
+    let places = places(net);
+    if row_empty(taken, places) {
+        return true;
+    }
+    let transitions = transitions(net) as u32;
+    let mut u = 0;
+    while u < transitions {
+        if !rows_fit(taken, net::taken_row(net, u), places) {
+            return false;
+        }
+        u += 1;
+    }
+    true
+}
+
+// What is noted of the transitions that take the same as t, of which `leader` is the least: asked where nothing is noted yet and t is another one.
+fn noted(net: &[u32], note: u32, leader: u32, t: u32) -> u32
+    requires { ⌜ Noted (netByRows (now net)) note leader ⌝ }
+    ensures { λ r. ⌜ NotedAfter (netByRows (now (net .entry))) r leader t ⌝ }
+{
+    if note != 0 {
+        return note;
+    }
+    if leader == t {
+        return 0;
+    }
+    if is_free(net, leader) {
+        return 1;
+    }
+    2
+}
+
+// The least transition of t's choice set, by what is noted.
+fn chosen(note: u32, leader: u32, t: u32) -> u32
+    ensures { λ r. ⌜ r ≡ cond (eqb note 1) leader t ⌝ }
+{
+    if note == 1 {
+        return leader;
+    }
+    t
+}
+
+// Made once for a net: every node is held to them. Whether those that take the same are one choice set is asked once for them all.
 pub(crate) fn choices_of(net: &[u32]) -> Choices
     ensures { λ r. ⌜ ChoicesOf (netByRows (now (net .entry))) (r .leaders) (r .source) ⌝ }
 {
+    let transitions = transitions(net);
     let mut leaders = [0u32; 32];
-    for i in 0..32usize {
-        let leader = choice_of(net, i as u32);
-        leaders[i] = leader;
+    let mut notes = [0u32; 32];
+    for i in 0..transitions {
+        let leader = least_alike(net, i as u32);
+        let l = leader as usize;
+        let note = noted(net, notes[l], leader, i as u32);
+        notes[l] = note;
+        let choice = chosen(note, leader, i as u32);
+        leaders[i] = choice;
     }
     Choices {
         leaders,

@@ -106,7 +106,7 @@ computed : TableHolds starred × TableHolds further
 unfolding orElse when found first all any bit count passing least tabulate keyAt valueAt entryWith entryOf arcInto arcFrom reachedIn leadsIn
     placeCount transitionCount keyLimit entryWeight weightAt taken put start takesNothing isSource hasSource entryCount keyFails foundAt foundBy
     finding sizesPass weightFails netReply tests.holdsEnough tests.enabled petri.firedCount tests.takesNothing tests.isSource tests.takesAlike
-    tests.sameChoice words.entryKey words.entryValue words.entryWithKey words.arcKeys words.keyLimit words.arcEntry
+    tests.takesSame tests.bothDraw tests.sharesPlace tests.sharesAlike tests.freeChoice tests.sameChoice words.entryKey words.entryValue words.entryWithKey words.arcKeys words.keyLimit words.arcEntry
     words.arc words.countAt words.marking tests.offers tests.offersAsSource tests.isAwait tests.offersSome tests.firstOffered
     tests.offersAsChoice tests.offersOneChoiceSet check.sizesPass check.targetFails check.countFails words.isArc check.valueFails check.wordsFault
     words.arcNode words.arcTransition check.arcEnabled check.landsAt check.arcLands check.graphFault check.scheduleFault check.arcCount

@@ -5,6 +5,7 @@ use mathlib.Core.Path.{_≡_, refl, sym, ap, _∙_, subst}
 use mathlib.Core.List.{List, [], _∷_, _++_}
 use mathlib.Core.Option.{none}
 use lib.ListN.{length, getD, List·getD-append}
+use Rattle.scan.proofs.Tests.{iff→eq}
 use Rattle.automaton.proofs.Automaton.{follow-allows}
 use Rattle.refusal.specs.Checks.{once}
 use Rattle.refusal.specs.Verdict.{verdictOf}
@@ -22,7 +23,8 @@ use Rattle.sequential.specs.Check.{scheduleReply}
 use Rattle.sequential.specs.Checks.{sheetChecks}
 use Rattle.sequential.proofs.Words.{words-hold, words-pass}
 use Rattle.sequential.proofs.Entries.{marking-at}
-use Rattle.sequential.proofs.Choices.{choice-refl, choice-sym, choice-trans, choice-source}
+use Rattle.sequential.proofs.Choices.{choice-refl, choice-sym, choice-trans, choice-source, choice-takes, choice-closed, choice-alone, choice-free}
+use Rattle.sequential.proofs.FreeChoice.{set-class, choice-set, choice-fcs, set-some}
 use Rattle.sequential.proofs.Accepted.{accepts, closed}
 use Rattle.sequential.proofs.Runs.{goes-on}
 use Rattle.sequential.proofs.Paths.{short-where}
@@ -53,7 +55,7 @@ use Rattle.encoding.proofs.Recoded.{encode-decode, decoded-encodable}
 use Rattle.minimal.proofs.Minimal.{form-no-longer, form-twice, form-fewest}
 use Rattle.demands.specs.Terms.{said}
 use Rattle.demands.specs.Demand3.{made}
-use Rattle.demands.specs.Further.{FreshPasses, PathsShorten, ChoicePartition, NeverStuck, Firings, none-fired, one-fired, Folds, RunFolds, OneEncoding, FormNoLonger, FormTwice, FormFewest}
+use Rattle.demands.specs.Further.{FreshPasses, PathsShorten, ChoicePartition, PublishedChoiceSets, NeverStuck, Firings, none-fired, one-fired, Folds, RunFolds, OneEncoding, FormNoLonger, FormTwice, FormFewest}
 use Rattle.demands.proofs.Checked.{accepted-reply, some-scratch, enough-scratch}
 use Rattle.demands.proofs.Demand3.{made-form, size-form}
 
@@ -69,7 +71,29 @@ choice-partition net p = record {
   transitive = choice-trans (petriNet net);
   source = some-source net (net-judged net .accepts .1 p);
   sources = choice-source (petriNet net);
+  alike = choice-takes (petriNet net);
+  closed = choice-closed (petriNet net);
+  alone = choice-alone (petriNet net);
+  unarbitrated = λ c t u l. choice-free (petriNet net) t u (c t l);
 }
+
+pub published-choice-sets : PublishedChoiceSets
+published-choice-sets net p =
+    let N = petriNet net in
+    let (s, l, h) = some-source net (net-judged net .accepts .1 p) in
+    record {
+      exactly = λ C. (λ f. let (t, x) = set-some N s l C f in (t, x .0, set-class N C f t x), λ (t, m, e). choice-set N C t m e);
+      together = choice-fcs N;
+      some = set-some N s l;
+      covers = λ t m. choice-fcs N t t m m .0 (choice-refl N t);
+      apart = λ C D f g t x y u m.
+          let (a, b) = set-class N C f t x u m in
+          let (c, d) = set-class N D g t y u m in
+          iff→eq (C u) (D u) (λ e. d (a e)) (λ e. b (c e));
+      sources = λ C e. choice-set N C s l (λ u m.
+          let (a, b) = choice-source N s u h in
+          (λ x. b (e u m .0 x), λ k. e u m .1 (a k)));
+    }
 
 pub never-stuck : NeverStuck
 never-stuck net sheet σ h a = let r = accepted-reply net sheet h in goes-on (petriNet net) (said net sheet) (closed net sheet r) refl (accepts net sheet r .schedule) σ a

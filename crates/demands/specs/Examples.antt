@@ -64,12 +64,19 @@ Starred = AllHold starred
 
 -- ---- further rows
 
--- §14.1, with two places, so that a count key is told from its like by place, and the same with a wrong last word; and a key at the limit of §3.4
+-- §14.7: transitions 1 and 2 take 1 each from the place that 0 fills, and 3 takes 2 from it
+abbrev pub netArbitrated : List ℕ
+netArbitrated = 1 ∷ 4 ∷ 4 ∷ 1 ∷ 2 ∷ 3 ∷ 4 ∷ 1 ∷ 1 ∷ 2 ∷ 1 ∷ []
+
+-- §14.1, with two places, so that a count key is told from its like by place, and the same with a wrong last word; a key at the limit of §3.4; and §14.7, where
+-- node 1 offers 1 and 2, and where it offers 1 alone
 abbrev pub further : List Row
 further =
     row (2 ∷ 3 ∷ 4 ∷ 2 ∷ 5 ∷ 6 ∷ 9 ∷ 1 ∷ 2 ∷ 1 ∷ 2 ∷ []) (3 ∷ 5 ∷ 0 ∷ 4 ∷ 8 ∷ 11 ∷ 14 ∷ 1 ∷ 2 ∷ 0 ∷ 1 ∷ 2 ∷ []) (0 ∷ 0 ∷ 0 ∷ 3 ∷ 3 ∷ 1 ∷ []) (3 ∷ 5 ∷ 0 ∷ 4 ∷ 8 ∷ 11 ∷ 14 ∷ 1 ∷ 2 ∷ 0 ∷ 1 ∷ 2 ∷ [])
     ∷ row (2 ∷ 3 ∷ 4 ∷ 2 ∷ 5 ∷ 6 ∷ 9 ∷ 1 ∷ 2 ∷ 1 ∷ 2 ∷ []) (3 ∷ 5 ∷ 0 ∷ 4 ∷ 8 ∷ 11 ∷ 14 ∷ 1 ∷ 2 ∷ 0 ∷ 1 ∷ 1 ∷ []) (15 ∷ 1 ∷ 1 ∷ 0 ∷ 0 ∷ 0 ∷ []) []
     ∷ row netA (2 ∷ 3 ∷ 0 ∷ 3 ∷ 6 ∷ 1 ∷ 0 ∷ 1 ∷ []) (8 ∷ 1 ∷ 2 ∷ 0 ∷ 0 ∷ 0 ∷ []) []
+    ∷ row netArbitrated (2 ∷ 4 ∷ 0 ∷ 5 ∷ 6 ∷ 9 ∷ 1 ∷ 0 ∷ 0 ∷ 1 ∷ []) (12 ∷ 3 ∷ 1 ∷ 0 ∷ 0 ∷ 0 ∷ []) []
+    ∷ row netArbitrated (2 ∷ 3 ∷ 0 ∷ 5 ∷ 9 ∷ 1 ∷ 0 ∷ 1 ∷ []) (0 ∷ 0 ∷ 0 ∷ 2 ∷ 2 ∷ 1 ∷ []) (2 ∷ 3 ∷ 0 ∷ 5 ∷ 9 ∷ 1 ∷ 0 ∷ 1 ∷ [])
     ∷ []
 
 abbrev pub FurtherRows : Type 0

@@ -3,15 +3,16 @@ use Prim.Native.Nat.{ℕ, _≤_, _<_}
 use mathlib.Core.Path.{_≡_}
 use mathlib.Core.Logic.{_↔_}
 use mathlib.Core.List.{List, [], _∷_}
-use mathlib.Core.Bool.{true}
+use mathlib.Core.Bool.{Bool, true}
 use lib.ListN.{length, getD}
 use Rattle.automaton.specs.Automaton.{Automaton, allows, SameLists}
 use Rattle.refusal.specs.Checks.{AllPass}
 use Rattle.refusal.specs.declared.Verdict.{Verdict}
 use Rattle.net.specs.Checks.{IsNet}
-use Rattle.sequential.specs.Petri.{PetriNet, petriNet, Source, SameChoice}
+use Rattle.sequential.specs.Petri.{PetriNet, petriNet, Source, TakesSame, SharesPlace, FreeChoice, SameChoice}
 use Rattle.sequential.specs.Words.{graph}
 use Rattle.sequential.specs.Schedule.{Offers}
+use Rattle.sequential.specs.Published.{Member, FreeChoiceSet, InFCS, ChoiceSetOf}
 use Rattle.sequential.specs.Runs.{GoesOn, ShortWhereAny}
 use Rattle.sequential.specs.Checks.{WordsPass}
 use Rattle.call.specs.Demands.{number, own}
@@ -40,9 +41,29 @@ pub record Partition (N : PetriNet) : Type 0 where
   pub transitive : (t u v : ℕ) → SameChoice N t u → SameChoice N u v → SameChoice N t v
   pub source : (t : ℕ) × (t < N .transitions) × Source N t
   pub sources : (t u : ℕ) → Source N t → SameChoice N t u ↔ Source N u
+  -- members take the same, a set that is not alone has whatever draws on a place of its own, and where those that take the same are not closed each stands alone: §5.1
+  pub alike : (t u : ℕ) → SameChoice N t u → TakesSame N t u
+  pub closed : (t u v : ℕ) → SameChoice N t u → (t ≡ u → ⊥) → v < N .transitions → SharesPlace N t v → SameChoice N t v
+  pub alone : (t u : ℕ) → (FreeChoice N t → ⊥) → SameChoice N t u → t ≡ u
+  -- a net without arbitration keeps the sets that it had before request #103: §5.5
+  pub unarbitrated : ((t : ℕ) → t < N .transitions → FreeChoice N t) → (t u : ℕ) → t < N .transitions → SameChoice N t u ↔ TakesSame N t u
 
 abbrev pub ChoicePartition : Type 0
 ChoicePartition = (net : List ℕ) → IsNet net → Partition (petriNet net)
+
+-- the choice sets are the published free-choice sets: §5.5
+pub record FreeChoiceSets (N : PetriNet) : Type 0 where
+  pub exactly : (C : ℕ → Bool) → FreeChoiceSet N C ↔ ((t : ℕ) × (t < N .transitions) × ChoiceSetOf N t C)
+  pub together : (t u : ℕ) → t < N .transitions → u < N .transitions → SameChoice N t u ↔ InFCS N t u
+  -- source document 001, Proposition 1: none is empty, each transition is in one, and two that have a member in common are the same
+  pub some : (C : ℕ → Bool) → FreeChoiceSet N C → (t : ℕ) × Member N C t
+  pub covers : (t : ℕ) → t < N .transitions → InFCS N t t
+  pub apart : (C D : ℕ → Bool) → FreeChoiceSet N C → FreeChoiceSet N D → (t : ℕ) → Member N C t → Member N D t → (u : ℕ) → u < N .transitions → C u ≡ D u
+  -- and the sources are one
+  pub sources : (C : ℕ → Bool) → ((t : ℕ) → t < N .transitions → (C t ≡ true) ↔ Source N t) → FreeChoiceSet N C
+
+abbrev pub PublishedChoiceSets : Type 0
+PublishedChoiceSets = (net : List ℕ) → IsNet net → FreeChoiceSets (petriNet net)
 
 -- every run goes on by the members of one choice set, and by nothing else: §13.3
 abbrev pub NeverStuck : Type 0

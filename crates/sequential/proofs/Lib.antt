@@ -1,6 +1,7 @@
 pub mod Words
 pub mod Entries
 pub mod Choices
+pub mod FreeChoice
 pub mod Clauses
 pub mod Faults
 pub mod Accepted

@@ -9,8 +9,9 @@ use Rattle.automaton.specs.Reach.{Reachable}
 use Rattle.automaton.proofs.Automaton.{arc-transition, follow-first, follow-lands}
 use Rattle.sequential.specs.Petri.{PetriNet, initial, fireAll, FiresEnabled, Source, SameChoice}
 use Rattle.sequential.specs.Schedule.{Offers, Await, OneChoiceSet, IsSchedule}
-use Rattle.sequential.specs.Published.{SequentialSchedule}
+use Rattle.sequential.specs.Published.{InFCS, SequentialSchedule}
 use Rattle.sequential.proofs.Choices.{choice-sym, choice-trans, choice-source}
+use Rattle.sequential.proofs.FreeChoice.{choice-fcs}
 use Rattle.sequential.proofs.Runs.{arc-below, from-root}
 
 -- ---- a schedule in the published sense
@@ -23,12 +24,14 @@ module _ (N : PetriNet) (A : Automaton) (c : Closed A) (same : A .transitions �
       let (f, h) = from-root N A c same s σ n e in
       (σ, f, h)
 
-  -- whichever member of the choice set is offered, the others are those that take as it does
-  one-choice : (n t u : ℕ) → n < A .nodes → u < N .transitions → Offers N A n t → Offers N A n u ↔ SameChoice N t u
+  -- whichever member of the choice set is offered, the others are those of its own
+  one-choice : (n t u : ℕ) → n < A .nodes → u < N .transitions → Offers N A n t → Offers N A n u ↔ InFCS N t u
   one-choice n t u l k (m, e) =
       let (v, j, h) = s .choices n l in
-      let q : SameChoice N v t = h t (arc-below N A c same s n t m e) .0 (m, e) in
-      (λ o. choice-trans N t v u (choice-sym N v t q) (h u k .0 o), λ x. h u k .1 (choice-trans N v t u q x))
+      let i = arc-below N A c same s n t m e in
+      let q : SameChoice N v t = h t i .0 (m, e) in
+      let (f, g) = choice-fcs N t u i k in
+      (λ o. f (choice-trans N t v u (choice-sym N v t q) (h u k .0 o)), λ x. h u k .1 (choice-trans N v t u q (g x)))
 
   pub sequential : SequentialSchedule N A
   sequential = record {
@@ -52,17 +55,23 @@ module _ (N : PetriNet) (A : Automaton) (c : Closed A) (same : A .transitions �
   below : (n t m : ℕ) → A .arc n t ≡ some m → t < N .transitions
   below n t m e = rw same at (arc-transition A c n t m e)
 
+  chosen : (n t u : ℕ) → n < A .nodes → u < N .transitions → Offers N A n t → Offers N A n u ↔ SameChoice N t u
+  chosen n t u l j (m, e) =
+      let (f, g) = q .chooses n t u l j (m, e) in
+      let (h, k) = choice-fcs N t u (below n t m e) j in
+      (λ x. k (f x), λ y. g (h y))
+
   choices : (n : ℕ) → n < A .nodes → OneChoiceSet N A n
   choices n l =
       let (t, k, s) = some-source in
       let (σ, m, e, o) = q .serves n t l k s in
       let (u, (x, a)) = offers-first σ n m t e o in
-      (u, below n u x a, λ v j. q .chooses n u v l j (x, a))
+      (u, below n u x a, λ v j. chosen n u v l j (x, a))
 
   -- a node that offers a source offers exactly the sources
   awaits : (n t : ℕ) → n < A .nodes → Source N t → Offers N A n t → Await N A n
   awaits n t l s o u j =
-      let (f, g) = q .chooses n t u l j o in
+      let (f, g) = chosen n t u l j o in
       let (h, k) = choice-source N t u s in
       (λ x. h (f x), λ y. g (k y))
 

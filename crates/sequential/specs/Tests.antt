@@ -2,9 +2,9 @@
 -- That each decides its clause is proved in proofs/Clauses.
 use Prim.Native.Nat.{ℕ}
 use mathlib.Core.List.{List}
-use mathlib.Core.Bool.{Bool, Bool·beq}
+use mathlib.Core.Bool.{Bool, not, _&&_, _||_, Bool·beq}
 use lib.ListN.{getD}
-use lib.Dec.{leb, eqb}
+use lib.Dec.{ltb, leb, eqb}
 use Rattle.scan.specs.Scan.{found, all, any, least}
 use Rattle.automaton.specs.Automaton.{Automaton}
 use Rattle.sequential.specs.Petri.{PetriNet}
@@ -28,9 +28,24 @@ module _ (N : PetriNet) where
   unfoldable pub takesAlike : ℕ → ℕ → ℕ → Bool
   takesAlike t u p = eqb (N .taken t p) (N .taken u p)
 
+  unfoldable pub takesSame : ℕ → ℕ → Bool
+  takesSame t u = all (takesAlike t u) (N .places)
+
+  unfoldable pub bothDraw : ℕ → ℕ → ℕ → Bool
+  bothDraw t u p = ltb 0 (N .taken t p) && ltb 0 (N .taken u p)
+
+  unfoldable pub sharesPlace : ℕ → ℕ → Bool
+  sharesPlace t u = any (bothDraw t u) (N .places)
+
+  unfoldable pub sharesAlike : ℕ → ℕ → Bool
+  sharesAlike t u = not (sharesPlace t u) || takesSame t u
+
+  unfoldable pub freeChoice : ℕ → Bool
+  freeChoice t = all (sharesAlike t) (N .transitions)
+
   -- §5.1
   unfoldable pub sameChoice : ℕ → ℕ → Bool
-  sameChoice t u = all (takesAlike t u) (N .places)
+  sameChoice t u = eqb t u || (takesSame t u && freeChoice t)
 
 module _ (N : PetriNet) (A : Automaton) where
   -- §3.7

@@ -36,9 +36,12 @@ pub fn net(rng: &mut Rng) -> Net {
     }
 }
 
-/// The words of a net and of a sheet, made from an accepted pair: as they are, with one to three
-/// damages, or one of the two replaced.
+/// The words of a net and of a sheet, made from an accepted pair: as they are, with a sheet that
+/// tears no set of those that take the same, with one to three damages, or one of the two replaced.
 pub fn words(rng: &mut Rng, schedule: &Schedule) -> (Vec<u32>, Vec<u32>) {
+    if schedule.net.is_arbitrated() && rng.chance(40) {
+        return united(rng, schedule);
+    }
     match rng.below(20) {
         0..=7 => schedule.words(),
         8..=13 => broken_clauses(rng, schedule),
@@ -65,6 +68,12 @@ fn broken_clauses(rng: &mut Rng, schedule: &Schedule) -> (Vec<u32>, Vec<u32>) {
         damage::break_clause(rng, &mut broken);
     }
     broken.words()
+}
+
+/// The net with a sheet whose nodes offer all that take the same, though these may be no choice set.
+fn united(rng: &mut Rng, schedule: &Schedule) -> (Vec<u32>, Vec<u32>) {
+    let (net, sheet) = schedule.words();
+    (net, schedules::united_sheet(rng, &schedule.net).map_or(sheet, |united| united.words()))
 }
 
 /// An accepted pair of which one has given way to words at the limits, to garbage, to a net found

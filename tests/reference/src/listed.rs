@@ -1,4 +1,4 @@
-//! The worked examples, §14.2 to §14.6, with their answers, and logs whose replay is told by hand.
+//! The worked examples, §14.2 to §14.7, with their answers, and logs whose replay is told by hand.
 
 use crate::generate::rng::Rng;
 use crate::generate::schedules::{crowded, nine_nodes, ring};
@@ -25,8 +25,18 @@ const STARRED: [(&str, &str, [u64; 6]); 13] = [
     ("1 2 3 1 2 4 1 1 16777216", "2 4 0 3 4 5 1 0 16777216 16777216", [15, 1, 0, 0, 0, 0]),
 ];
 
+/// §14.7. Transition 3 takes more from the place of 1 and 2, or the same; in the last two it takes
+/// from another place too, or from that one alone.
+const ARBITRATED: [(&str, &str, [u64; 6]); 5] = [
+    ("1 4 4 1 2 3 4 1 1 2 1", "2 4 0 5 6 9 1 0 0 1", [12, 3, 1, 0, 0, 0]),
+    ("1 4 4 1 2 3 4 1 1 2 1", "2 3 0 5 9 1 0 1", [0, 0, 0, 2, 2, 1]),
+    ("1 4 4 1 2 3 4 1 1 1 1", "2 5 0 5 6 7 9 1 0 0 0 1", [0, 0, 0, 2, 4, 1]),
+    ("2 4 6 2 4 6 7 8 17 1 1 1 1 1 1", "2 6 0 5 6 9 10 11 1 0 0 1 1 1", [12, 3, 1, 0, 0, 0]),
+    ("2 4 5 2 4 7 8 17 1 1 1 1 1", "2 6 0 5 6 9 10 11 1 0 0 1 1 1", [0, 0, 0, 2, 3, 1]),
+];
+
 pub fn check(tally: &mut Tally) {
-    for (net, sheet, should) in STARRED {
+    for (net, sheet, should) in STARRED.into_iter().chain(ARBITRATED) {
         let is = sheet_check(&text_words(net), &text_words(sheet), SCRATCH);
         tally.same(&format!("net {net}, sheet {sheet}"), is, should);
     }

@@ -3,6 +3,7 @@
 //! `selftest` and `program` end with the line `N passed, M failed`; the exit status is 0 only where M is
 //! 0, and elsewhere where nothing went wrong.
 
+mod arbitration;
 mod call;
 mod generate;
 mod listed;
@@ -13,6 +14,7 @@ mod selftest;
 mod tally;
 mod text;
 
+use arbitration::Arbitration;
 use call::{Call, Kind};
 use generate::rng::Rng;
 use generate::schedules::Schedule;
@@ -28,7 +30,8 @@ const USAGE: &str = "usage: reference selftest
        reference file DIR
        reference cases SEED COUNT
        reference pairs SEED COUNT
-       reference play < CASES";
+       reference play < CASES
+       reference arbitrated < CASES";
 
 fn main() -> ExitCode {
     let arguments: Vec<String> = std::env::args().skip(1).collect();
@@ -36,6 +39,7 @@ fn main() -> ExitCode {
     let mut tally = Tally::default();
     match arguments.as_slice() {
         ["play"] => return written(play),
+        ["arbitrated"] => return written(arbitrated),
         ["file", folder] => return written(|| Ok(program::printed_in(Path::new(folder)))),
         ["cases", seed, count] => {
             if let (Ok(seed), Ok(count)) = (seed.parse(), count.parse()) {
@@ -85,13 +89,28 @@ fn written(text: impl FnOnce() -> std::io::Result<String>) -> ExitCode {
     }
 }
 
-/// A line for each case of standard input.
-fn play() -> std::io::Result<String> {
+/// The cases of standard input.
+fn given() -> std::io::Result<Vec<Case>> {
     let mut text = String::new();
     std::io::stdin().read_to_string(&mut text)?;
     let mut numbers = Numbers::new(&text);
-    let answers = std::iter::from_fn(|| Case::read(&mut numbers));
-    Ok(answers.map(|case| case.answer() + "\n").collect())
+    Ok(std::iter::from_fn(|| Case::read(&mut numbers)).collect())
+}
+
+/// A line for each case of standard input.
+fn play() -> std::io::Result<String> {
+    Ok(given()?.iter().map(|case| case.answer() + "\n").collect())
+}
+
+/// On how many cases of standard input arbitration tells.
+fn arbitrated() -> std::io::Result<String> {
+    let mut met = Arbitration::default();
+    for case in given()? {
+        if let Case::Call(call) = case {
+            met.count(&call, &call.put());
+        }
+    }
+    Ok(met.line() + "\n")
 }
 
 /// Generated cases, one to a line.

@@ -133,7 +133,8 @@ impl Schedule {
         self.sheet.counts.iter_mut().for_each(|counts| counts.push(tokens));
     }
 
-    /// A further transition, of a choice set that no node offers; some put back what they take.
+    /// A further transition that no node offers and that takes otherwise than all others; some put
+    /// back what they take.
     fn add_transition(&mut self, rng: &mut Rng) {
         let Net { taken, put, start } = &mut self.net;
         let mut row = vec![0; start.len()];
@@ -159,15 +160,29 @@ impl Schedule {
             }
         };
         let (places, transitions) = (goal(self.net.places()), goal(self.net.transitions()));
-        while padded.net.places() < places {
+        for _ in padded.net.places()..places {
             let full = padded.entries() + padded.sheet.nodes() > MAX_ENTRIES as usize;
             let tokens = if full { 0 } else { rng.pick(&[0, 0, 1, 5, MAX_WEIGHT]) };
-            padded.add_place(rng, tokens);
+            padded.grow(|grown| grown.add_place(rng, tokens));
         }
-        while padded.net.transitions() < transitions {
-            padded.add_transition(rng);
+        for _ in padded.net.transitions()..transitions {
+            padded.grow(|grown| grown.add_transition(rng));
         }
         padded
+    }
+
+    /// A change that adds to the net, undone where the transitions that it had would be in other
+    /// choice sets.
+    fn grow(&mut self, change: impl FnOnce(&mut Schedule)) {
+        let transitions = self.net.transitions();
+        let sets = |net: &Net| -> Vec<Vec<usize>> {
+            (0..transitions).map(|t| net.choice_set(t)).collect()
+        };
+        let mut grown = self.clone();
+        change(&mut grown);
+        if sets(&grown.net) == sets(&self.net) {
+            *self = grown;
+        }
     }
 
     /// Places and transitions in another order.

@@ -163,8 +163,26 @@ impl Net {
         (0..self.transitions()).filter(|&t| self.is_source(t)).collect()
     }
 
-    /// The choice set of t: §5.1.
-    pub fn choice_set(&self, t: usize) -> Vec<usize> {
+    /// The transitions that take the same as t from every place.
+    pub fn all_alike(&self, t: usize) -> Vec<usize> {
         (0..self.transitions()).filter(|&u| self.taken[u] == self.taken[t]).collect()
+    }
+
+    /// Whether some that take the same are no choice set.
+    pub fn is_arbitrated(&self) -> bool {
+        (0..self.transitions()).any(|t| self.choice_set(t) != self.all_alike(t))
+    }
+
+    /// The choice set of t, §5.1: all that take the same as t, if every transition that draws on a
+    /// place which they draw on is one of them; if not, t alone.
+    pub fn choice_set(&self, t: usize) -> Vec<usize> {
+        let alike = self.all_alike(t);
+        let places: Vec<usize> = (0..self.places()).filter(|&p| self.taken[t][p] > 0).collect();
+        let draws = |u: &usize| places.iter().any(|&p| self.taken[*u][p] > 0);
+        if (0..self.transitions()).filter(draws).all(|u| alike.contains(&u)) {
+            alike
+        } else {
+            vec![t]
+        }
     }
 }

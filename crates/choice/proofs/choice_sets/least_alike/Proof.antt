@@ -1,4 +1,4 @@
--- `choice::choice_sets::choice_of` meets its contract: no transition before the counter is of t's choice set.
+-- `choice::choice_sets::least_alike` meets its contract: no transition before the counter takes the same as t.
 use Prim.Native.Nat.{_-_, _≤_}
 use native.Mathlib.Omega.{arith}
 use mathlib.Core.Bool.{false}
@@ -8,15 +8,14 @@ use Rattle.scan.specs.Scan.{any}
 use Rattle.scan.proofs.Every.{any-none-yet, any-more}
 use Rattle.scan.proofs.Least.{least-found, least-none}
 use Rattle.automaton.specs.Equivalence.{inClass, leaderBy}
-use Rattle.sequential.specs.Tests.{sameChoice}
+use Rattle.sequential.specs.Tests.{takesSame}
 use Rattle.choice.specs.Rows.{netByRows}
-use Rattle.choice.specs.Choices.{choiceOf}
 use Rattle.choice.proofs.Choices.{alike-told}
-use Rattle.choice.proofs.choice_sets.choice_of.Statement.{statement}
-use Rattle.choice.proofs.choice_sets.choice_of.Tie as tie
+use Rattle.choice.proofs.choice_sets.least_alike.Statement.{statement}
+use Rattle.choice.proofs.choice_sets.least_alike.Tie as tie
 
 abbrev Inv-loop : tie.InvT-loop
-Inv-loop net t taken places u₀ u = (u ≤ t) × (any (inClass (sameChoice (netByRows net)) t) u ≡ false)
+Inv-loop net t taken places u₀ u = (u ≤ t) × (any (inClass (takesSame (netByRows net)) t) u ≡ false)
 
 abbrev μ-loop : tie.MeasureT-loop
 μ-loop net t taken places u₀ u = t - u
@@ -25,7 +24,7 @@ loop-holds : tie.Need-loop-holds Inv-loop μ-loop
 loop-holds c = (omega arith, any-none-yet _)
 
 returns : tie.Need-returns Inv-loop μ-loop
-unfolding choiceOf leaderBy inClass
+unfolding leaderBy inClass
 returns c =
     let l = c .before .before .before .before in
     sym (least-found _ _ _ (l .loop .inv .1)
@@ -42,11 +41,11 @@ loop-again c =
     )
 
 returns-2 : tie.Need-returns-2 Inv-loop μ-loop
-unfolding choiceOf leaderBy
+unfolding leaderBy
 returns-2 c = let e : (c .before .loop .u) ≡ (c .before .before .before .before .before .args .t) = omega arith in sym (least-none _ _ (rw e at (c .before .loop .inv .1)))
 
-pub choice-of-spec : {M : Type 1} → statement M
-choice-of-spec =
+pub least-alike-spec : {M : Type 1} → statement M
+least-alike-spec =
     tie.close
     (tie.spec
     Inv-loop
