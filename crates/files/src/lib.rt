@@ -147,7 +147,7 @@ fn print_accepted(
     requires { ⌜ scheduleReply (now net) (now sheet) ≡ Accepted ⌝ }
     ensures { λ r. ⌜ WordsPrinted (Passed counts) (now (net .entry)) (now (sheet .entry)) (now (form .entry)) (now (out .entry)) r (now (form .exit)) (now (out .exit)) ⌝ }
 {
-    match minimize::form_into(net, sheet, form) {
+    match minimize::form_of(net, sheet, form) {
         FormAnswer::Refused(r) => print_refusal(r, out),
         FormAnswer::Written(k) => {
             let bounds = schedule::bounds(net, sheet);

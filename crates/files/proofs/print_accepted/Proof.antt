@@ -6,35 +6,52 @@ use lib.Seq.{length-take-le}
 use borrow.Author.Needs.{needs}
 use Rattle.graph.proofs.Readable.{known}
 use Rattle.judge.proofs.Judged.{accepted-readable}
+use Rattle.minimal.proofs.Done.{words-accepted}
 use Rattle.files.proofs.Printing.{written-form, refused-form, form-fits, form-counts, too-long-printed, accepted-printed}
 use Rattle.files.proofs.print_accepted.Statement.{statement}
 use Rattle.files.proofs.print_accepted.Tie as tie
 
 array-share-prefix-bounds : tie.Need-array-share-prefix-bounds
 array-share-prefix-bounds c =
-    let k = known _ _ (accepted-readable _ _ (c .before .before .before .before .before .before .before .before .before .before .before .before .before .before .pre)) in
+    let h = c .before .before .before .before .before .before .before .before .before .before .before .before .before .before .pre in
+    let k = known _ _ (accepted-readable _ _ h) in
     let l : length (c .before .before .bounds .result) ≡ 32 = search needs in
     omega (arith, c .before .places .ensures)
 
 slice-aggregate-accepted-lines : tie.Need-slice-aggregate-accepted-lines
 slice-aggregate-accepted-lines c =
-    let k = known _ _ (accepted-readable _ _ (c .before .before .before .before .before .before .before .before .before .before .before .before .before .before .before .pre)) in
+    let h = c .before .before .before .before .before .before .before .before .before .before .before .before .before .before .before .pre in
+    let k = known _ _ (accepted-readable _ _ h) in
     let l : length (c .before .before .before .bounds .result) ≡ 32 = search needs in
     sym (length-take-le _ _ (omega (arith, c .before .before .places .ensures)))
 
 slice-reshare-prefix-accepted-lines : tie.Need-slice-reshare-prefix-accepted-lines
-slice-reshare-prefix-accepted-lines c = form-fits (written-form (c .before .before .before .before .before .before .before .before .before .before .before .before .before .before .before .pre) (c .before .before .before .before .before .before .before .before .before .form-into .ensures) _ (c .before .before .before .before .before .k .given .1))
+slice-reshare-prefix-accepted-lines c =
+    let d = c .before .before .before .before .before in
+    let e = d .before .before .before .before in
+    form-fits (written-form (words-accepted _ _ (e .before .before .before .before .before .before .pre)) (e .form-of .ensures) _ (d .k .given .1))
 
 slice-aggregate-accepted-lines-2 : tie.Need-slice-aggregate-accepted-lines-2
-slice-aggregate-accepted-lines-2 c = form-counts (written-form (c .before .before .before .before .before .before .before .before .before .before .before .before .before .before .before .before .pre) (c .before .before .before .before .before .before .before .before .before .before .form-into .ensures) _ (c .before .before .before .before .before .before .k .given .1))
+slice-aggregate-accepted-lines-2 c =
+    let d = c .before .before .before .before .before .before in
+    let e = d .before .before .before .before in
+    form-counts (written-form (words-accepted _ _ (e .before .before .before .before .before .before .pre)) (e .form-of .ensures) _ (d .k .given .1))
 
 returns : tie.Need-returns
-returns c = too-long-printed _ _ _ _ _ _ _ _ _ (refused-form (c .before .before .before .before .before .before .before .before .before .before .before .before .before .before .before .pre) (c .before .before .before .before .before .before .before .before .before .form-into .ensures) _ (c .before .before .before .before .before .r .given .1)) (c .before .before .print-refusal .ensures)
+returns c =
+    let d = c .before .before .before .before .before in
+    let e = d .before .before .before .before in
+    too-long-printed _ _ _ _ _ _ _ _ _ (refused-form (words-accepted _ _ (e .before .before .before .before .before .before .pre)) (e .form-of .ensures) _ (d .r .given .1))
+    (c .before .before .print-refusal .ensures)
 
 returns-2 : tie.Need-returns-2
 returns-2 c =
-    accepted-printed _ _ _ _ _ _ _ _ _ _ _ (written-form (c .before .before .before .before .before .before .before .before .before .before .before .before .before .before .before .before .before .before .before .pre) (c .before .before .before .before .before .before .before .before .before .before .before .before .before .form-into .ensures) _ (c .before .before .before .before .before .before .before .before .before .k .given .1)) (accepted-readable _ _ (c .before .before .before .before .before .before .before .before .before .before .before .before .before .before .before .before .before .before .before .pre))
-    (c .before .before .before .before .before .before .places .ensures) (c .before .before .before .before .before .before .before .bounds .ensures) (c .before .before .accepted-lines .ensures)
+    let d = c .before .before .before .before .before .before .before .before .before in
+    let e = d .before .before .before .before in
+    let h = e .before .before .before .before .before .before .pre in
+    accepted-printed _ _ _ _ _ _ _ _ _ _ _ (written-form (words-accepted _ _ h) (e .form-of .ensures) _ (d .k .given .1)) (accepted-readable _ _ h)
+    (c .before .before .before .before .before .before .places .ensures) (c .before .before .before .before .before .before .before .bounds .ensures)
+    (c .before .before .accepted-lines .ensures)
 
 pub print-accepted-spec : {M : Type 1} → statement M
 print-accepted-spec =
