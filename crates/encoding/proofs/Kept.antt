@@ -6,10 +6,13 @@ use mathlib.Core.Path.{_≡_, refl, sym, ap, _∙_}
 use mathlib.Core.Bool.{Bool, true, false, _&&_}
 use mathlib.Core.List.{List}
 use mathlib.Core.Option.{Option, none, some, Option·map}
-use lib.ListN.{length, getD, List·getD-eq-default}
+use mathlib.Core.Logic.{⊎-elim}
+use lib.ListN.{length, getD, set, replicate, length-set, length-replicate, List·getD-eq-default}
+use lib.Seq.{getD-set-other}
 use lib.Dec.{ltb}
 use borrow.Author.Tests.{le-ltb}
-use Rattle.scan.proofs.Tabulate.{tabulate-at}
+use Rattle.scan.proofs.Tests.{lt-suc-cases}
+use Rattle.scan.proofs.Tabulate.{tabulate-at, stored-more}
 use Rattle.automaton.specs.Automaton.{Automaton}
 use Rattle.table.specs.Row.{entryCode}
 use Rattle.sequential.specs.Petri.{PetriNet, petriNet}
@@ -53,6 +56,36 @@ cell-code sheet numbers (some i) = rw (add-one i) refl
 and-false : (b : Bool) → (b && false) ≡ false
 and-false true = refl
 and-false false = refl
+
+-- ---- the cells as a loop fills them: those up to t are there, the others 0
+
+pub record Filled (f : ℕ → ℕ) (t : ℕ) (cells : List ℕ) : Type 0 where
+  pub size : length cells ≡ 32
+  pub below : (j : ℕ) → j < t → getD cells j 0 ≡ f j
+  pub above : (j : ℕ) → t ≤ j → getD cells j 0 ≡ 0
+
+pub filled-none : (f : ℕ → ℕ) → Filled f 0 (replicate 32 0)
+filled-none f = record { size = length-replicate {A = ℕ} 32 0; below = λ j l. absurd (omega arith); above = λ j l. zeros 32 j }
+  where
+    zeros : (n j : ℕ) → getD {A = ℕ} (replicate n 0) j 0 ≡ 0
+    zeros zero j = refl
+    zeros (suc n) zero = refl
+    zeros (suc n) (suc j) = zeros n j
+
+module _ {f : ℕ → ℕ} {t : ℕ} {cells : List ℕ} (h : Filled f t cells) where
+  pub filled-more : (v : ℕ) → t < 32 → v ≡ f t → Filled f (t + 1) (set cells t v)
+  filled-more v l e = record {
+    size = simp length-set (h .size);
+    below = stored-more f cells t v (h .below) (omega (arith, h .size)) e;
+    above = λ j m. getD-set-other cells t j v 0 (λ q. omega (arith, q)) ∙ h .above j (omega arith);
+  }
+
+  pub filled-skip : 0 ≡ f t → Filled f (t + 1) cells
+  filled-skip e = record {
+    size = h .size;
+    below = λ j l. ⊎-elim (λ (q : j ≡ t). rw q (h .above t (omega arith) ∙ e)) (λ (m : j < t). h .below j m) (lt-suc-cases (rw (add-one t) at l));
+    above = λ j m. h .above j (omega arith);
+  }
 
 -- ---- the rows
 

@@ -89,11 +89,9 @@ fn arc_to(node: u8) -> u32
 
 // The same for an arc that is told as 1 plus its entry, with the number that a table has for the node.
 fn arc_cell(sheet: &[u32], numbers: [u8; 128], told: usize) -> u32
+    requires { ⌜ 0 < told ⌝ }
     ensures { λ r. ⌜ r ≡ arcCell (now (sheet .entry)) numbers told ⌝ }
 {
-    if told == 0 {
-        return 0;
-    }
     let target = graph::value(sheet, told - 1) as usize;
     if 128 <= target {
         return arc_to(0);
@@ -109,8 +107,12 @@ pub fn arc_cells(net: &[u32], sheet: &[u32], numbers: [u8; 128], n: u32) -> [u32
     let mut cells = [0u32; 32];
     let mut t = 0;
     while t < 32 {
-        cells[t] = arc_cell(sheet, numbers, told[t]);
+        let at = t;
+        let entry = told[at];
         t += 1;
+        if 0 < entry {
+            cells[at] = arc_cell(sheet, numbers, entry);
+        }
     }
     cells
 }
