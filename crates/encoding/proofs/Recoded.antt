@@ -56,7 +56,9 @@ module _ (N : PetriNet) (sheet : List ℕ) (T : 0 < N .transitions) (P : 0 < N .
       above = unfold arcKeys in h
 
       below : entryKey sheet i < nodeCount sheet * N .transitions + nodeCount sheet * N .places
-      below = let q : entryKey sheet i < nodeCount sheet * (N .transitions + N .places) = unfold keyLimit entryKey in (w .arcs .keys i l .low) in rw (mul-add (nodeCount sheet) (N .transitions) (N .places)) at q
+      below =
+          let q : entryKey sheet i < nodeCount sheet * (N .transitions + N .places) = unfold keyLimit entryKey in (w .arcs .keys i l .low) in
+          rw (mul-add (nodeCount sheet) (N .transitions) (N .places)) at q
 
       is-node : j / N .places < nodeCount sheet
       is-node = div-lt-iff-lt-mul P .1 (omega (arith, above, below))

@@ -166,7 +166,8 @@ refused-short : (a b : Bool) (net sheet : List ℕ) (r : Refusal) → length net
 unfolding readReply scheduleReply
 refused-short a b net sheet r l e =
     ⊎-elim (tail-short a 1 r (omega arith))
-    (λ (p, e). ⊎-elim (λ n. fails (rw n)) (λ (q, e). ⊎-elim (tail-short b 6 r (omega arith)) (λ (t, e). fails e) (then-cases (tailReply b 6) (scheduleReply net sheet) r e)) (then-cases (netReply net) _ r e))
+    (λ (p, e). ⊎-elim (λ n. fails (rw n))
+    (λ (q, e). ⊎-elim (tail-short b 6 r (omega arith)) (λ (t, e). fails e) (then-cases (tailReply b 6) (scheduleReply net sheet) r e)) (then-cases (netReply net) _ r e))
     (then-cases (tailReply a 1) _ r e)
   where
     fails : scheduleReply net sheet ≡ Refused r → ShortRefusal r

@@ -52,7 +52,8 @@ module _ (net sheet : List ℕ) (r : ArcsReadable net sheet) (n t : ℕ) where
   by-key l =
       let w = r .holds in
       let m : n ≤ 128 = omega (arith, r .sizes .few-nodes) in
-      byTest (ltb t (transitionCount net)) (λ e. rw (lt-ltb n (nodeCount sheet) l, e, ← arcs-start net n m (r .sizes .few-transitions)) (look-up sheet 2 (entryCount sheet) _ (words-rise _ sheet w) (words-fit _ sheet w)))
+      byTest (ltb t (transitionCount net))
+      (λ e. rw (lt-ltb n (nodeCount sheet) l, e, ← arcs-start net n m (r .sizes .few-transitions)) (look-up sheet 2 (entryCount sheet) _ (words-rise _ sheet w) (words-fit _ sheet w)))
       (λ e. rw (lt-ltb n (nodeCount sheet) l, e))
 
   pub look-up-right : arcLookUp net sheet n t ≡ foundOf (arcEntry (petriNet net) sheet n t)

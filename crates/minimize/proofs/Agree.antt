@@ -18,18 +18,20 @@ use Rattle.table.specs.Table.{keyAt, Rising}
 use Rattle.table.proofs.Table.{entry-some}
 use Rattle.table.proofs.Bisection.{LowerBound, lower-bound, lower-bound-entry}
 use Rattle.table.proofs.Next.{next-hit, next-miss}
-use Rattle.automaton.specs.Equivalence.{sameClass, equalLabels, equalArcs, agree, sameIn}
+use Rattle.automaton.specs.Equivalence.{equalLabels, equalArcs, agree, sameIn}
 use Rattle.automaton.proofs.Same.{equalLabels-in, equalLabels-out}
 use Rattle.sequential.specs.Petri.{PetriNet, petriNet}
 use Rattle.sequential.specs.Words.{nodeCount, entryCount, entryKey, entryValue, entryWithKey, arcKeys, arcEntry, arc, countAt, graph}
 use Rattle.sequential.specs.Known.{WordsHold}
-use Rattle.sequential.proofs.Words.{words-rise}
+use Rattle.sequential.proofs.Words.{words-rise, words-fit}
 use Rattle.sequential.proofs.Entries.{marking-node, row-lt}
 use Rattle.graph.specs.Readable.{Readable}
-use Rattle.graph.proofs.Readable.{words}
+use Rattle.graph.proofs.Readable.{known, words}
+use Rattle.graph.proofs.Starts.{arcs-start, arcs-start-low, counts-start, counts-start-low}
 use Rattle.minimize.specs.Tables.{classIn}
-use Rattle.minimize.specs.Agree.{hasKey, keyValue, valuesAgree, keysAgree, Valued, Row, Rows, rowStart, Laid, RowStarts}
-use Rattle.minimize.proofs.Known.{node-low, arc-key-low, count-key-low}
+use Rattle.minimize.specs.Agree.{hasKey, keyValue, valuesAgree, keysAgree, Valued, Row, Rows, rowKey, rowWidth, rowStart, RowsOf}
+use Rattle.minimize.specs.declared.classes.NodeRows.{NodeRows}
+use Rattle.minimize.specs.Leaders.{rowsAlike}
 
 -- ---- one pointer
 
@@ -139,6 +141,10 @@ module _ {sheet classes : List ℕ} {counts : Bool} {width a b i j : ℕ} (rows 
 
 -- ---- the rows of two nodes
 
+-- rows of a kind are rows of their own kind
+pub own-kind : {net sheet : List ℕ} {counts : Bool} {rows : NodeRows} → RowsOf net sheet counts rows → RowsOf net sheet (rows .counts) rows
+own-kind h = record { kind = refl; wide = rw (h .kind) (h .wide); start = rw (h .kind) (h .start) }
+
 labels-all : (f g : ℕ → ℕ) (k : ℕ) → equalLabels (tabulate f k) (tabulate g k) ≡ all (λ p. eqb (f p) (g p)) k
 labels-all f g k =
     iff→eq (equalLabels (tabulate f k) (tabulate g k)) (all (λ p. eqb (f p) (g p)) k)
@@ -161,80 +167,76 @@ module _ {net sheet : List ℕ} (readable : Readable net sheet) where
   w : WordsHold N sheet
   w = words net sheet readable
 
-  pub rows : {classes : List ℕ} {counts : Bool} {width a b i j : ℕ} → Row sheet classes counts width a i → Row sheet classes counts width b j
-      → Rows sheet classes counts width a b i j
-  rows l r = record { whole = w .arcs .shape .whole; rising = words-rise N sheet (w .arcs); left = l; right = r }
+  -- ---- the first key of a row, and where the row starts
 
-  pub laid : {base width : ℕ} → base ≤ 4096 → width ≤ 32 → Laid sheet base width
-  laid b l =
-      let h = w .arcs .shape in
-      record { whole = h .whole; rising = words-rise N sheet (w .arcs); few-entries = h .few-entries; few-nodes = h .few-nodes; low = b; narrow = l }
+  first-arc : {n : ℕ} → n < nodeCount sheet → rowKey net sheet false n ≡ n * N .transitions
+  unfolding rowKey
+  first-arc {n} l = let k = known net sheet readable in sym (arcs-start net n (omega (arith, k .few-nodes)) (k .few-transitions))
 
-  -- ---- arcs, with T as the code reads it
+  first-count : {n : ℕ} → n < nodeCount sheet → rowKey net sheet true n ≡ arcKeys N sheet + n * N .places
+  unfolding rowKey arcKeys
+  first-count {n} l =
+      let k = known net sheet readable in
+      sym (counts-start net (nodeCount sheet) n (omega (arith, k .few-nodes)) (k .few-places)) ∙ rw (← arcs-start net (nodeCount sheet) (k .few-nodes) (k .few-transitions)) refl
 
-  module _ (T : ℕ) (e : T ≡ N .transitions) where
-    pub arc-starts : {starts : List ℕ} → RowStarts sheet 0 T starts → RowStarts sheet 0 (N .transitions) starts
-    arc-starts h = rw (← e) h
+  row-low : (counts : Bool) (n : ℕ) → rowKey net sheet counts n + rowWidth net counts ≤ 8224
+  unfolding rowKey rowWidth
+  row-low true n = omega (arith, counts-start-low net (nodeCount sheet) n, known net sheet readable .few-places)
+  row-low false n = omega (arith, arcs-start-low net n, known net sheet readable .few-transitions)
 
-    -- an arc's target is a node
-    arc-target : (n t i : ℕ) → n < nodeCount sheet → t < T → hasKey sheet i (n * T + t) ≡ true → entryValue sheet i < nodeCount sheet
-    arc-target n t i ln l h =
-        w .values i (has-within sheet i (n * T + t) h) .target
-        (unfold entryKey arcKeys in (rw (has-is sheet i (n * T + t) h, ← e) (row-lt n T t (nodeCount sheet) l ln)))
+  pub start-low : (counts : Bool) (n : ℕ) → rowStart net sheet counts n ≤ 4096
+  unfolding rowStart
+  start-low counts n =
+      omega (arith, lower-bound sheet 2 (entryCount sheet) (rowKey net sheet counts n) (words-rise N sheet (w .arcs)) (words-fit N sheet (w .arcs)) .within, w .arcs .shape .few-entries)
 
-    pub arc-row : {classes : List ℕ} {n i : ℕ} → length classes ≡ 128 → n < nodeCount sheet → i ≡ rowStart sheet 0 (N .transitions) n
-        → Row sheet classes false T (n * T) i
+  -- ---- an arc's target is a node
+
+  arc-target : (n t i : ℕ) → n < nodeCount sheet → t < N .transitions → hasKey sheet i (n * N .transitions + t) ≡ true → entryValue sheet i < nodeCount sheet
+  arc-target n t i ln l h =
+      w .values i (has-within sheet i (n * N .transitions + t) h) .target
+      (unfold entryKey arcKeys in (rw (has-is sheet i (n * N .transitions + t) h) (row-lt n (N .transitions) t (nodeCount sheet) l ln)))
+
+  row-valued : {classes : List ℕ} (counts : Bool) (n t k : ℕ) → length classes ≡ 128 → n < nodeCount sheet → t < rowWidth net counts
+      → hasKey sheet k (rowKey net sheet counts n + t) ≡ true → Valued sheet classes counts k
+  unfolding rowWidth
+  row-valued true n t k long l m h = record { within = has-within sheet k _ h; target = λ z. true-false true refl z }
+  row-valued false n t k long l m h = record {
+    within = has-within sheet k _ h;
+    target = λ _. let q = arc-target n t k l m (rw (first-arc l) at h) in omega (arith, known net sheet readable .few-nodes);
+  }
+
+  module _ {classes : List ℕ} {counts : Bool} {n m : ℕ} (long : length classes ≡ 128) (ln : n < nodeCount sheet) (lm : m < nodeCount sheet) where
+    row : {k i : ℕ} → k < nodeCount sheet → i ≡ rowStart net sheet counts k → Row sheet classes counts (rowWidth net counts) (rowKey net sheet counts k) i
     unfolding rowStart
-    arc-row {classes} {n} {i} long l p = record {
-      low = omega (arith, arc-key-low net sheet readable T e n T l (omega arith));
-      start = let z : 0 + n * N .transitions ≡ n * N .transitions = omega arith in rw e (rw z at p);
-      valued = λ t k m h. record {
-        within = has-within sheet k (n * T + t) h;
-        target = λ _. let q = node-low net sheet readable (entryValue sheet k) (arc-target n t k l m h) in omega arith;
-      };
-    }
+    row {k} l p = record { low = row-low counts k; start = p; valued = λ t x q h. row-valued counts k t x long l q h }
 
-    arc-value : (n : ℕ) → n < nodeCount sheet → (t : ℕ) → t < N .transitions → arc N sheet n t ≡ keyValue sheet (n * N .transitions + t)
-    unfolding arc arcEntry keyValue
-    arc-value n l t m = rw (lt-ltb n (nodeCount sheet) l, lt-ltb t (N .transitions) m)
+    pub rows : {i j : ℕ} → i ≡ rowStart net sheet counts n → j ≡ rowStart net sheet counts m
+        → Rows sheet classes counts (rowWidth net counts) (rowKey net sheet counts n) (rowKey net sheet counts m) i j
+    rows p q = record { whole = w .arcs .shape .whole; rising = words-rise N sheet (w .arcs); left = row ln p; right = row lm q }
 
-    pub arcs-walked : (classes : List ℕ) {n m : ℕ} → n < nodeCount sheet → m < nodeCount sheet
-        → all (keysAgree sheet (valuesAgree classes false) (n * T) (m * T)) T ≡ all (agree (graph N sheet) (sameClass (classIn classes)) n m) (N .transitions)
-    unfolding valuesAgree keysAgree agree
-    arcs-walked classes {n} {m} ln lm = rw e (all-ext _ _ (N .transitions) (λ t l. rw (arc-value n ln t l, arc-value m lm t l)))
+  -- ---- the rows walked to the end
 
-  -- ---- counts, with T and P as the code reads them
+  arc-value : (n : ℕ) → n < nodeCount sheet → (t : ℕ) → t < N .transitions → arc N sheet n t ≡ keyValue sheet (rowKey net sheet false n + t)
+  unfolding arc arcEntry keyValue
+  arc-value n l t m = rw (first-arc l, lt-ltb n (nodeCount sheet) l, lt-ltb t (N .transitions) m)
 
-  module _ (T P : ℕ) (e : T ≡ N .transitions) (f : P ≡ N .places) where
-    pub count-starts : {starts : List ℕ} → RowStarts sheet (nodeCount sheet * T) P starts → RowStarts sheet (arcKeys N sheet) (N .places) starts
-    unfolding arcKeys
-    count-starts h = rw (← e, ← f) h
+  count-some : (n p i : ℕ) → n < nodeCount sheet → entryWithKey sheet (rowKey net sheet true n + p) ≡ some i → 1 ≤ entryValue sheet i
+  unfolding entryWithKey
+  count-some n p i l z =
+      let (h, k) = entry-some sheet 2 (entryCount sheet) (rowKey net sheet true n + p) i z in
+      w .values i h .some (unfold entryKey in (rw (k, first-count l) (omega arith)))
 
-    pub count-row : {classes : List ℕ} {n i : ℕ} → n < nodeCount sheet → i ≡ rowStart sheet (arcKeys N sheet) (N .places) n
-        → Row sheet classes true P (nodeCount sheet * T + n * P) i
-    unfolding rowStart arcKeys
-    count-row {classes} {n} {i} l p = record {
-      low = (count-key-low net sheet readable T e P f n P l (omega arith));
-      start = rw (e, f) p;
-      valued = λ t k m h. record { within = has-within sheet k _ h; target = λ z. true-false true refl z };
-    }
+  count-value : (n p : ℕ) → n < nodeCount sheet → p < N .places → countAt N sheet n p ≡ foundOr 0 (entryValue sheet) (entryWithKey sheet (rowKey net sheet true n + p))
+  unfolding countAt
+  count-value n p l h = rw (first-count l, lt-ltb n (nodeCount sheet) l, lt-ltb p (N .places) h)
 
-    count-some : (key i : ℕ) → arcKeys N sheet ≤ key → entryWithKey sheet key ≡ some i → 1 ≤ entryValue sheet i
-    unfolding entryWithKey
-    count-some key i l z =
-        let (h, k) = entry-some sheet 2 (entryCount sheet) key i z in
-        w .values i h .some (unfold entryKey in (rw k l))
-
-    count-value : (n p : ℕ) → n < nodeCount sheet → p < N .places → countAt N sheet n p ≡ foundOr 0 (entryValue sheet) (entryWithKey sheet (arcKeys N sheet + n * N .places + p))
-    unfolding countAt
-    count-value n p l h = rw (lt-ltb n (nodeCount sheet) l, lt-ltb p (N .places) h)
-
-    pub counts-walked : (classes : List ℕ) {n m : ℕ} → n < nodeCount sheet → m < nodeCount sheet
-        → all (keysAgree sheet (valuesAgree classes true) (nodeCount sheet * T + n * P) (nodeCount sheet * T + m * P)) P ≡ sameIn (graph N sheet) 0 n m
-    unfolding valuesAgree sameIn keysAgree keyValue
-    counts-walked classes {n} {m} ln lm =
-        rw (e, f) (all-ext _ (λ p. eqb (countAt N sheet n p) (countAt N sheet m p)) (N .places) (λ p l. sym (rw (count-value n p ln l, count-value m p lm l)
-        (unfold arcKeys in (value-test sheet _ _ (λ i z. count-some (nodeCount sheet * N .transitions + n * N .places + p) i (unfold arcKeys in (omega arith)) z)
-        (λ i z. count-some (nodeCount sheet * N .transitions + m * N .places + p) i (unfold arcKeys in (omega arith)) z)))))
-        ∙ sym (labels-all (countAt N sheet n) (countAt N sheet m) (N .places))
-        ∙ rw (marking-node N sheet n ln, marking-node N sheet m lm))
+  pub walked : (classes : List ℕ) (counts : Bool) {n m : ℕ} → n < nodeCount sheet → m < nodeCount sheet
+      → all (keysAgree sheet (valuesAgree classes counts) (rowKey net sheet counts n) (rowKey net sheet counts m)) (rowWidth net counts)
+      ≡ rowsAlike (graph N sheet) counts (classIn classes) n m
+  unfolding valuesAgree keysAgree keyValue rowWidth rowsAlike sameIn agree
+  walked classes false {n} {m} ln lm = all-ext _ _ (N .transitions) (λ t l. unfold keyValue in (rw (arc-value n ln t l, arc-value m lm t l)))
+  walked classes true {n} {m} ln lm =
+      all-ext _ (λ p. eqb (countAt N sheet n p) (countAt N sheet m p)) (N .places) (λ p l. sym (rw (count-value n p ln l, count-value m p lm l)
+      (value-test sheet _ _ (λ i z. count-some n p i ln z) (λ i z. count-some m p i lm z))))
+      ∙ sym (labels-all (countAt N sheet n) (countAt N sheet m) (N .places))
+      ∙ rw (marking-node N sheet n ln, marking-node N sheet m lm)

@@ -1,24 +1,25 @@
 -- Tables of leaders: a loop that looks for a leader, a round that passes over nodes which do not lead, and the last round.
-use Prim.Native.Nat.{ℕ, suc, _+_, _<_}
+use Prim.Native.Nat.{ℕ, zero, suc, _+_, _<_}
 use native.Mathlib.Numerals.{add-one}
 use native.Mathlib.Omega.{arith}
-use mathlib.Core.Path.{_≡_, sym, ap, _∙_}
+use mathlib.Core.Path.{_≡_, refl, sym, ap, _∙_}
 use mathlib.Core.List.{List}
 use mathlib.Core.Bool.{Bool, true, false}
-use lib.ListN.{length, set}
+use lib.ListN.{length, getD, set, replicate}
 use borrow.Author.Tests.{eqb-true, eq-eqb, ne-eqb}
 use Rattle.scan.specs.Scan.{all, any, least}
 use Rattle.scan.proofs.Tests.{true-false, not-true→false, and-left, and-right, and-both}
 use Rattle.scan.proofs.Every.{all-in, all-out, any-before, any-more}
-use Rattle.scan.proofs.Least.{least-le, least-hit, least-found, least-none}
+use Rattle.scan.proofs.Least.{least-le, least-hit, least-found, least-none, least-ext}
 use Rattle.scan.proofs.Tabulate.{stored-more}
 use Rattle.automaton.specs.Automaton.{Automaton, Closed}
 use Rattle.automaton.specs.Equivalence.{agree, sameIn, same, inClass, leaderBy, leader, sameClass, refined}
+use Rattle.automaton.proofs.Same.{equalLabels-in, equalLabels-out}
 use Rattle.automaton.proofs.Targets.{Holds, targets-trans, equalArcs-in, equalArcs-out}
 use Rattle.automaton.proofs.Leader.{leader-le}
 use Rattle.automaton.proofs.Classes.{class-same, same-leader, refined-leader, leaders-last}
 use Rattle.minimize.specs.Tables.{classIn, Classes}
-use Rattle.minimize.specs.Leaders.{LeadersBy, sameEntry}
+use Rattle.minimize.specs.Leaders.{LeadersBy, rowsAlike, split, sameEntry}
 
 -- ---- a loop that looks for a leader
 
@@ -45,7 +46,7 @@ leaders-more r classes n v h l e = record { leads = stored-more (leaderBy r) cla
 
 -- ---- a round
 
-module _ (A : Automaton) (class : ℕ → ℕ) where
+module _ (A : Automaton) (counts : Bool) (class : ℕ → ℕ) where
   sameClass-trans : (a b c : ℕ) → sameClass class a b ≡ true → sameClass class b c ≡ true → sameClass class a c ≡ true
   unfolding sameClass
   sameClass-trans a b c g h = eq-eqb (class a) (class c) (eqb-true (class a) (class b) g ∙ eqb-true (class b) (class c) h)
@@ -56,33 +57,61 @@ module _ (A : Automaton) (class : ℕ → ℕ) where
       equalArcs-in (sameClass class) (A .arc n t) (A .arc p t) (targets-trans (Holds (sameClass class)) (Holds (sameClass class)) (Holds (sameClass class)) sameClass-trans
       (A .arc n t) (A .arc m t) (A .arc p t) (equalArcs-out (sameClass class) (A .arc n t) (A .arc m t) e) (equalArcs-out (sameClass class) (A .arc m t) (A .arc p t) f))
 
-  refined-trans : (n m p : ℕ) → refined A class n m ≡ true → refined A class m p ≡ true → refined A class n p ≡ true
-  unfolding refined
-  refined-trans n m p e f =
-      and-both (sameClass class n p) (all (agree A (sameClass class) n p) (A .transitions))
+  rows-trans : (b : Bool) (n m p : ℕ) → rowsAlike A b class n m ≡ true → rowsAlike A b class m p ≡ true → rowsAlike A b class n p ≡ true
+  unfolding rowsAlike sameIn
+  rows-trans true n m p e f = equalLabels-in _ _ (equalLabels-out (A .label n) (A .label m) e ∙ equalLabels-out (A .label m) (A .label p) f)
+  rows-trans false n m p e f =
+      all-in (agree A (sameClass class) n p) (A .transitions)
+      (λ t l. arcs-trans n m p t (all-out (agree A (sameClass class) n m) (A .transitions) e t l) (all-out (agree A (sameClass class) m p) (A .transitions) f t l))
+
+  split-trans : (n m p : ℕ) → split A counts class n m ≡ true → split A counts class m p ≡ true → split A counts class n p ≡ true
+  unfolding split
+  split-trans n m p e f =
+      and-both (sameClass class n p) (rowsAlike A counts class n p)
       (sameClass-trans n m p (and-left (sameClass class n m) _ e) (and-left (sameClass class m p) _ f))
-      (all-in (agree A (sameClass class) n p) (A .transitions) (λ t l. arcs-trans n m p t
-      (all-out (agree A (sameClass class) n m) (A .transitions) (and-right (sameClass class n m) _ e) t l)
-      (all-out (agree A (sameClass class) m p) (A .transitions) (and-right (sameClass class m p) _ f) t l)))
+      (rows-trans counts n m p (and-right (sameClass class n m) _ e) (and-right (sameClass class m p) _ f))
 
   -- a node that does not lead its new class leads no other
-  pub leader-not-own : (n m : ℕ) → any (inClass (refined A class) n) m ≡ false → (leaderBy (refined A class) m ≡ m → ⊥)
-      → any (inClass (refined A class) n) (m + 1) ≡ false
+  pub leader-not-own : (n m : ℕ) → any (inClass (split A counts class) n) m ≡ false → (leaderBy (split A counts class) m ≡ m → ⊥)
+      → any (inClass (split A counts class) n) (m + 1) ≡ false
   unfolding leaderBy
   leader-not-own n m h d =
-      leader-not (refined A class) n m h (not-true→false (refined A class m n) (λ e.
-      let l : least (inClass (refined A class) m) m < m = omega (arith, least-le (inClass (refined A class) m) m, d) in
-      let g : refined A class (least (inClass (refined A class) m) m) m ≡ true = unfold inClass in (least-hit (inClass (refined A class) m) m l) in
-      true-false _ (refined-trans _ m n g e) (unfold inClass in (any-before (inClass (refined A class) n) m h _ l))))
+      leader-not (split A counts class) n m h (not-true→false (split A counts class m n) (λ e.
+      let l : least (inClass (split A counts class) m) m < m = omega (arith, least-le (inClass (split A counts class) m) m, d) in
+      let g : split A counts class (least (inClass (split A counts class) m) m) m ≡ true = unfold inClass in (least-hit (inClass (split A counts class) m) m l) in
+      true-false _ (split-trans _ m n g e) (unfold inClass in (any-before (inClass (split A counts class) n) m h _ l))))
 
   -- what the code tests, one after the other
-  pub refined-other-class : (n m : ℕ) → (class n ≡ class m → ⊥) → refined A class n m ≡ false
-  unfolding refined sameClass
-  refined-other-class n m d = rw (ne-eqb (class n) (class m) d)
+  pub split-other-class : (n m : ℕ) → (class n ≡ class m → ⊥) → split A counts class n m ≡ false
+  unfolding split sameClass
+  split-other-class n m d = rw (ne-eqb (class n) (class m) d)
 
-  pub refined-by-arcs : (n m : ℕ) → class n ≡ class m → refined A class n m ≡ all (agree A (sameClass class) n m) (A .transitions)
-  unfolding refined sameClass
-  refined-by-arcs n m e = rw (eq-eqb (class n) (class m) e)
+  pub split-by-rows : (n m : ℕ) → class n ≡ class m → split A counts class n m ≡ rowsAlike A counts class n m
+  unfolding split sameClass
+  split-by-rows n m e = rw (eq-eqb (class n) (class m) e)
+
+-- a table of zeros
+pub one-class : (n : ℕ) → classIn (replicate 128 0) n ≡ 0
+unfolding classIn
+one-class = zeros 128
+  where
+    zeros : (k n : ℕ) → getD {A = ℕ} (replicate k 0) n 0 ≡ 0
+    zeros zero n = refl
+    zeros (suc k) zero = refl
+    zeros (suc k) (suc n) = zeros k n
+
+-- by arcs it is the automaton's round, and by counts of nodes that are all of one class the first
+module _ (A : Automaton) (classes : List ℕ) where
+  pub by-arcs : (next : List ℕ) → LeadersBy (split A false (classIn classes)) (A .nodes) next → LeadersBy (refined A (classIn classes)) (A .nodes) next
+  unfolding split rowsAlike refined
+  by-arcs next h = h
+
+  pub by-counts : (next : List ℕ) → ((n : ℕ) → classIn classes n ≡ 0) → LeadersBy (split A true (classIn classes)) (A .nodes) next → LeadersBy (sameIn A 0) (A .nodes) next
+  unfolding leaderBy
+  by-counts next z h = record {
+    leads = λ n l. h .leads n l ∙ least-ext (inClass (split A true (classIn classes)) n) (inClass (sameIn A 0) n) n
+        (λ m k. unfold inClass in (split-by-rows A true (classIn classes) m n (z m ∙ sym (z n)) ∙ unfold rowsAlike in refl));
+  }
 
 -- ---- the rounds
 

@@ -1,4 +1,3 @@
-pub mod Known
 pub mod Agree
 pub mod Leaders
 pub mod SearchState

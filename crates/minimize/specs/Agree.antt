@@ -11,7 +11,10 @@ use Rattle.table.specs.Table.{keyAt, Rising}
 use Rattle.table.specs.Bisection.{lowerBound}
 use Rattle.automaton.specs.Equivalence.{sameClass, equalArcs}
 use Rattle.sequential.specs.Words.{nodeCount, entryCount, entryValue, entryWithKey}
+use Rattle.net.specs.Net.{placeCount, transitionCount}
+use Rattle.graph.specs.Rows.{arcsStart, countsStart}
 use Rattle.minimize.specs.Tables.{classIn}
+use Rattle.minimize.specs.declared.classes.NodeRows.{NodeRows}
 
 -- counts agree where they are equal, targets of arcs where they have one class
 unfoldable pub valuesAgree : List ℕ → Bool → ℕ → ℕ → Bool
@@ -47,19 +50,21 @@ module _ (sheet : List ℕ) where
     pub left : Row classes counts width a i
     pub right : Row classes counts width b j
 
-  -- the entry at which the row of node n starts, among rows of a width from a base on
-  unfoldable pub rowStart : ℕ → ℕ → ℕ → ℕ
-  rowStart base width n = lowerBound sheet 2 (entryCount sheet) (base + n * width)
+-- ---- the rows of all nodes, of their counts or of their arcs
 
-  -- the words are short enough, and so are the rows
-  pub record Laid (base width : ℕ) : Type 0 where
-    pub whole : length sheet ≡ 2 + 2 * entryCount sheet
-    pub rising : Rising sheet 2 (entryCount sheet)
-    pub few-entries : entryCount sheet ≤ 4096
-    pub few-nodes : nodeCount sheet ≤ 128
-    pub low : base ≤ 4096
-    pub narrow : width ≤ 32
+-- the first key of node n's row: §3.5, §3.6
+unfoldable pub rowKey : List ℕ → List ℕ → Bool → ℕ → ℕ
+rowKey net sheet counts n = cond counts (countsStart net (nodeCount sheet) n) (arcsStart net n)
 
-  -- a table of these entries
-  pub record RowStarts (base width : ℕ) (starts : List ℕ) : Type 0 where
-    pub start : (n : ℕ) → n < nodeCount sheet → getD starts n 0 ≡ rowStart base width n
+-- how many keys it has
+unfoldable pub rowWidth : List ℕ → Bool → ℕ
+rowWidth net counts = cond counts (placeCount net) (transitionCount net)
+
+-- the entry at which it starts
+unfoldable pub rowStart : List ℕ → List ℕ → Bool → ℕ → ℕ
+rowStart net sheet counts n = lowerBound sheet 2 (entryCount sheet) (rowKey net sheet counts n)
+
+pub record RowsOf (net sheet : List ℕ) (counts : Bool) (rows : NodeRows) : Type 0 where
+  pub kind : rows .counts ≡ counts
+  pub wide : rows .width ≡ rowWidth net counts
+  pub start : (n : ℕ) → n < nodeCount sheet → getD (rows .starts) n 0 ≡ rowStart net sheet counts n

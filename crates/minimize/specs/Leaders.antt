@@ -2,14 +2,24 @@
 use Prim.Native.Nat.{ℕ, _<_}
 use mathlib.Core.Path.{_≡_}
 use mathlib.Core.List.{List}
-use mathlib.Core.Bool.{Bool}
+use mathlib.Core.Bool.{Bool, cond, _&&_}
 use lib.Dec.{eqb}
-use Rattle.automaton.specs.Equivalence.{leaderBy}
+use Rattle.scan.specs.Scan.{all}
+use Rattle.automaton.specs.Automaton.{Automaton}
+use Rattle.automaton.specs.Equivalence.{agree, sameIn, leaderBy, sameClass}
 use Rattle.minimize.specs.Tables.{classIn}
 
 -- the first entries of a table are the leaders by a test
 pub record LeadersBy (r : ℕ → ℕ → Bool) (entries : ℕ) (classes : List ℕ) : Type 0 where
   pub leads : (n : ℕ) → n < entries → classIn classes n ≡ leaderBy r n
+
+-- the rows of two nodes agree: their counts are equal, or every transition leads from both into one class
+unfoldable pub rowsAlike : Automaton → Bool → (ℕ → ℕ) → ℕ → ℕ → Bool
+rowsAlike A counts class n m = cond counts (sameIn A 0 n m) (all (agree A (sameClass class) n m) (A .transitions))
+
+-- one class, and rows that agree: what a round leaves together
+unfoldable pub split : Automaton → Bool → (ℕ → ℕ) → ℕ → ℕ → Bool
+split A counts class n m = sameClass class n m && rowsAlike A counts class n m
 
 -- node n has one class in both tables
 unfoldable pub sameEntry : List ℕ → List ℕ → ℕ → Bool

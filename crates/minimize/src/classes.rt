@@ -4,14 +4,20 @@ ghost use mathlib.Core.Path.{_≡_};
 ghost use Prim.Native.Nat.{_+_, _*_, _≤_, _<_};
 ghost use lib.ListN.{length};
 ghost use Rattle.scan.specs.Scan.{all};
-ghost use Rattle.net.specs.Net.{placeCount, transitionCount};
-ghost use Rattle.automaton.specs.Equivalence.{sameClass, agree, sameIn, leaderBy, refined};
+ghost use Rattle.automaton.specs.Equivalence.{leaderBy};
 ghost use Rattle.sequential.specs.Petri.{petriNet};
-ghost use Rattle.sequential.specs.Words.{nodeCount, entryCount, entryValue, arcKeys, graph};
+ghost use Rattle.sequential.specs.Words.{nodeCount, entryCount, entryValue, graph};
 ghost use Rattle.graph.specs.Readable.{Readable};
 ghost use Rattle.minimize.specs.Tables.{classIn, Classes};
-ghost use Rattle.minimize.specs.Agree.{hasKey, valuesAgree, keysAgree, Valued, Rows, rowStart, Laid, RowStarts};
-ghost use Rattle.minimize.specs.Leaders.{LeadersBy, sameEntry};
+ghost use Rattle.minimize.specs.Agree.{hasKey, valuesAgree, keysAgree, Valued, Rows, rowKey, rowWidth, RowsOf};
+ghost use Rattle.minimize.specs.Leaders.{LeadersBy, rowsAlike, split, sameEntry};
+
+// The rows of all nodes, of their counts or of their arcs: how many keys each has, and the entry at which it starts.
+struct NodeRows {
+    counts: bool,
+    width: u32,
+    starts: [u16; 128],
+}
 
 // Whether there is an entry i and it has a key.
 fn has_key(sheet: &[u32], i: usize, key: u32) -> bool
@@ -75,114 +81,88 @@ fn rows_agree(
     true
 }
 
-// Whether every transition leads from n and m into one class, or from neither. Their arcs start at entries i and j.
-fn arcs_agree(
+// The first key of node n's row.
+fn first_key(net: &[u32], sheet: &[u32], counts: bool, n: u32) -> u32
+    requires { ⌜ Readable (now net) (now sheet) ⌝ }
+    ensures { λ r. ⌜ r ≡ rowKey (now (net .entry)) (now (sheet .entry)) counts n ⌝ }
+{
+    if counts {
+        return graph::counts_start(net, sheet[0], n);
+    }
+    graph::arcs_start(net, n)
+}
+
+// How many keys a row has.
+fn row_width(net: &[u32], counts: bool) -> u32
+    ensures { λ r. ⌜ r ≡ rowWidth (now (net .entry)) counts ⌝ }
+{
+    if counts {
+        return net::places(net);
+    }
+    net::transitions(net)
+}
+
+// The rows of a kind.
+fn rows_of(net: &[u32], sheet: &[u32], counts: bool) -> NodeRows
+    requires { ⌜ Readable (now net) (now sheet) ⌝ }
+    ensures { λ r. ⌜ RowsOf (now (net .entry)) (now (sheet .entry)) counts r ⌝ }
+{
+    let nodes = sheet[0];
+    let entries = sheet[1] as usize;
+    let width = row_width(net, counts);
+    let mut starts = [0u16; 128];
+    let mut n = 0;
+    while n < nodes {
+        let key = first_key(net, sheet, counts, n);
+        starts[n as usize] = table::lower_bound(sheet, 2, entries, key) as u16;
+        n += 1;
+    }
+    NodeRows {
+        counts,
+        width,
+        starts,
+    }
+}
+
+// Whether the rows of n and m agree.
+fn nodes_agree(
     net: &[u32],
     sheet: &[u32],
+    rows: NodeRows,
     classes: [u8; 128],
     n: u32,
     m: u32,
-    i: usize,
-    j: usize,
 ) -> bool
     requires { ⌜ Readable (now net) (now sheet) ⌝ }
     requires { ⌜ n < nodeCount (now sheet) ⌝ }
     requires { ⌜ m < nodeCount (now sheet) ⌝ }
-    requires { ⌜ i ≡ rowStart (now sheet) 0 (transitionCount (now net)) n ⌝ }
-    requires { ⌜ j ≡ rowStart (now sheet) 0 (transitionCount (now net)) m ⌝ }
-    ensures { λ r. ⌜ r ≡ all (agree (graph (petriNet (now (net .entry))) (now (sheet .entry))) (sameClass (classIn classes)) n m) (transitionCount (now (net .entry))) ⌝ }
+    requires { ⌜ RowsOf (now net) (now sheet) (rows .counts) rows ⌝ }
+    ensures { λ r. ⌜ r ≡ rowsAlike (graph (petriNet (now (net .entry))) (now (sheet .entry))) (rows .counts) (classIn classes) n m ⌝ }
 {
-    let transitions = net::transitions(net);
-    let a = n * transitions;
-    let b = m * transitions;
-    rows_agree(sheet, &classes, false, transitions, a, b, i, j)
+    let counts = rows.counts;
+    let starts = rows.starts;
+    let a = first_key(net, sheet, counts, n);
+    let b = first_key(net, sheet, counts, m);
+    let i = starts[n as usize] as usize;
+    let j = starts[m as usize] as usize;
+    rows_agree(sheet, &classes, counts, rows.width, a, b, i, j)
 }
 
-// Whether n and m have equal counts. Their counts start at entries i and j.
-fn counts_agree(net: &[u32], sheet: &[u32], n: u32, m: u32, i: usize, j: usize) -> bool
-    requires { ⌜ Readable (now net) (now sheet) ⌝ }
-    requires { ⌜ n < nodeCount (now sheet) ⌝ }
-    requires { ⌜ m < nodeCount (now sheet) ⌝ }
-    requires { ⌜ i ≡ rowStart (now sheet) (arcKeys (petriNet (now net)) (now sheet)) (placeCount (now net)) n ⌝ }
-    requires { ⌜ j ≡ rowStart (now sheet) (arcKeys (petriNet (now net)) (now sheet)) (placeCount (now net)) m ⌝ }
-    ensures { λ r. ⌜ r ≡ sameIn (graph (petriNet (now (net .entry))) (now (sheet .entry))) 0 n m ⌝ }
-{
-    let places = net::places(net);
-    let base = sheet[0] * net::transitions(net);
-    let a = base + n * places;
-    let b = base + m * places;
-    let classes = [0u8; 0];
-    rows_agree(sheet, &classes, true, places, a, b, i, j)
-}
-
-// The entry at which the row of each node starts.
-fn row_starts(sheet: &[u32], base: u32, width: u32) -> [u16; 128]
-    requires { ⌜ Laid (now sheet) base width ⌝ }
-    ensures { λ r. ⌜ RowStarts (now (sheet .entry)) base width r ⌝ }
-{
-    let nodes = sheet[0];
-    let entries = sheet[1] as usize;
-    let mut starts = [0u16; 128];
-    let mut n = 0;
-    while n < nodes {
-        let start = table::lower_bound(sheet, 2, entries, base + n * width);
-        starts[n as usize] = start as u16;
-        n += 1;
-    }
-    starts
-}
-
-// The least node with the counts of n.
-fn counts_leader(net: &[u32], sheet: &[u32], starts: [u16; 128], n: u32) -> u32
-    requires { ⌜ Readable (now net) (now sheet) ⌝ }
-    requires { ⌜ n < nodeCount (now sheet) ⌝ }
-    requires { ⌜ RowStarts (now sheet) (arcKeys (petriNet (now net)) (now sheet)) (placeCount (now net)) starts ⌝ }
-    ensures { λ r. ⌜ r ≡ leaderBy (sameIn (graph (petriNet (now (net .entry))) (now (sheet .entry))) 0) n ⌝ }
-{
-    let own = starts[n as usize] as usize;
-    let mut m = 0;
-    while m < n {
-        if counts_agree(net, sheet, m, n, starts[m as usize] as usize, own) {
-            return m;
-        }
-        m += 1;
-    }
-    n
-}
-
-// The classes of nodes with equal counts.
-fn counts_classes(net: &[u32], sheet: &[u32]) -> [u8; 128]
-    requires { ⌜ Readable (now net) (now sheet) ⌝ }
-    ensures { λ r. ⌜ LeadersBy (sameIn (graph (petriNet (now (net .entry))) (now (sheet .entry))) 0) (nodeCount (now (sheet .entry))) r ⌝ }
-{
-    let nodes = sheet[0];
-    let starts = row_starts(sheet, nodes * net::transitions(net), net::places(net));
-    let mut classes = [0u8; 128];
-    let mut n = 0;
-    while n < nodes {
-        let leader = counts_leader(net, sheet, starts, n);
-        classes[n as usize] = leader as u8;
-        n += 1;
-    }
-    classes
-}
-
-// The least node of n's class whose arcs lead into the same classes. It is one of the nodes that are the least of their new class.
-fn arcs_leader(
+// The least node of n's class whose row agrees with n's. It is one of the nodes that are the least of their new class.
+fn leader(
     net: &[u32],
     sheet: &[u32],
-    starts: [u16; 128],
+    rows: NodeRows,
     classes: [u8; 128],
     next: [u8; 128],
     n: u32,
 ) -> u32
     requires { ⌜ Readable (now net) (now sheet) ⌝ }
     requires { ⌜ n < nodeCount (now sheet) ⌝ }
-    requires { ⌜ RowStarts (now sheet) 0 (transitionCount (now net)) starts ⌝ }
-    requires { ⌜ LeadersBy (refined (graph (petriNet (now net)) (now sheet)) (classIn classes)) n next ⌝ }
-    ensures { λ r. ⌜ r ≡ leaderBy (refined (graph (petriNet (now (net .entry))) (now (sheet .entry))) (classIn classes)) n ⌝ }
+    requires { ⌜ RowsOf (now net) (now sheet) (rows .counts) rows ⌝ }
+    requires { ⌜ LeadersBy (split (graph (petriNet (now net)) (now sheet)) (rows .counts) (classIn classes)) n next ⌝ }
+    ensures { λ r. ⌜ r ≡ leaderBy (split (graph (petriNet (now (net .entry))) (now (sheet .entry))) (rows .counts) (classIn classes)) n ⌝ }
 {
-    let own = starts[n as usize] as usize;
     let class = classes[n as usize];
     let mut k = 0;
     while k < n {
@@ -190,7 +170,7 @@ fn arcs_leader(
         k += 1;
         if classes[m as usize] == class {
             if next[m as usize] as u32 == m {
-                if arcs_agree(net, sheet, classes, m, n, starts[m as usize] as usize, own) {
+                if nodes_agree(net, sheet, rows, classes, m, n) {
                     return m;
                 }
             }
@@ -199,18 +179,18 @@ fn arcs_leader(
     n
 }
 
-// One round: each class is split by where the arcs of its nodes lead.
-fn arcs_classes(net: &[u32], sheet: &[u32], starts: [u16; 128], classes: [u8; 128]) -> [u8; 128]
+// One round: each class is split by the rows of its nodes.
+fn round(net: &[u32], sheet: &[u32], rows: NodeRows, classes: [u8; 128]) -> [u8; 128]
     requires { ⌜ Readable (now net) (now sheet) ⌝ }
-    requires { ⌜ RowStarts (now sheet) 0 (transitionCount (now net)) starts ⌝ }
-    ensures { λ r. ⌜ LeadersBy (refined (graph (petriNet (now (net .entry))) (now (sheet .entry))) (classIn classes)) (nodeCount (now (sheet .entry))) r ⌝ }
+    requires { ⌜ RowsOf (now net) (now sheet) (rows .counts) rows ⌝ }
+    ensures { λ r. ⌜ LeadersBy (split (graph (petriNet (now (net .entry))) (now (sheet .entry))) (rows .counts) (classIn classes)) (nodeCount (now (sheet .entry))) r ⌝ }
 {
     let nodes = sheet[0];
     let mut next = [0u8; 128];
     let mut n = 0;
     while n < nodes {
-        let leader = arcs_leader(net, sheet, starts, classes, next, n);
-        next[n as usize] = leader as u8;
+        let found = leader(net, sheet, rows, classes, next, n);
+        next[n as usize] = found as u8;
         n += 1;
     }
     next
@@ -237,16 +217,17 @@ pub(crate) fn classes(net: &[u32], sheet: &[u32]) -> [u8; 128]
     ensures { λ r. ⌜ Classes (graph (petriNet (now (net .entry))) (now (sheet .entry))) r ⌝ }
 {
     let nodes = sheet[0] as usize;
-    let starts = row_starts(sheet, 0, net::transitions(net));
-    let mut classes = counts_classes(net, sheet);
-    let mut round = 0;
-    while round < nodes {
-        let next = arcs_classes(net, sheet, starts, classes);
+    let arcs = rows_of(net, sheet, false);
+    let counts = rows_of(net, sheet, true);
+    let mut classes = round(net, sheet, counts, [0u8; 128]);
+    let mut rounds = 0;
+    while rounds < nodes {
+        let next = round(net, sheet, arcs, classes);
         if same_tables(classes, next, nodes) {
             return classes;
         }
         classes = next;
-        round += 1;
+        rounds += 1;
     }
     classes
 }

@@ -18,7 +18,9 @@ slice-aggregate-check-read-2 : tie.Need-slice-aggregate-check-read-2
 slice-aggregate-check-read-2 c = let d = c .before .before .before .before .decode2 .ensures in words-taken _ _ _ _ (d .words) (d .written)
 
 returns : tie.Need-returns
-returns c = files-read _ _ _ _ _ _ _ _ _ ((c .before .before .before .before .before .before .before .before .before .decode) .ensures) ((c .before .before .before .before .before .decode2) .ensures) ((c .check-read) .ensures)
+returns c =
+    let d = c .before .before .before .before .before in
+    files-read _ _ _ _ _ _ _ _ _ (d .before .before .before .before .decode .ensures) (d .decode2 .ensures) (c .check-read .ensures)
 
 pub check-files-spec : {M : Type 1} → statement M
 check-files-spec =

@@ -17,13 +17,20 @@ slice-aggregate-print-accepted-2 : tie.Need-slice-aggregate-print-accepted-2
 slice-aggregate-print-accepted-2 c = sheet-counted _ _ _ _ _ _ _ (c .before .before .before .before .before .before .before .before .before .check-files .ensures) .1
 
 print-accepted-requires : tie.Need-print-accepted-requires
-print-accepted-requires c κs = files-accepted _ _ _ _ _ _ _ (c .before .before .before .before .before .before .before .before .before .before .before .check-files .ensures) _ (c .before .before .before .before .before .answer2 .given .1)
+print-accepted-requires c κs =
+    let d = c .before .before .before .before .before in
+    files-accepted _ _ _ _ _ _ _ (d .before .before .before .before .before .before .check-files .ensures) _ (d .answer2 .given .1)
 
 returns : tie.Need-returns
-returns c = refused-files _ _ _ _ _ _ _ (c .before .before .before .before .before .before .before .before .before .before .before .check-files .ensures) _ _ _ _ _ (c .before .before .before .before .before .answer .given .1) (c .before .before .print-refusal .ensures)
+returns c =
+    let d = c .before .before .before .before .before in
+    refused-files _ _ _ _ _ _ _ (d .before .before .before .before .before .before .check-files .ensures) _ _ _ _ _ (d .answer .given .1) (c .before .before .print-refusal .ensures)
 
 returns-2 : tie.Need-returns-2
-returns-2 c = accepted-files _ _ _ _ _ _ _ (c .before .before .before .before .before .before .before .before .before .before .before .before .before .before .before .before .check-files .ensures) _ _ _ _ _ _ (c .before .before .before .before .before .before .before .before .before .before .answer2 .given .1) (c .before .before .before .before .print-accepted .ensures)
+returns-2 c =
+    let d = c .before .before .before .before .before .before .before .before .before .before in
+    accepted-files _ _ _ _ _ _ _ (d .before .before .before .before .before .before .check-files .ensures) _ _ _ _ _ _ (d .answer2 .given .1)
+    (c .before .before .before .before .print-accepted .ensures)
 
 pub print-files-spec : {M : Type 1} → statement M
 print-files-spec =

@@ -10,18 +10,11 @@ returns c = refused-scratch (sym (c .before .before .before .scratch-fault .ensu
 
 returns-2 : tie.Need-returns-2
 returns-2 c =
-    served (sym (c .before .before .before .before .before .before .before .before .before .before .scratch-fault .ensures) ∙ (c .before .before .before .before .before .before .before .before .enum-told .given .1)) (c .before .before .before .before .before .before .form-into .ensures) (c .before .before .clear-front .ensures)
+    let d = c .before .before .before .before .before .before in
+    served (sym (d .before .before .before .before .scratch-fault .ensures) ∙ d .before .before .enum-told .given .1) (d .form-into .ensures) (c .before .before .clear-front .ensures)
 
 pub minimal-form-spec : {M : Type 1} → statement M
 minimal-form-spec =
     tie.close
-    (tie.spec
-    (λ c κs. search needs)
-    (λ c. search needs)
-    returns
-    (λ c. search needs)
-    (λ c κs. search needs)
-    (λ c κs. search needs)
-    (λ c. search needs)
-    (λ c. search needs)
-    returns-2)
+    (tie.spec (λ c κs. search needs) (λ c. search needs) returns (λ c. search needs) (λ c κs. search needs) (λ c κs. search needs) (λ c. search needs)
+    (λ c. search needs) returns-2)

@@ -12,7 +12,9 @@ returns c = (c .refuse .ensures) ∙ rw (sym (c .before .before .key-fails .ensu
 
 returns-2 : tie.Need-returns-2
 unfolding entryFault orElse when
-returns-2 c = (c .refuse2 .ensures) ∙ rw (sym (c .before .before .before .before .key-fails .ensures) ∙ (c .before .before .before .if1 .left), sym (c .before .before .value-fails .ensures) ∙ (c .before .if2 .taken))
+returns-2 c =
+    (c .refuse2 .ensures)
+    ∙ rw (sym (c .before .before .before .before .key-fails .ensures) ∙ (c .before .before .before .if1 .left), sym (c .before .before .value-fails .ensures) ∙ (c .before .if2 .taken))
 
 returns-3 : tie.Need-returns-3
 unfolding entryFault orElse when
@@ -21,11 +23,4 @@ returns-3 c = rw (sym (c .before .before .before .key-fails .ensures) ∙ (c .be
 pub entry-fault-spec : {M : Type 1} → statement M
 entry-fault-spec =
     tie.close
-    (tie.spec
-    (λ c κs. search needs)
-    (λ c κs. search needs)
-    returns
-    (λ c κs. search needs)
-    (λ c κs. search needs)
-    returns-2
-    returns-3)
+    (tie.spec (λ c κs. search needs) (λ c κs. search needs) returns (λ c κs. search needs) (λ c κs. search needs) returns-2 returns-3)

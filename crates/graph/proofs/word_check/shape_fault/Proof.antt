@@ -28,7 +28,10 @@ add-if3 c = omega (arith, (c .before .before .before .before .before .shared-sli
 
 returns-3 : tie.Need-returns-3
 unfolding shapeFault finding foundBy orElse when
-returns-3 c = (c .refuse3 .ensures) ∙ rw (le-ltb _ _ (c .before .before .before .before .before .before .if1 .left), sym (c .before .before .before .sizes-pass .ensures) ∙ not-false _ (c .before .before .if2 .left), ne-eqb _ _ (c .before .if3 .taken))
+returns-3 c =
+    let d = c .before .before in
+    c .refuse3 .ensures
+    ∙ rw (le-ltb _ _ (d .before .before .before .before .if1 .left), sym (d .before .sizes-pass .ensures) ∙ not-false _ (d .if2 .left), ne-eqb _ _ (c .before .if3 .taken))
 
 returns-4 : tie.Need-returns-4
 unfolding shapeFault finding foundBy orElse when
@@ -37,17 +40,5 @@ returns-4 c = rw (le-ltb _ _ (c .before .before .before .before .before .if1 .le
 pub shape-fault-spec : {M : Type 1} → statement M
 shape-fault-spec =
     tie.close
-    (tie.spec
-    (λ c κs. search needs)
-    returns
-    (λ c. search needs)
-    (λ c. search needs)
-    (λ c κs. search needs)
-    (λ c κs. search needs)
-    returns-2
-    cast-if3
-    mul-if3
-    add-if3
-    (λ c κs. search needs)
-    returns-3
-    returns-4)
+    (tie.spec (λ c κs. search needs) returns (λ c. search needs) (λ c. search needs) (λ c κs. search needs) (λ c κs. search needs) returns-2 cast-if3 mul-if3
+    add-if3 (λ c κs. search needs) returns-3 returns-4)

@@ -38,21 +38,13 @@ entries-fault-requires c κs = shape (c .before .before .before)
 
 returns-2 : tie.Need-returns-2
 unfolding arcKeys keyLimit
-returns-2 c = rw (fault-by (c .before .before .before .before .before .before .before .before .before .args .counts), ← (c .before .before .transitions .ensures), ← (c .before .places .ensures)) ((c .entries-fault .ensures) ∙ sym (verdict-next _ _ (sym (c .before .before .before .before .before .before .shape-fault .ensures) ∙ (c .before .before .before .before .enum-told2 .given .1))))
+returns-2 c =
+    let d = c .before .before .before .before in
+    rw (fault-by (d .before .before .before .before .before .args .counts), ← (c .before .before .transitions .ensures), ← (c .before .places .ensures))
+    (c .entries-fault .ensures ∙ sym (verdict-next _ _ (sym (d .before .before .shape-fault .ensures) ∙ d .enum-told2 .given .1)))
 
 pub words-fault-spec : {M : Type 1} → statement M
 words-fault-spec =
     tie.close
-    (tie.spec
-    (λ c κs. search needs)
-    (λ c. search needs)
-    returns
-    (λ c. search needs)
-    shared-slice-read-nodes
-    (λ c κs. search needs)
-    mul-arcs
-    (λ c κs. search needs)
-    add-limit
-    mul-limit
-    entries-fault-requires
-    returns-2)
+    (tie.spec (λ c κs. search needs) (λ c. search needs) returns (λ c. search needs) shared-slice-read-nodes (λ c κs. search needs) mul-arcs
+    (λ c κs. search needs) add-limit mul-limit entries-fault-requires returns-2)

@@ -17,17 +17,11 @@ returns c = sym (ap plainForm (c .before .self .given .1))
 
 -- src/lib.rt:14:5
 returns-2 : tie.Need-returns-2
-returns-2 c = rw (c .index .ensures, c .before .kind .ensures) (told-parts (c .before .before .before .before .self2 .given .0 .0) 1 ∙ sym (ap plainForm (c .before .before .before .before .self2 .given .1)))
+returns-2 c =
+    let s = c .before .before .before .before .self2 in
+    rw (c .index .ensures, c .before .kind .ensures) (told-parts (s .given .0 .0) 1 ∙ sym (ap plainForm (s .given .1)))
 
 pub plain-spec : {M : Type 1} → statement M
 plain-spec =
     tie.close
-    (tie.spec
-    (λ c. search needs)
-    (λ c. search needs)
-    (λ c. search needs)
-    (λ c κs. search needs)
-    (λ c. search needs)
-    (λ c κs. search needs)
-    returns
-    returns-2)
+    (tie.spec (λ c. search needs) (λ c. search needs) (λ c. search needs) (λ c κs. search needs) (λ c. search needs) (λ c κs. search needs) returns returns-2)

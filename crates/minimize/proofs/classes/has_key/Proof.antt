@@ -30,11 +30,4 @@ returns-2 c = rw (lt-ltb _ _ (c .before .if1 .left))
 pub has-key-spec : {M : Type 1} → statement M
 has-key-spec =
     tie.close
-    (tie.spec
-    (λ c. search needs)
-    cast-if1
-    returns
-    add-result
-    mul-result
-    shared-slice-read-result
-    returns-2)
+    (tie.spec (λ c. search needs) cast-if1 returns add-result mul-result shared-slice-read-result returns-2)

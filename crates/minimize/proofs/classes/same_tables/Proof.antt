@@ -35,14 +35,4 @@ returns-2 c = let e : (c .before .loop .n) ≡ (c .before .before .args .nodes) 
 pub same-tables-spec : {M : Type 1} → statement M
 same-tables-spec =
     tie.close
-    (tie.spec
-    Inv-loop
-    μ-loop
-    loop-holds
-    (λ c. search needs)
-    (λ c. search needs)
-    returns
-    (λ c. search needs)
-    (λ c. search needs)
-    loop-again
-    returns-2)
+    (tie.spec Inv-loop μ-loop loop-holds (λ c. search needs) (λ c. search needs) returns (λ c. search needs) (λ c. search needs) loop-again returns-2)

@@ -36,20 +36,5 @@ returns-2 c = rw (c .before .before .if1 .left)
 pub values-agree-spec : {M : Type 1} → statement M
 values-agree-spec =
     tie.close
-    (tie.spec
-    (λ c. search needs)
-    (λ c. omega arith)
-    (λ c. omega arith)
-    (λ c. omega arith)
-    (λ c. omega arith)
-    (λ c. omega arith)
-    (λ c. omega arith)
-    (λ c. omega arith)
-    (λ c. omega arith)
-    (λ c. omega arith)
-    returns
-    cast-result
-    shared-slice-read-result
-    cast-result-2
-    shared-slice-read-result-2
-    returns-2)
+    (tie.spec (λ c. search needs) (λ c. omega arith) (λ c. omega arith) (λ c. omega arith) (λ c. omega arith) (λ c. omega arith) (λ c. omega arith)
+    (λ c. omega arith) (λ c. omega arith) (λ c. omega arith) returns cast-result shared-slice-read-result cast-result-2 shared-slice-read-result-2 returns-2)

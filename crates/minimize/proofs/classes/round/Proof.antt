@@ -1,0 +1,46 @@
+-- `minimize::classes::round` meets its contract: the entries are right before the counter.
+use Prim.Native.Nat.{_-_, _≤_}
+use native.Mathlib.Omega.{arith}
+use mathlib.Core.Path.{_≡_, refl}
+use lib.ListN.{length, length-set}
+use borrow.Author.Needs.{needs}
+use Rattle.automaton.proofs.Leader.{leader-le}
+use Rattle.sequential.specs.Petri.{petriNet}
+use Rattle.sequential.specs.Words.{graph}
+use Rattle.minimize.specs.Tables.{classIn}
+use Rattle.minimize.specs.Leaders.{LeadersBy, split}
+use Rattle.minimize.proofs.Leaders.{leaders-start, leaders-more}
+use Rattle.minimize.proofs.classes.round.Statement.{statement}
+use Rattle.minimize.proofs.classes.round.Tie as tie
+
+abbrev Inv-loop : tie.InvT-loop
+Inv-loop net sheet rows classes nodes next₀ n₀ next n = (n ≤ nodes) × (nodes ≤ 128) × (length next ≡ 128)
+    × LeadersBy (split (graph (petriNet net) sheet) (rows .counts) (classIn classes)) n next
+
+abbrev μ-loop : tie.MeasureT-loop
+μ-loop net sheet rows classes nodes next₀ n₀ next n = nodes - n
+
+loop-holds : tie.Need-loop-holds Inv-loop μ-loop
+loop-holds c = let (r, p) = c .before .before .before .pre in (omega arith, r .arcs .sizes .few-nodes, refl, leaders-start _ _)
+
+leader-requires : tie.Need-leader-requires Inv-loop μ-loop
+leader-requires c κs = let (r, p) = c .before .before .before .before .before .pre in (r, (c .loop-test .taken, (p, c .before .loop .inv .3)))
+
+cast-next : tie.Need-cast-next Inv-loop μ-loop
+cast-next c =
+    let q : c .leader .result ≤ c .before .before .loop .n = rw (c .leader .ensures) (leader-le _ _) in
+    omega (arith, q)
+
+loop-again : tie.Need-loop-again Inv-loop μ-loop
+loop-again c =
+    let (l, few, long, is) = c .before .before .loop .inv in
+    (omega arith, few, simp length-set long, leaders-more _ _ _ _ is (omega arith) (c .leader .ensures))
+
+returns : tie.Need-returns Inv-loop μ-loop
+returns c = record { leads = λ n l. (c .before .loop .inv .3 .leads) n (omega (arith, c .loop-test .left)) }
+
+pub round-spec : {M : Type 1} → statement M
+round-spec =
+    tie.close
+    (tie.spec Inv-loop μ-loop (λ c. search needs) loop-holds leader-requires cast-next (λ c. omega arith) (λ c. omega arith) (λ c. omega arith)
+    (λ c. search needs) loop-again returns)
