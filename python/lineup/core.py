@@ -7,12 +7,12 @@ import tempfile
 from lineup import home
 from lineup.trouble import Trouble
 from lineup.visible import quoted
-from lineup.words import LOG_WORDS, NET_WORDS, SHEET_WORDS
+from lineup.words import LIST_WORDS, LOG_WORDS, NET_WORDS, SHEET_WORDS
 
 SCRATCH, OUT_BLANK = 8_192, 9  # the words of scratch lent, and what an output buffer holds before a call
 KINDS = ("none", "entry", "place", "node", "record")
 ANSWER = re.compile(
-    rf"answer (?P<number>\d+) (?P<kind>{'|'.join(KINDS)}) (?P<index>\d+)(?P<own>(?: (?:nodes|arcs|awaits|fired|node|length|taken|put|entry) \d+)*)"
+    rf"answer (?P<number>\d+) (?P<kind>{'|'.join(KINDS)}) (?P<index>\d+)(?P<own>(?: (?:nodes|arcs|awaits|fired|node|length|taken|put|entry|list) \d+)*)"
     r"(?P<outs>(?: out(?: \d+)* rest \d+)*)(?: scratch [\d ]+)?"
 )
 OUT = re.compile(r" out((?: \d+)*) rest (\d+)")
@@ -73,6 +73,10 @@ def replay(net, sheet, log):
 
 def short(net, sheet):
     return f"7 {pair(net, sheet)} | out {SHEET_WORDS - 1} | scratch {SCRATCH}"
+
+
+def mend(net, sheet):
+    return f"10 {pair(net, sheet)} | out {SHEET_WORDS - 1} | list {LIST_WORDS} | scratch {SCRATCH}"
 
 
 # ---- asking

@@ -5,6 +5,7 @@ Refusal = namedtuple("Refusal", "word meaning remedy")
 
 # which are about the net, about the words of a sheet, about a list of firings, and about a log; the others are about a sheet that can be read
 OF_NET, OF_WORDS, OF_RECORD, OF_LOG = {1, 2, 3, 4, 5}, {6, 7, 8, 9}, {20}, {20, 23, 24}
+NO_COUNTS = 25
 
 REFUSALS = {
     1: Refusal(
@@ -115,7 +116,7 @@ REFUSALS = {
     22: Refusal(
         "small out",
         "A program has lent a buffer that is too short for the result.",
-        "Lend one word for each place, or 8,194 for a short form. No command of lineup gives this number.",
+        "Lend one word for each place; 8,194 for a short form or a mended sheet, and 8,193 for the list of what changed. No command of lineup gives this number.",
     ),
     23: Refusal(
         "no record",
@@ -126,5 +127,10 @@ REFUSALS = {
         "logged node differs",
         "The log names another node than the one where the firing leads by the sheet.",
         "See which sheet the header ran by; from this firing on, the log and the sheet do not speak of the same plant.",
+    ),
+    25: Refusal(
+        "no counts fit",
+        "No counts whatsoever make these arrows right: a transition is planned where there is less than it takes, two ways to one node bring different counts, or a count or the sheet would be too large.",
+        "Follow the firings that are told: an arrow on the way is wrong, or two nodes were made one that hold different counts.",
     ),
 }

@@ -4,6 +4,7 @@ from lineup.sheet import Sheet
 
 NET_HEAD, SHEET_HEAD = 3, 2  # words before the keys
 NET_WORDS, SHEET_WORDS, LOG_WORDS = 4_164, 8_195, 8_194  # handed on of a longer file, one more than fits
+LIST_WORDS = 8_193  # of a list of changes, at most
 
 
 def keyed(entries):
@@ -109,6 +110,14 @@ def sheet_of(words, net, nodes):
 
 def log_words(log):
     return [len(log.firings)] + log.firings + log.nodes
+
+
+# ---- the list of what mending changes: how many counts, their keys, the new counts
+
+
+def change_words(net, changes):
+    """The list of changes (node, place, given, new)."""
+    return keyed({n * len(net.places) + p: new for n, p, _, new in changes})
 
 
 def pairs(words, head):

@@ -22,11 +22,12 @@ def lines(command, seed, count):
     build()
     done = subprocess.run([REFERENCE, command, str(seed), str(count)], capture_output=True, text=True, check=True)
     for line in done.stdout.splitlines():
+        operation, _, rest = line.partition(" ")
         parts = {}
-        for part in line[2:].split(" | "):
-            name, _, rest = part.partition(" ")
-            parts[name] = [int(word) for word in rest.rpartition(":")[2].split()] if ":" in rest else rest
-        yield line[0], parts
+        for part in rest.split(" | "):
+            name, _, told = part.partition(" ")
+            parts[name] = [int(word) for word in told.rpartition(":")[2].split()] if ":" in told else told
+        yield operation, parts
 
 
 def net_source(found, path="generated/net.txt"):
@@ -50,7 +51,7 @@ def sheet_source(found, net, path="generated/sheet.txt"):
 def damaged(seed, count):
     """Pairs of a net and a sheet, most of them damaged, with a record where there is one: (net, sheet, record)."""
     for operation, parts in lines("cases", seed, count):
-        if operation in "23567":
+        if operation in ("2", "3", "5", "6", "7"):
             net = net_source(parts["net"])
             yield net, sheet_source(parts["sheet"], net), parts.get("record")
 
@@ -61,6 +62,14 @@ def logged(seed, count):
         if operation == "9":
             net = net_source(parts["net"])
             yield net, sheet_source(parts["sheet"], net), log_source(parts["log"])
+
+
+def stale(seed, count):
+    """Pairs of which the sheet is to be mended: (net, sheet)."""
+    for operation, parts in lines("cases", seed, count):
+        if operation == "10":
+            net = net_source(parts["net"])
+            yield net, sheet_source(parts["sheet"], net)
 
 
 def log_source(found, path="generated/log.txt"):

@@ -22,11 +22,19 @@ TORN = "n:\n  s -> m\nm: a\n"
 SHARED = "tr s -> a\ntr t a ->\ntr u a ->\ntr w a*2 ->\n"
 BOTH = "n:\n  s -> m\nm: a\n  t -> n\n  u -> n\n"
 LOG = "log x\ns -> m\nu -> n\ns -> m\n"
+ARROWS = "n:\n  s -> m\nm:\n  u -> n\n"
+STALE = "n: a*0\n  s -> m\nm: a*7\n  u -> o\no: a*4294967295\n  s -> p\np:\n  u -> n\n"
+HOARD = "n:\n  s -> n\n"
+STARVED = "n:\n  s -> m\nm:\n  w -> n\n"
+FILES = {
+    "x.net": NET, "x.sheet": SHEET, "longer.sheet": LONGER, "greedy.sheet": GREEDY, "torn.sheet": TORN, "shared.net": SHARED, "both.sheet": BOTH, "x.log": LOG,
+    "arrows.sheet": ARROWS, "stale.sheet": STALE, "hoard.sheet": HOARD, "starved.sheet": STARVED,
+}
 
 
 def run(tally):
     with tempfile.TemporaryDirectory() as folder:
-        for name, text in (("x.net", NET), ("x.sheet", SHEET), ("longer.sheet", LONGER), ("greedy.sheet", GREEDY), ("torn.sheet", TORN), ("shared.net", SHARED), ("both.sheet", BOTH), ("x.log", LOG)):
+        for name, text in FILES.items():
             save(folder, name, text)
         statuses(tally, folder)
         outputs(tally, folder)
@@ -70,6 +78,12 @@ def statuses(tally, folder):
         (1, "replay x.net greedy.sheet x.log", ["x.log:3:1: refused, 20 not offered", "firing 2 of 3, u: node m offers s", "core: answer 20 record 1 taken 0 put 0 entry 0"]),
         (1, "replay x.net longer.sheet x.log", ["x.log:3:1: refused, 24 logged node differs", "firing 2 of 3, u: leads from node m to node o, and the log says node n", "core: answer 24 record 1"]),
         (1, "replay x.net torn.sheet x.log", ["11 dead end"]),
+        (0, "mend x.net x.sheet", ["# x.sheet: the counts are right, and nothing changed", "# core: answer 0 none 0 length 8 list 1", "m:  a"]),
+        (0, "mend x.net arrows.sheet", ["# arrows.sheet: no count was given, and 1 count filled in", "# arrows.sheet:3:1: node m holds a", "length 8 list 3", "m:  a"]),
+        (0, "mend x.net stale.sheet", ["3 counts changed", "stale.sheet:3:1: node m: a 7 becomes 1", "node o: a 4294967295 becomes 0", "node p: a 0 becomes 1", "written as 0 and left out: a of node n"]),
+        (1, "mend x.net torn.sheet", ["torn.sheet:3:1: refused, 11 dead end", "core: answer 11 node 1 length 0 list 0"]),
+        (1, "mend x.net hoard.sheet", ["hoard.sheet:2:3: refused, 25 no counts fit", "node n, s -> n: a: 0 - 0 + 1 = 1, and another way to node n gives 0", "node n is reached by no firing and then holds nothing", "core: answer 25 none 0"]),
+        (1, "mend shared.net starved.sheet", ["starved.sheet:4:3: refused, 25 no counts fit", "node m, w -> n: a: w takes 2, and there is 1", "node m is reached by s and then holds a"]),
         (0, "words x.net x.sheet", ["net 1 2 2 1 2 1 1", "sheet 2 3 0 3 5 1 0 1"]),
         (0, "names x.net x.sheet", ["tr u  a ->", "m:  a"]),
         (0, "names x.net --pnml", ['<place id="p0"><name><text>a</text></name></place>']),
@@ -90,6 +104,9 @@ def outputs(tally, folder):
     tally.same("check -o, the file", read(folder, "report.txt"), shown[1])
     lineup(folder, "short", "x.net", "longer.sheet", "-o", "short.sheet")
     tally.same("short -o", read(folder, "short.sheet"), "n:\n  s -> m\nm:  a\n  u -> n\n")
+    tally.holds("mend -o, what is told", lineup(folder, "mend", "x.net", "arrows.sheet", "-o", "mended.sheet")[1], "  arrows.sheet:3:1: node m holds a\n", "written: mended.sheet\n")
+    tally.same("mend -o", read(folder, "mended.sheet"), "n:\n  s -> m\nm:  a\n  u -> n\n")
+    tally.same("mend -o, a refused one", (lineup(folder, "mend", "x.net", "hoard.sheet", "-o", "none.sheet")[0], os.path.exists(os.path.join(folder, "none.sheet"))), (1, False))
     tally.same("words -o", lineup(folder, "words", "x.net", "x.sheet", "-o", "w/x")[0], 0)
     tally.same("words -o, the files", sorted(os.listdir(os.path.join(folder, "w", "x"))), ["names.txt", "net.txt", "sheet.txt"])
     tally.same("words -o, read again", lineup(folder, "words", "w/x")[1], lineup(folder, "words", "x.net", "x.sheet")[1])
@@ -125,6 +142,8 @@ def as_json(tally, folder):
         "bounds x.net greedy.sheet": {"bounds": {"a": 2}, "attained": {"a": ["o"]}},
         "run x.net x.sheet s": {"fired": 1, "node": "m", "counts": {"a": 1}},
         "replay x.net x.sheet x.log": {"accepted": True, "firings": 3, "node": "m", "taken": {"a": 1}, "put": {"a": 2}, "total": {"taken": 1, "put": 2}},
+        "mend x.net arrows.sheet": {"accepted": True, "nodes": 2, "changes": [{"node": "m", "place": "a", "given": 0, "count": 1}], "words": [2, 3, 0, 3, 5, 1, 0, 1], "list": [1, 1, 1], "sheet": "n:\n  s -> m\nm:  a\n  u -> n\n"},
+        "mend x.net hoard.sheet": {"accepted": False},
         "words x.net": {"net": [1, 2, 2, 1, 2, 1, 1]},
         "names x.net": {"net": "pl a\ntr s    -> a\ntr u  a ->\n"},
         "draw x.net x.sheet": {"accepted": True},
@@ -169,7 +188,7 @@ def word_files(tally, folder):
         found = lineup(folder, "check", what)
         tally.same(f"{what}: status", (found[0], found[2]), (1, ""))
         tally.holds(what, found[1], *parts)
-        for command in ("short", "bounds", "run", "words", "names", "draw"):
+        for command in ("short", "bounds", "run", "mend", "words", "names", "draw"):
             tally.same(f"{what}: {command}", lineup(folder, command, what)[0], 1)
     mixed(tally, folder, net, sheet)
     word_logs(tally, folder, net, sheet)
@@ -231,6 +250,7 @@ def trouble(tally, folder):
         ("run x.net x.sheet S", 2, "firing 1: no transition 'S' (did you mean 's'?)", ""),
         ("replay x.net x.sheet", 2, "a log is missing", ""),
         ("replay x.net x.sheet y.log", 2, "no such file (did you mean 'x.log'?)", ""),
+        ("mend x.net", 2, "a sheet is missing", ""),
         ("draw x.net -o picture", 2, "the suffix tells the form", ""),
         ("draw x.net -o no/where.svg", 2, "cannot be written", ""),
         ("words x.net -o x.net/y", 2, "no folder can be made", ""),
@@ -262,6 +282,11 @@ def disagreements(tally, folder):
             ("replay x.net x.sheet x.log", "taken 1", "taken 2"),
             ("replay x.net x.sheet x.log", "out 2", "out 1"),
             ("replay x.net longer.sheet x.log", "answer 24 record 1", "answer 24 record 0"),
+            ("mend x.net arrows.sheet", "0 3 5 1 0 1 ", "0 3 5 1 0 2 "),
+            ("mend x.net arrows.sheet", "out 1 1 1", "out 1 1 2"),
+            ("mend x.net arrows.sheet", "list 3", "list 1"),
+            ("mend x.net hoard.sheet", "answer 25 none 0", "answer 0 none 0"),
+            ("mend x.net arrows.sheet", "answer 0 none 0 length 8 list 3", "answer 25 none 0 length 0 list 0"),
             ("diff x.net x.sheet greedy.sheet", "answer 20", "answer 0"),
             ("diff x.net torn.sheet x.sheet", "answer 11 node 1 length 0", "answer 0 none 0 length 0"),
             ("short x.net torn.sheet", "answer 11 node 1 length 0", "answer 0 none 0 length 0"),

@@ -3,8 +3,8 @@ import re
 from collections import Counter
 
 import generated
-from lineup import core, explain, faults, netfile, sheetfile, words
-from lineup.commands import replay
+from lineup import core, explain, faults, mending, netfile, sheetfile, words
+from lineup.commands import mend, replay
 from lineup.inputs import Source
 from lineup.pair import Pair
 from lineup.refusals import REFUSALS
@@ -22,25 +22,26 @@ def run(tally):
             as_text(tally, f"case {i} as text", net, sheet, answer)
     runs(tally, [(net, sheet, record) for (net, sheet, record), answer in zip(cases, checked) if record is not None and not answer.number], met)
     replays(tally, list(generated.logged(5, 4000)), met)
-    tally.same("numbers met", sorted(met), [*range(18), 20, 23, 24])
+    mendings(tally, list(generated.stale(9, 5000)), met)
+    tally.same("numbers met", sorted(met), [*range(18), 20, 23, 24, 25])
     for number in REFUSALS:
         tally.check(f"{number} has its word, meaning and remedy", all(REFUSALS[number]))
     nets_alone(tally, cases)
     too_large(tally)
 
 
-def told(tally, what, net, sheet, answer, record=None, log=None):
+def told(tally, what, net, sheet, answer, record=None, log=None, mend=False):
     """The fault found again is the core's, and a refusal is told without the words for nothing."""
-    fault = explain.again(net, sheet, record, log) or faults.Fault(0)
+    fault = explain.again(net, sheet, record, log, mend) or faults.Fault(0)
     tally.same(f"{what}: {answer.line}", tuple(fault), answer.fault())
     if not answer.number:
         return None
-    found = explain.explain(answer, net, sheet, record, log)
+    found = explain.explain(answer, net, sheet, record, log, mend)
     tally.check(f"{what}: told", found.lines and not re.search("None|Counter|dict|<", " ".join(found.lines)), found.lines)
     return found
 
 
-def as_text(tally, what, net, sheet, answer):
+def as_text(tally, what, net, sheet, answer, mend=False):
     """The same through the text: the words are the same, and the refusal has a line that names what is at fault."""
     written = netfile.write(net.model), None
     over = netfile.read("x.net", written[0])
@@ -49,7 +50,7 @@ def as_text(tally, what, net, sheet, answer):
     one.model, other.model = over, sheetfile.read("x.sheet", written[1], over)
     one.words, other.words = words.net_words(over), words.sheet_words(over, other.model)
     tally.same(f"{what}: words", (one.words, other.words), (net.words, sheet.words))
-    found = explain.explain(answer, one, other)
+    found = explain.explain(answer, one, other, mend=mend)
     text = written[0 if found.source is one else 1].split("\n")
     tally.check(f"{what}: has a line", found.where and 1 <= found.where[0] <= len(text) and found.where[1] <= len(text[found.where[0] - 1]), found.where)
 
@@ -74,6 +75,39 @@ def replays(tally, cases, met):
         if not answer.number:
             sums = [replay.summed(log, rows, len(net.model.places)) for rows in (net.model.taken, net.model.put)]
             tally.same(f"replay {i}: {answer.line}", (answer.outs, [answer.own["taken"], answer.own["put"]]), (sums, list(map(sum, sums))))
+
+
+def mendings(tally, cases, met):
+    """Sheets to mend: what is refused, with a line of the text at fault, and of the rest the counts and what changed."""
+    answers = core.ask(*(core.mend(net.words, sheet.words) for net, sheet in cases))
+    whats = Counter()
+    for i, ((net, sheet), answer) in enumerate(zip(cases, answers)):
+        met[answer.number] += 1
+        found = told(tally, f"mending {i}", net, sheet, answer, mend=True)
+        tally.check(f"mending {i}: {answer.line}", answer.number not in (10, 14, 15))
+        small = len(sheet.words) < 1500 or i % 5 == 0
+        if answer.number == 25:
+            what = mending.worked_out(net.model, sheet.model)[1].what
+            whats[what] += 1
+            if small and what != "entries":
+                as_text(tally, f"mending {i} as text", net, sheet, answer, mend=True)
+                tally.holds(f"mending {i}: the firings", " ".join(found.lines), "is reached by")
+        if not answer.number:
+            mended, changes = mend.held_to(net.model, sheet.model, answer)
+            applied(tally, f"mending {i}", net.model, sheet.model, mended, changes)
+    tally.same("reasons met", sorted(whats), ["count", "entries", "starved", "unequal"])
+
+
+def applied(tally, what, net, sheet, mended, changes):
+    """The changes make the given counts the mended ones, and the core accepts these."""
+    counts = [dict(held) for held in sheet.counts]
+    for n, p, given, new in changes:
+        tally.same(f"{what}: given", counts[n].get(p, 0), given)
+        counts[n][p] = new
+    tally.same(f"{what}: applied", [{p: count for p, count in held.items() if count} for held in counts], mended.counts)
+    both = words.net_words(net), words.sheet_words(net, mended)
+    checked, again = core.ask(core.check(*both), core.mend(*both))
+    tally.same(f"{what}: accepted, and mended to itself", (checked.number, mend.results(again)), (0, [both[1], [0]]))
 
 
 def nets_alone(tally, cases):

@@ -159,7 +159,34 @@ fn lending_two(
     );
 }
 
-// The line of a case, with buffers of the lengths lent; the second is a replay's.
+// The line of a mending, with the buffers lent to it.
+fn mending(net: &[u32], sheet: &[u32], out: &mut [u32], list: &mut [u32], scratch: &mut [u32]) {
+    print::mend_answer(mend::mend(net, sheet, out, list, scratch));
+    print::out(out, 9);
+    print::out(list, 9);
+    print::scratch(scratch, 7);
+    print::text(b"\n");
+}
+
+// The line of a mending. Both output buffers hold 9 before the call, and scratch 7, in the lengths lent.
+fn lending_list(net: &[u32], sheet: &[u32], outs: usize, lists: usize, scratches: usize)
+    requires { ⌜ outs ≤ 9000 ⌝ }
+    requires { ⌜ lists ≤ 9000 ⌝ }
+    requires { ⌜ scratches ≤ 9000 ⌝ }
+{
+    let mut out = [9u32; 9000];
+    let mut list = [9u32; 9000];
+    let mut scratch = [7u32; 9000];
+    mending(
+        net,
+        sheet,
+        &mut out[..outs],
+        &mut list[..lists],
+        &mut scratch[..scratches],
+    );
+}
+
+// The line of a case, with buffers of the lengths lent; the second is a replay's or mending's.
 fn lent(
     operation: u32,
     net: &[u32],
@@ -176,7 +203,11 @@ fn lent(
     if cases::replays(operation) {
         lending_two(net, sheet, words, outs, seconds, scratches);
     } else {
-        lending(operation, net, sheet, words, outs, scratches);
+        if cases::mends(operation) {
+            lending_list(net, sheet, outs, seconds, scratches);
+        } else {
+            lending(operation, net, sheet, words, outs, scratches);
+        }
     }
 }
 

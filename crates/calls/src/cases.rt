@@ -21,7 +21,7 @@ struct Marks {
     rest: Text,
 }
 
-// The lengths of the buffers lent to a call. The second is a replay's, for what is put.
+// The lengths of the buffers lent to a call. The second is a replay's, for what is put, or mending's, for the list.
 struct Buffers {
     out: usize,
     second: usize,
@@ -38,7 +38,7 @@ pub(crate) fn reads_sheet(operation: u32) -> bool {
     }
 }
 
-// Whether an operation has one output buffer, of words.
+// Whether an operation has one output buffer, which is of words.
 pub(crate) fn writes_out(operation: u32) -> bool {
     match operation {
         3 | 6 | 7 => true,
@@ -51,9 +51,22 @@ pub(crate) fn replays(operation: u32) -> bool {
     operation == 9
 }
 
+// Whether an operation is mending, which has two output buffers, of words.
+pub(crate) fn mends(operation: u32) -> bool {
+    operation == 10
+}
+
+// Whether an operation has a second output buffer.
+fn lends_two(operation: u32) -> bool {
+    if replays(operation) {
+        return true;
+    }
+    mends(operation)
+}
+
 // Whether an operation has a first output buffer.
 fn lends_out(operation: u32) -> bool {
-    if replays(operation) {
+    if lends_two(operation) {
         return true;
     }
     writes_out(operation)
@@ -116,7 +129,7 @@ fn lent(operation: u32, fits: bool, buffer: &mut [u8], from: Text) -> Buffers
     ensures { λ r. ⌜ (r .out ≤ 9000) × (r .second ≤ 9000) × (r .scratch ≤ 9000) ⌝ }
 {
     let out = input::length_if(lends_out(operation), buffer, from, 9000);
-    let second = input::length_if(replays(operation), buffer, out.rest, 9000);
+    let second = input::length_if(lends_two(operation), buffer, out.rest, 9000);
     let scratch = input::length_if(reads_sheet(operation), buffer, second.rest, 9000);
     let rest = scratch.rest;
     let both = all_fit(fits, out.fits, second.fits);
@@ -159,7 +172,7 @@ fn ends(operation: u32) -> bool {
     if operation == 0 {
         return true;
     }
-    if operation > 9 {
+    if operation > 10 {
         print::text(b"no such call\n");
         return true;
     }

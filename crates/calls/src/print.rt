@@ -4,6 +4,7 @@ ghost use mathlib.Core.Path.{_≡_};
 ghost use lib.ListN.{length, take};
 use judge::CheckAnswer;
 use libc::STDOUT_FILENO;
+use mended::MendAnswer;
 use minimal::FormAnswer;
 use refusal::Verdict;
 use replay::ReplayAnswer;
@@ -78,6 +79,13 @@ pub(crate) fn form_answer(answer: FormAnswer) {
     let plain = answer.plain();
     told(plain[0], plain[1], plain[2]);
     named(b" length", plain[3] as u64);
+}
+
+pub(crate) fn mend_answer(answer: MendAnswer) {
+    let plain = answer.plain();
+    told(plain[0], plain[1], plain[2]);
+    named(b" length", plain[3] as u64);
+    named(b" list", plain[4] as u64);
 }
 
 // What a transition takes and puts at a place, and what the place starts with.

@@ -6,5 +6,6 @@ pub mod Further
 pub mod BesideRun
 pub mod Replay
 pub mod Entries
+pub mod Mend
 pub mod Examples
 pub mod Nine

@@ -60,7 +60,7 @@ every net sheet log taken put =
 module _ {Answer : Type 0} {core : Core Answer} {plain : Answer → List ℕ} {k : ℕ} {own : List ℕ} {words : List Check} (law : Lawful core plain k own words) (j : ℕ)
     {outs₁ outs₂ outs₁′ outs₂′ : List (List ℕ)} {s₁ s₂ s₁′ s₂′ : List ℕ} {a : Answer}
     (c : CallDone scratchLimit core outs₁ s₁ a outs₁′ s₁′) (d : CallDone scratchLimit core outs₂ s₂ a outs₂′ s₂′) where
-  left-alike : LeftAlike (buffer outs₁ j) (buffer outs₂ j) (buffer outs₁′ j) (buffer outs₂′ j)
+  pub left-alike : LeftAlike (buffer outs₁ j) (buffer outs₂ j) (buffer outs₁′ j) (buffer outs₂′ j)
   left-alike i = byTest (eqb (number (plain a)) 0) (λ t. written (eqb-true _ _ t)) (λ t. inr (kept c (eqb-false _ _ t), kept d (eqb-false _ _ t)))
     where
       result : List ℕ

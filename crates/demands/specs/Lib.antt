@@ -5,4 +5,5 @@ pub mod Demand3
 pub mod Further
 pub mod Replay
 pub mod Entries
+pub mod Mend
 pub mod Examples

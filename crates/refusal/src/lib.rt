@@ -113,6 +113,8 @@ impl Refusal {
     pub const LOG_SHAPE: u32 = 23; // §7.23, no record
 
     pub const WRONG_NODE: u32 = 24; // §7.24, logged node differs
+
+    pub const NO_COUNTS_FIT: u32 = 25; // §7.25, no counts fit
 }
 
 // What a check answers that has no numbers of its own.

@@ -1,6 +1,6 @@
 //! A call with everything it lends, and what it leaves behind.
 
-use crate::model::{self, Walker, FORM, LINES, SCRATCH};
+use crate::model::{self, Walker, FORM, LINES, LIST, SCRATCH};
 
 #[derive(Clone, Copy, PartialEq, Eq, PartialOrd, Ord)]
 pub enum Kind {
@@ -12,13 +12,25 @@ pub enum Kind {
     Run,
     ShortForm,
     Replay,
+    Mend,
 }
 
-use Kind::{FreshWalker, NetCheck, PlaceBounds, Replay, Run, SheetCheck, ShortForm, SingleFiring};
+use Kind::{
+    FreshWalker, Mend, NetCheck, PlaceBounds, Replay, Run, SheetCheck, ShortForm, SingleFiring,
+};
 
 impl Kind {
-    pub const ALL: [Kind; 8] =
-        [NetCheck, SheetCheck, PlaceBounds, FreshWalker, SingleFiring, Run, ShortForm, Replay];
+    pub const ALL: [Kind; 9] = [
+        NetCheck,
+        SheetCheck,
+        PlaceBounds,
+        FreshWalker,
+        SingleFiring,
+        Run,
+        ShortForm,
+        Replay,
+        Mend,
+    ];
 
     pub fn name(self) -> &'static str {
         match self {
@@ -30,6 +42,7 @@ impl Kind {
             Run => "run",
             ShortForm => "form",
             Replay => "replay",
+            Mend => "mend",
         }
     }
 
@@ -37,6 +50,7 @@ impl Kind {
     pub fn operation(self) -> u32 {
         match self {
             Replay => 9,
+            Mend => 10,
             _ => self as u32 + 1,
         }
     }
@@ -49,6 +63,7 @@ impl Kind {
             Run => &["fired", "node", "entry"],
             ShortForm => &["length"],
             Replay => &["taken", "put", "entry"],
+            Mend => &["length", "list"],
             _ => &[],
         }
     }
@@ -59,7 +74,12 @@ impl Kind {
     }
 
     pub fn writes_out(self) -> bool {
-        matches!(self, PlaceBounds | Run | ShortForm)
+        matches!(self, PlaceBounds | Run | ShortForm | Mend)
+    }
+
+    /// Whether it has a second output buffer of words.
+    pub fn writes_list(self) -> bool {
+        self == Mend
     }
 
     /// Whether it is handed a record or a log.
@@ -87,6 +107,7 @@ pub struct Call {
     pub transition: u32,
     pub walker: Walker,
     pub out: Vec<u32>,
+    pub list: Vec<u32>,
     pub sums: [Vec<u64>; 2],
     pub scratch: Vec<u32>,
 }
@@ -97,6 +118,7 @@ pub struct Outcome {
     pub reply: Vec<u64>,
     pub walker: Walker,
     pub out: Vec<u32>,
+    pub list: Vec<u32>,
     pub sums: [Vec<u64>; 2],
     pub scratch: Vec<u32>,
 }
@@ -112,6 +134,7 @@ impl Call {
             transition: 0,
             walker: [0; 1 + LINES],
             out: vec![0; FORM],
+            list: vec![0; LIST],
             sums: [vec![0; LINES], vec![0; LINES]],
             scratch: vec![0; SCRATCH],
         }
@@ -120,7 +143,7 @@ impl Call {
     /// What the model leaves behind.
     pub fn put(&self) -> Outcome {
         let Call { net, sheet, record, transition, .. } = self;
-        let Call { mut walker, mut out, mut sums, mut scratch, .. } = self.clone();
+        let Call { mut walker, mut out, mut list, mut sums, mut scratch, .. } = self.clone();
         let reply = match self.kind {
             NetCheck => model::net_check(net).to_vec(),
             SheetCheck => model::sheet_check(net, sheet, &mut scratch).to_vec(),
@@ -135,8 +158,9 @@ impl Call {
                 let [taken, put] = &mut sums;
                 model::replay(net, sheet, record, taken, put, &mut scratch).to_vec()
             }
+            Mend => model::mend(net, sheet, &mut out, &mut list, &mut scratch).to_vec(),
         };
-        Outcome { reply, walker, out, sums, scratch }
+        Outcome { reply, walker, out, list, sums, scratch }
     }
 
     /// The words that the call wrote or handed back.
@@ -147,9 +171,21 @@ impl Call {
         let length = match self.kind {
             _ if outcome.reply[0] != 0 => 0,
             PlaceBounds | Run => self.net.first().map_or(0, |&places| places as usize),
-            ShortForm => outcome.reply[3] as usize,
+            ShortForm | Mend => outcome.reply[3] as usize,
             _ => 0,
         };
         &outcome.out[..length.min(outcome.out.len())]
+    }
+
+    /// How many words a mending needs of its two buffers.
+    pub fn lengths(&self) -> [usize; 2] {
+        let reply = Call::new(Mend, &self.net, &self.sheet).put().reply;
+        [reply[3] as usize, reply[4] as usize]
+    }
+
+    /// The list that a mending wrote.
+    pub fn listed<'a>(&self, outcome: &'a Outcome) -> &'a [u32] {
+        let length = if self.kind == Mend { outcome.reply[4] as usize } else { 0 };
+        &outcome.list[..length.min(outcome.list.len())]
     }
 }

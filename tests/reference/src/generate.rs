@@ -5,6 +5,7 @@ pub mod damage;
 pub mod logs;
 pub mod rng;
 pub mod schedules;
+pub mod stale;
 pub mod variants;
 
 use crate::call::{Call, Kind};
@@ -124,7 +125,10 @@ fn place_asked(rng: &mut Rng, net: &Net, words: &[u32]) -> (usize, usize) {
 pub fn call(rng: &mut Rng) -> Call {
     let kind = rng.pick(&Kind::ALL);
     let schedule = schedule(rng);
-    let (mut net_part, sheet_part) = words(rng, &schedule);
+    let (mut net_part, sheet_part) = match kind {
+        Kind::Mend if rng.chance(80) => stale::words(rng, &schedule),
+        _ => words(rng, &schedule),
+    };
     if !kind.reads_sheet() && rng.chance(30) {
         net_part = net_words(&net(rng));
         if rng.chance(50) {
@@ -144,6 +148,10 @@ pub fn call(rng: &mut Rng) -> Call {
         _ => 0,
     };
     call.out = buffer(rng, needed);
+    if kind == Kind::Mend {
+        let lengths = call.lengths();
+        [call.out, call.list] = lengths.map(|needed| roomy(rng, needed));
+    }
     call.sums = [0, 1].map(|_| sums(rng, schedule.net.places()));
     call.scratch = scratch(rng);
     call
@@ -212,6 +220,12 @@ fn transition(rng: &mut Rng, schedule: &Schedule, node: u32) -> u32 {
 /// An output buffer that holds what is needed, or one word less, or other lengths.
 fn buffer(rng: &mut Rng, needed: usize) -> Vec<u32> {
     let length = lent(rng, needed);
+    rng.words(length)
+}
+
+/// One of mending's two buffers, long enough in most.
+fn roomy(rng: &mut Rng, needed: usize) -> Vec<u32> {
+    let length = if rng.chance(80) { needed + rng.below(3) } else { lent(rng, needed) };
     rng.words(length)
 }
 

@@ -1,8 +1,8 @@
-//! The worked examples, §14.2 to §14.7, with their answers, and logs whose replay is told by hand.
+//! The worked examples, §14.2 to §14.8, with their answers, and logs whose replay is told by hand.
 
 use crate::generate::rng::Rng;
-use crate::generate::schedules::{crowded, nine_nodes, ring};
-use crate::model::{self, FORM, SCRATCH};
+use crate::generate::schedules::{crowded, net_words, nine_nodes, ring};
+use crate::model::{self, Net, Sheet, FORM, LIST, SCRATCH};
 use crate::program::printed;
 use crate::tally::Tally;
 
@@ -35,6 +35,49 @@ const ARBITRATED: [(&str, &str, [u64; 6]); 5] = [
     ("2 4 5 2 4 7 8 17 1 1 1 1 1", "2 6 0 5 6 9 10 11 1 0 0 1 1 1", [0, 0, 0, 2, 3, 1]),
 ];
 
+/// §14.8: net, sheet, the mended sheet, the list of changes.
+const MENDED: [(&str, &str, &str, &str); 7] = [
+    (A, "2 3 0 3 5 1 0 1", "2 3 0 3 5 1 0 1", "0"),
+    (A, "2 2 0 3 1 0", "2 3 0 3 5 1 0 1", "1 1 1"),
+    (A, "2 4 0 3 4 5 1 0 0 4294967295", "2 3 0 3 5 1 0 1", "1 1 1"),
+    (A, "2 4 0 3 4 5 1 0 7 1", "2 3 0 3 5 1 0 1", "1 0 0"),
+    (A, "2 4 0 3 4 5 1 0 7 0", "2 3 0 3 5 1 0 1", "2 0 1 0 1"),
+    (
+        "2 3 4 2 5 6 9 1 2 1 2",
+        "3 5 0 4 8 11 13 1 2 0 1 2",
+        "3 5 0 4 8 11 14 1 2 0 1 2",
+        "2 4 5 0 2",
+    ),
+    (
+        "1 2 3 1 2 4 1 1 999999999",
+        "2 2 0 3 1 0",
+        "2 4 0 3 4 5 1 0 999999999 1000000000",
+        "2 0 1 999999999 1000000000",
+    ),
+];
+
+/// §14.8: net, sheet, the number, kind and position. In the last five no counts fit: one is starved,
+/// one has a loop that fills, one passes the limit, in one two ways to a node put differently, and in one
+/// the counts come out right where a transition is not enabled.
+const NOT_MENDED: [(&str, &str, [u64; 3]); 16] = [
+    ("1 1", "2 2 0 3 1 0", [1, 0, 0]),
+    (A, "2", [6, 0, 0]),
+    (A, "129 0", [7, 0, 0]),
+    (A, "2 3 0 3 6 1 0 1", [8, 1, 2]),
+    (A, "2 4 0 3 5 5 1 0 1 1", [8, 1, 3]),
+    (A, "2 3 0 3 5 2 0 0", [9, 1, 0]),
+    (A, "1 0", [11, 3, 0]),
+    ("1 3 3 1 2 3 1 1 1", "2 2 0 4 1 0", [12, 3, 1]),
+    ("1 2 3 1 3 4 1 1 1", "1 1 1 0", [13, 3, 0]),
+    (A, "3 4 0 3 4 6 1 0 1 0", [16, 3, 2]),
+    ("1 2 3 1 2 3 1 1 1", "2 2 0 3 1 1", [17, 3, 1]),
+    ("1 2 2 1 2 2 1", "2 2 0 3 1 0", [25, 0, 0]),
+    (A, "1 1 0 0", [25, 0, 0]),
+    ("1 2 3 1 2 4 1 1 1000000000", "2 2 0 3 1 0", [25, 0, 0]),
+    ("1 3 3 2 3 4 1 1 2", "2 3 0 1 5 1 1 0", [25, 0, 0]),
+    ("1 2 3 1 2 3 2 1 1", "2 2 0 3 1 0", [25, 0, 0]),
+];
+
 pub fn check(tally: &mut Tally) {
     for (net, sheet, should) in STARRED.into_iter().chain(ARBITRATED) {
         let is = sheet_check(&text_words(net), &text_words(sheet), SCRATCH);
@@ -42,6 +85,7 @@ pub fn check(tally: &mut Tally) {
     }
     short_forms(tally);
     replays(tally);
+    mendings(tally);
     limits(tally);
     output(tally);
 }
@@ -102,6 +146,54 @@ fn replays(tally: &mut Tally) {
     let sum = 2_048_000_000_000;
     tally.same("4,096 firings", large(4_096), ([0, 0, 0, sum, sum, 2], vec![sum], vec![sum]));
     tally.same("4,097 firings", large(4_097), ([23, 0, 0, 0, 0, 0], vec![9], vec![9]));
+}
+
+fn mend(net: &[u32], sheet: &[u32], room: [usize; 2]) -> ([u64; 5], Vec<u32>, Vec<u32>) {
+    let [mut out, mut list] = room.map(|room| vec![9; room]);
+    let reply = model::mend(net, sheet, &mut out, &mut list, &mut [7; SCRATCH]);
+    (reply, out, list)
+}
+
+/// What is mended and what is not, both in buffers of the lengths needed and in shorter ones.
+fn mendings(tally: &mut Tally) {
+    for (net, sheet, mended, list) in MENDED {
+        let what = format!("net {net}, sheet {sheet} mended");
+        let [net, sheet, mended, list] = [net, sheet, mended, list].map(text_words);
+        let lengths = [mended.len(), list.len()];
+        let numbers = [0, 0, 0, lengths[0] as u64, lengths[1] as u64];
+        tally.same(&what, mend(&net, &sheet, lengths), (numbers, mended, list));
+        for short in [[lengths[0] - 1, lengths[1]], [lengths[0], lengths[1] - 1], [0, 0]] {
+            let [out, list] = short.map(|length| vec![9; length]);
+            tally.same(&what, mend(&net, &sheet, short), ([22, 0, 0, 0, 0], out, list));
+        }
+    }
+    for (net, sheet, [number, kind, at]) in NOT_MENDED {
+        let what = format!("net {net}, sheet {sheet} not mended");
+        let [net, sheet] = [net, sheet].map(text_words);
+        let kept = ([number, kind, at, 0, 0], vec![9; 10], vec![9; 10]);
+        tally.same(&what, mend(&net, &sheet, [10, 10]), kept);
+    }
+    let (net, full) = crowded(&mut Rng::new(0)).words();
+    tally.same("4,096 entries are mended", mend(&net, &full, [FORM, LIST]).0, [0, 0, 0, 8_194, 1]);
+    let (net, arcs) = one_too_many();
+    tally.same("4,097 are not", mend(&net, &arcs, [FORM, LIST]).0, [25, 0, 0, 0, 0]);
+}
+
+/// A ring of 128 nodes with one arc each. 31 places hold one everywhere; the last place is filled from
+/// node 0 and drained at node 1: 128 + 31 × 128 + 1 entries. Only the arcs are given.
+fn one_too_many() -> (Vec<u32>, Vec<u32>) {
+    let place = |places: std::ops::Range<usize>| -> Vec<u64> {
+        (0..32).map(|p| u64::from(places.contains(&p))).collect()
+    };
+    let net = Net {
+        taken: vec![place(0..0), place(31..32), place(0..1)],
+        put: vec![place(31..32), place(0..0), place(0..1)],
+        start: place(0..31),
+    };
+    let row =
+        |node: usize| (0..3).map(|t| (t == node.min(2)).then_some((node + 1) % 128)).collect();
+    let sheet = Sheet { arcs: (0..128).map(row).collect(), counts: vec![vec![0; 32]; 128] };
+    (net_words(&net), sheet.words())
 }
 
 /// The limits: §14.6.

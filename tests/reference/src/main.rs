@@ -7,6 +7,7 @@ mod arbitration;
 mod call;
 mod generate;
 mod listed;
+mod mending;
 mod model;
 mod program;
 mod second;
@@ -18,6 +19,7 @@ use arbitration::Arbitration;
 use call::{Call, Kind};
 use generate::rng::Rng;
 use generate::schedules::Schedule;
+use mending::Mending;
 use std::io::{Read, Write};
 use std::path::Path;
 use std::process::ExitCode;
@@ -31,7 +33,8 @@ const USAGE: &str = "usage: reference selftest
        reference cases SEED COUNT
        reference pairs SEED COUNT
        reference play < CASES
-       reference arbitrated < CASES";
+       reference arbitrated < CASES
+       reference mended < CASES";
 
 fn main() -> ExitCode {
     let arguments: Vec<String> = std::env::args().skip(1).collect();
@@ -40,6 +43,7 @@ fn main() -> ExitCode {
     match arguments.as_slice() {
         ["play"] => return written(play),
         ["arbitrated"] => return written(arbitrated),
+        ["mended"] => return written(mended),
         ["file", folder] => return written(|| Ok(program::printed_in(Path::new(folder)))),
         ["cases", seed, count] => {
             if let (Ok(seed), Ok(count)) = (seed.parse(), count.parse()) {
@@ -105,6 +109,17 @@ fn play() -> std::io::Result<String> {
 /// On how many cases of standard input arbitration tells.
 fn arbitrated() -> std::io::Result<String> {
     let mut met = Arbitration::default();
+    for case in given()? {
+        if let Case::Call(call) = case {
+            met.count(&call, &call.put());
+        }
+    }
+    Ok(met.line() + "\n")
+}
+
+/// What the counts of the mended sheets of standard input were, and why others cannot be mended.
+fn mended() -> std::io::Result<String> {
+    let mut met = Mending::default();
     for case in given()? {
         if let Case::Call(call) = case {
             met.count(&call, &call.put());

@@ -1,11 +1,13 @@
 //! The calls from the customer's scope, the plainest way: tables are dense and numbers are 64 bits
-//! wide, so that no sum of the limits comes near their end. `net`, `sheet` and `form` are what their
-//! names say; here are the refusals and the calls. Clauses are those of `docs/SPEC.md`.
+//! wide, so that no sum of the limits comes near their end. `net`, `sheet`, `form` and `mending` are
+//! what their names say; here are the refusals and the calls. Clauses are those of `docs/SPEC.md`.
 
 mod form;
+mod mending;
 mod net;
 mod sheet;
 
+pub use mending::Misfit;
 pub use net::{Net, Shape};
 pub use sheet::Sheet;
 
@@ -18,8 +20,10 @@ pub const MAX_WEIGHT: u64 = 1_000_000_000;
 pub const MAX_FIRINGS: u64 = 4_096;
 /// Words of scratch below which a call is refused by 21: §1.6.
 pub const SCRATCH: usize = 8_192;
-/// Words that every short form fits in: §11.7.
+/// Words that every short form and every mended sheet fits in: §11.7.
 pub const FORM: usize = 8_194;
+/// Words that every list of changes fits in, one change for each of 32 places at 128 nodes: §10.16.
+pub const LIST: usize = 8_193;
 
 /// A node, then 32 counts: §10.5.
 pub type Walker = [u32; 1 + LINES];
@@ -84,14 +88,19 @@ fn sent(number: Option<u64>) -> u64 {
 /// The checks that begin every call on a sheet: scratch, the net, the sheet (§7.54). Scratch that
 /// passes 21 is cleared whatever the answer (§9.3).
 fn accept(net: &[u32], sheet: &[u32], scratch: &mut [u32]) -> Result<(Net, Sheet), Refusal> {
+    let net = accept_net(net, scratch)?;
+    let sheet = Sheet::read(&net, sheet)?;
+    sheet.check_schedule(&net)?;
+    Ok((net, sheet))
+}
+
+/// The first of these: scratch and the net.
+fn accept_net(net: &[u32], scratch: &mut [u32]) -> Result<Net, Refusal> {
     if scratch.len() < SCRATCH {
         return refuse(21, Nothing);
     }
     scratch[..SCRATCH].fill(0);
-    let net = Net::read(net)?;
-    let sheet = Sheet::read(&net, sheet)?;
-    sheet.check_schedule(&net)?;
-    Ok((net, sheet))
+    Net::read(net)
 }
 
 /// 22 where the result does not fit (§9.6); otherwise writes it and leaves the rest (§9.4).
@@ -274,6 +283,32 @@ pub fn short_form(net: &[u32], sheet: &[u32], out: &mut [u32], scratch: &mut [u3
         let words = sheet.minimal_form().words();
         write(out, &words)?;
         Ok(vec![words.len() as u64])
+    });
+    plain(answer)
+}
+
+/// Mending: §10.14. The checks are those of §7.62.
+pub fn mend(
+    net: &[u32],
+    sheet: &[u32],
+    out: &mut [u32],
+    list: &mut [u32],
+    scratch: &mut [u32],
+) -> [u64; 5] {
+    let answer = accept_net(net, scratch).and_then(|net| {
+        let given = Sheet::read_arcs(&net, sheet)?;
+        given.check_offers(&net)?;
+        given.check_paths(&net)?;
+        let Ok(mended) = given.mended(&net) else {
+            return refuse(25, Nothing);
+        };
+        let (words, changes) = (mended.words(), given.changes(&mended));
+        if out.len() < words.len() || list.len() < changes.len() {
+            return refuse(22, Nothing);
+        }
+        write(out, &words)?;
+        write(list, &changes)?;
+        Ok(vec![words.len() as u64, changes.len() as u64])
     });
     plain(answer)
 }

@@ -45,7 +45,7 @@ impl Table {
         Kind::ALL.iter().map(|&kind| self.cell(number, kind)).sum()
     }
 
-    fn cell(&self, number: u64, kind: Kind) -> usize {
+    pub fn cell(&self, number: u64, kind: Kind) -> usize {
         self.0.get(&(number, kind)).copied().unwrap_or(0)
     }
 
@@ -53,7 +53,7 @@ impl Table {
     pub fn print(&self) {
         let head: String = Kind::ALL.iter().map(|kind| format!("{:>8}", kind.name())).collect();
         println!("number{head}     all");
-        for number in 0..=24 {
+        for number in 0..=25 {
             let cells: String =
                 Kind::ALL.iter().map(|&kind| format!("{:>8}", self.cell(number, kind))).collect();
             println!("{number:>6}{cells}{:>8}", self.times(number));

@@ -13,10 +13,12 @@
 //! | 7 short form | net, sheet, out, scratch |
 //! | 8 weights | net, transition, place |
 //! | 9 replay | net, sheet, log, taken, put, scratch |
+//! | 10 mending | net, sheet, out, list, scratch |
 //!
-//! Net, sheet, record and log are their length and their words; out, taken, put and scratch the
-//! length lent: these hold 9 before the call, and scratch 7. Numbers are decimal and parted by anything that is no
-//! digit; `#` starts a comment that ends with the line. 0 for an operation, or the end, ends.
+//! Net, sheet, record and log are their length and their words; out, list, taken, put and scratch the
+//! length lent: these hold 9 before the call, and scratch 7. Numbers are decimal and parted by
+//! anything that is no digit; `#` starts a comment that ends with the line. 0 for an operation, or the
+//! end, ends.
 
 use crate::call::{Call, Kind, Outcome};
 use crate::model;
@@ -89,6 +91,9 @@ impl Case {
         if kind.writes_out() {
             call.out = from.buffer(OUT);
         }
+        if kind.writes_list() {
+            call.list = from.buffer(OUT);
+        }
         if kind.writes_sums() {
             call.sums = [from.buffer(u64::from(OUT)), from.buffer(u64::from(OUT))];
         }
@@ -142,6 +147,9 @@ impl Call {
         if self.kind.writes_out() {
             text += &format!(" | out {}", self.out.len());
         }
+        if self.kind.writes_list() {
+            text += &format!(" | list {}", self.list.len());
+        }
         if self.kind.writes_sums() {
             let [taken, put] = [0, 1].map(|i| self.sums[i].len());
             text += &format!(" | taken {taken} | put {put}");
@@ -173,6 +181,9 @@ impl Outcome {
         }
         if call.kind.writes_out() {
             line += &left(&self.out, OUT);
+        }
+        if call.kind.writes_list() {
+            line += &left(&self.list, OUT);
         }
         if call.kind.writes_sums() {
             line += &self.sums.iter().map(|sums| left(sums, u64::from(OUT))).collect::<String>();

@@ -75,7 +75,7 @@ fn add_arc(rng: &mut Rng, schedule: &mut Schedule) {
     schedule.sheet.arcs[node][t] = Some(target);
 }
 
-fn retarget(rng: &mut Rng, schedule: &mut Schedule) {
+pub fn retarget(rng: &mut Rng, schedule: &mut Schedule) {
     if let Some((node, t, _)) = some_arc(rng, schedule) {
         schedule.sheet.arcs[node][t] = Some(some_node(rng, schedule));
     }

@@ -1,0 +1,29 @@
+-- `mend::mend` meets its contract.
+use mathlib.Core.Path.{refl, sym, _∙_}
+use Rattle.call.proofs.Laws.{refused-scratch, served}
+use borrow.Author.Needs.{needs}
+use Rattle.mend.proofs.mend.Statement.{statement}
+use Rattle.mend.proofs.mend.Tie as tie
+
+returns : tie.Need-returns
+returns c = refused-scratch (sym (c .before .before .before .scratch-fault .ensures) ∙ c .before .found .given .1) refl
+
+returns-2 : tie.Need-returns-2
+returns-2 c = served (sym (c .before .before .before .before .before .before .before .before .before .before .before .before .before .scratch-fault .ensures)
+    ∙ c .before .before .before .before .before .before .before .before .before .before .before .enum-told .given .1)
+    (c .before .before .before .before .before .before .before .before .mend-into .ensures) (c .before .before .clear-front .ensures)
+
+pub mend-spec : {M : Type 1} → statement M
+mend-spec =
+    tie.close
+    (tie.spec
+    (λ c κs. search needs)
+    (λ c. search needs)
+    returns
+    (λ c. search needs)
+    (λ c κs. search needs)
+    (λ c κs. search needs)
+    (λ c. search needs)
+    (λ c. search needs)
+    (λ c. search needs)
+    returns-2)

@@ -1,0 +1,46 @@
+-- `mend::writer::copy` meets its contract: the words before the counter are written.
+use Prim.Native.Nat.{_-_, _≤_}
+use mathlib.Core.Path.{_≡_}
+use Rattle.scan.specs.Scan.{tabulate}
+use Rattle.mend.specs.Writing.{Appended, copied}
+use Rattle.mend.proofs.Writes.{appended-none, appended-length, appended-copy}
+use borrow.Author.Needs.{needs}
+use native.Mathlib.Omega.{arith}
+use Rattle.mend.proofs.writer.copy.Statement.{statement}
+use Rattle.mend.proofs.writer.copy.Tie as tie
+
+abbrev Inv-loop : tie.InvT-loop
+Inv-loop sheet from n out₀ at next₀ i₀ out next i = (i ≤ n) × Appended out₀ at (tabulate (copied sheet from) i) next out
+
+abbrev μ-loop : tie.MeasureT-loop
+μ-loop sheet from n out₀ at next₀ i₀ out next i = n - i
+
+loop-holds : tie.Need-loop-holds Inv-loop μ-loop
+unfolding tabulate
+loop-holds c = (omega arith, appended-none _ _)
+
+loop-again : tie.Need-loop-again Inv-loop μ-loop
+loop-again c = let w = c .before .before .before .before .before .before .loop in (omega arith, appended-copy _ _ _ _ _ (w .inv .1) (c .before .before .put .ensures))
+
+same-length : tie.Need-same-length Inv-loop μ-loop
+same-length c = appended-length _ _ (c .before .loop .inv .1)
+
+returns : tie.Need-returns Inv-loop μ-loop
+returns c = let w = c .before .loop in let e : w .i ≡ c .before .before .before .before .args .n = omega arith in rw e at (w .inv .1)
+
+pub copy-spec : {M : Type 1} → statement M
+copy-spec =
+    tie.close
+    (tie.spec
+    Inv-loop
+    μ-loop
+    loop-holds
+    (λ c. search needs)
+    (λ c. search needs)
+    (λ c. search needs)
+    (λ c κs. search needs)
+    (λ c. search needs)
+    (λ c. omega arith)
+    loop-again
+    same-length
+    returns)

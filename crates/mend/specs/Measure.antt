@@ -1,0 +1,41 @@
+-- What is known before anything is written: the verdict, the arcs that found the nodes, and how many entries and changes there are. No contract of a public
+-- function cites it.
+use Prim.Native.Nat.{ℕ, _≤_}
+use mathlib.Core.Path.{_≡_}
+use mathlib.Core.Bool.{true, false}
+use mathlib.Core.List.{List}
+use lib.ListN.{length}
+use Rattle.scan.specs.Scan.{orElse, first}
+use Rattle.refusal.specs.Limits.{mostEntries}
+use Rattle.refusal.specs.Verdict.{verdictOf, andThen}
+use Rattle.refusal.specs.declared.Verdict.{Verdict}
+use Rattle.refusal.specs.declared.Verdict.the-variants.{Accepted}
+use Rattle.sequential.specs.Petri.{petriNet}
+use Rattle.sequential.specs.Words.{nodeCount}
+use Rattle.sequential.specs.Check.{nodeFault, rootFault, reachFault, returnFault}
+use Rattle.graph.specs.Readable.{arcsReply, ArcsReadable}
+use Rattle.mended.specs.Mend.{mendVerdict}
+use Rattle.mend.specs.Search.{Tree}
+use Rattle.mend.specs.Places.{AllFit}
+use Rattle.mend.specs.Writing.{partOf, entriesOf}
+
+-- all that is asked before the counts: §7.62
+unfoldable pub arcsVerdict : List ℕ → List ℕ → Verdict
+arcsVerdict net sheet =
+    let N = petriNet net in
+    andThen (arcsReply net sheet) (verdictOf (orElse (orElse (first (nodeFault N sheet) (nodeCount sheet)) (rootFault N sheet))
+    (orElse (first (reachFault N sheet) (nodeCount sheet)) (first (returnFault N sheet) (nodeCount sheet)))))
+
+-- where nothing is refused
+pub record Ready (net sheet finder : List ℕ) (entries changes : ℕ) : Type 0 where
+  pub readable : ArcsReadable net sheet
+  pub tree : Tree (petriNet net) sheet finder
+  pub fit : AllFit (petriNet net) sheet
+  pub entries-are : entries ≡ entriesOf (petriNet net) sheet
+  pub few-entries : entries ≤ mostEntries
+  pub changes-are : changes ≡ length (partOf (petriNet net) sheet true false)
+  pub few-changes : changes ≤ mostEntries
+
+pub record Measured (net sheet : List ℕ) (verdict : Verdict) (finder : List ℕ) (entries changes : ℕ) : Type 0 where
+  pub reply : verdict ≡ mendVerdict net sheet
+  pub ready : verdict ≡ Accepted → Ready net sheet finder entries changes

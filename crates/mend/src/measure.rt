@@ -1,0 +1,80 @@
+// What mending finds out before it writes: the checks in their order, and how many words both results have.
+ghost use mathlib.Core.Path.{_≡_};
+ghost use Rattle.refusal.specs.Refusal.{refusal};
+ghost use Rattle.refusal.specs.declared.Position.the-variants.{Nothing};
+ghost use Rattle.mend.specs.Measure.{arcsVerdict, Measured};
+use super::places;
+use super::search;
+use super::writer;
+use refusal::Limits;
+use refusal::Position;
+use refusal::Refusal;
+use refusal::Verdict;
+
+pub(crate) struct Measure {
+    pub verdict: Verdict,
+    pub finder: [u16; 128],
+    pub entries: usize,
+    pub changes: usize,
+}
+
+// Refusals 1 to 9, 9 of arcs alone, 11 to 13, 16 and 17.
+fn checked(net: &[u32], sheet: &[u32]) -> Verdict
+    ensures { λ r. ⌜ r ≡ arcsVerdict (now (net .entry)) (now (sheet .entry)) ⌝ }
+{
+    let found = graph::check_arcs(net, sheet);
+    if let Verdict::Refused(_) = found {
+        return found;
+    }
+    let nodes = choice::nodes(net, sheet);
+    let found = nodes.verdict;
+    if let Verdict::Refused(_) = found {
+        return found;
+    }
+    let awaits = nodes.awaits;
+    reach::paths(net, sheet, awaits)
+}
+
+fn refused(verdict: Verdict) -> Measure
+    ensures { λ r. ⌜ r .verdict ≡ verdict ⌝ }
+{
+    Measure {
+        verdict,
+        finder: [0u16; 128],
+        entries: 0,
+        changes: 0,
+    }
+}
+
+// Refusal 25.
+fn no_counts() -> Measure
+    ensures { λ r. ⌜ r .verdict ≡ Verdict.Refused (refusal 25 Nothing) ⌝ }
+{
+    refused(refusal::refuse(Refusal::NO_COUNTS_FIT, Position::Nothing))
+}
+
+pub(crate) fn measured(net: &[u32], sheet: &[u32]) -> Measure
+    ensures { λ r. ⌜ Measured (now (net .entry)) (now (sheet .entry)) (r .verdict) (r .finder) (r .entries) (r .changes) ⌝ }
+{
+    let found = checked(net, sheet);
+    if let Verdict::Refused(_) = found {
+        return refused(found);
+    }
+    let nodes = search::search(net, sheet);
+    if !places::all_fit(net, sheet, nodes) {
+        return no_counts();
+    }
+    let finder = nodes.finder;
+    let arcs = graph::arc_count(net, sheet);
+    let entries = arcs + writer::counted(net, sheet, finder, false);
+    if (Limits::ENTRIES as usize) < entries {
+        return no_counts();
+    }
+    let changes = writer::counted(net, sheet, finder, true);
+    Measure {
+        verdict: Verdict::Accepted,
+        finder,
+        entries,
+        changes,
+    }
+}

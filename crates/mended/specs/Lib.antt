@@ -1,0 +1,9 @@
+pub mod Arcs
+pub mod Routes
+pub mod Counts
+pub mod Checks
+pub mod Mend
+pub mod Changes
+pub mod Listed
+pub mod Call
+pub mod Examples
