@@ -95,20 +95,69 @@ pub(crate) fn weights(taken: u32, put: u32, start: u32) {
     named(b" start", start as u64);
 }
 
-fn number(n: u64) {
-    named(b"", n);
+// A byte put at an index of a block, and the index after it; past the block nothing is put.
+fn byte(block: &mut [u8], at: usize, b: u8) -> usize
+    ensures { λ r. ⌜ r ≤ length (now (block .exit)) ⌝ }
+{
+    if block.len() <= at {
+        return block.len();
+    }
+    block[at] = b;
+    at + 1
 }
 
-fn word(w: u32) {
-    number(w as u64);
+// A blank and bytes put into a block from an index on, and the index after them.
+fn put(block: &mut [u8], at: usize, bytes: &[u8]) -> usize
+    ensures { λ r. ⌜ r ≤ length (now (block .exit)) ⌝ }
+{
+    let mut end = byte(block, at, b' ');
+    let mut i = 0;
+    while i < bytes.len() {
+        end = byte(block, end, bytes[i]);
+        i += 1;
+    }
+    end
+}
+
+// The same of a number.
+fn number(block: &mut [u8], at: usize, n: u64) -> usize
+    ensures { λ r. ⌜ r ≤ length (now (block .exit)) ⌝ }
+{
+    let mut digits = [0u8; 20];
+    let k = io::decimal(n, &mut digits);
+    put(block, at, &digits[..k])
+}
+
+fn word(block: &mut [u8], at: usize, w: u32) -> usize
+    ensures { λ r. ⌜ r ≤ length (now (block .exit)) ⌝ }
+{
+    number(block, at, w as u64)
+}
+
+// Where in a block the next number goes: a system call for each number would take the most time, so a block is written only where another may not fit.
+fn room(block: &[u8], at: usize) -> usize
+    ensures { λ r. ⌜ r ≤ length (now (block .entry)) ⌝ }
+{
+    if block.len() < at {
+        return 0;
+    }
+    if 21 <= block.len() - at {
+        return at;
+    }
+    text(&block[..at]);
+    0
 }
 
 fn all(words: &[u32]) {
+    let mut block = io::buffer();
+    let mut at = 0;
     let mut i = 0;
     while i < words.len() {
-        word(words[i]);
+        at = room(&block, at);
+        at = word(&mut block, at, words[i]);
         i += 1;
     }
+    text(&block[..at]);
 }
 
 // How many words there are up to the last that is not `blank`.
@@ -173,11 +222,15 @@ fn used_numbers(numbers: &[u64], blank: u64) -> usize
 }
 
 fn all_numbers(numbers: &[u64]) {
+    let mut block = io::buffer();
+    let mut at = 0;
     let mut i = 0;
     while i < numbers.len() {
-        number(numbers[i]);
+        at = room(&block, at);
+        at = number(&mut block, at, numbers[i]);
         i += 1;
     }
+    text(&block[..at]);
 }
 
 // The numbers up to the last that is not `blank`, and how many follow.
