@@ -53,14 +53,14 @@ bit-one true = (λ e. refl, λ e. refl)
 bit-one false = (λ e. absurd (omega arith), λ e. absurd (let z : _≡_ {A = ℕ} 0 1 = cc in omega arith))
 
 pub nodes-mean : NodesMean
-nodes-mean net sheet i w =
+nodes-mean starts net sheet q i w =
     let N = petriNet net in
     let r = arcs-readable (net-judged net .accepts .1 i) (arcs-hold N sheet w) in
-    let v = verdict-right net sheet r in
+    let v = verdict-right q net sheet r in
     record {
       accepts = (λ h. nodes↔ N sheet .0 (answer-none _ (sym v ∙ h)), λ h. v ∙ ap verdictOf (nodes↔ N sheet .1 h));
       marks = λ h n l. (
-        λ e. await↔ N (graph N sheet) n .0 (bit-one _ .0 (sym (awaits-right net sheet r h n l) ∙ e)),
-        λ a. awaits-right net sheet r h n l ∙ bit-one _ .1 (await↔ N (graph N sheet) n .1 a),
+        λ e. await↔ N (graph N sheet) n .0 (bit-one _ .0 (sym (awaits-right q net sheet r h n l) ∙ e)),
+        λ a. awaits-right q net sheet r h n l ∙ bit-one _ .1 (await↔ N (graph N sheet) n .1 a),
       );
     }

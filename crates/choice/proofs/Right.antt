@@ -8,6 +8,7 @@ use lib.ListN.{getD}
 use borrow.Author.Tests.{lt-ltb}
 use Rattle.scan.specs.Scan.{orElse, first, bit}
 use Rattle.scan.proofs.Tabulate.{tabulate-at}
+use Rattle.row_starts.specs.RowStarts.{page}
 use Rattle.refusal.specs.Finding.{lineFinds, foundAt}
 use Rattle.refusal.specs.Verdict.{verdictOf}
 use Rattle.refusal.specs.declared.Refusal.{Refusal}
@@ -30,7 +31,7 @@ of-accepted : (marks : List ℕ) (o : Option Refusal) → markedOr marks o .verd
 of-accepted marks none h = refl
 of-accepted marks (some x) h = absurd (let z : _≡_ {A = ℕ} 0 1 = cc in omega arith)
 
-module _ (net sheet : List ℕ) (r : ArcsReadable net sheet) where
+module _ {starts : List ℕ} (e : starts ≡ page) (net sheet : List ℕ) (r : ArcsReadable net sheet) where
   abbrev N : PetriNet
   N = petriNet net
 
@@ -44,16 +45,16 @@ module _ (net sheet : List ℕ) (r : ArcsReadable net sheet) where
   unfolding offersFault offerFault nodeFault rootFault awaitsBelow lineFinds foundAt
   faults-are = rw (lt-ltb 0 (nodeCount sheet) (r .sizes .some-node))
 
-  pub nodes-right : nodesReply net sheet ≡ markedOr (awaitMarks N G) faults
+  pub nodes-right : nodesReply starts net sheet ≡ markedOr (awaitMarks N G) faults
   unfolding nodesReply
-  nodes-right = rw (net-told net (r .accepted), graph-told net sheet r, faults-are)
+  nodes-right = rw (net-told net (r .accepted), graph-told e net sheet r, faults-are)
 
-  pub verdict-right : nodesReply net sheet .verdict ≡ verdictOf (orElse (first (nodeFault N sheet) (nodeCount sheet)) (rootFault N sheet))
+  pub verdict-right : nodesReply starts net sheet .verdict ≡ verdictOf (orElse (first (nodeFault N sheet) (nodeCount sheet)) (rootFault N sheet))
   verdict-right = rw nodes-right (of-fault (awaitMarks N G) faults)
 
-  pub awaits-right : nodesReply net sheet .verdict ≡ Accepted → (n : ℕ) → n < nodeCount sheet → getD (nodesReply net sheet .awaits) n 0 ≡ bit (isAwait N G n)
+  pub awaits-right : nodesReply starts net sheet .verdict ≡ Accepted → (n : ℕ) → n < nodeCount sheet → getD (nodesReply starts net sheet .awaits) n 0 ≡ bit (isAwait N G n)
   unfolding awaitMarks awaitMark awaitsBelow
   awaits-right h n l =
       let k = r .sizes in
-      let marks : nodesReply net sheet .awaits ≡ awaitMarks N G = rw nodes-right (of-accepted (awaitMarks N G) faults (rw nodes-right at h)) in
+      let marks : nodesReply starts net sheet .awaits ≡ awaitMarks N G = rw nodes-right (of-accepted (awaitMarks N G) faults (rw nodes-right at h)) in
       rw (marks, tabulate-at (awaitMark N G (nodeCount sheet)) 0 128 n (omega arith), lt-ltb n (nodeCount sheet) l)

@@ -4,6 +4,7 @@ use mathlib.Core.Path.{_≡_}
 use mathlib.Core.Logic.{_↔_}
 use mathlib.Core.List.{List}
 use lib.ListN.{getD}
+use Rattle.row_starts.specs.RowStarts.{page}
 use Rattle.refusal.specs.Checks.{AllPass}
 use Rattle.refusal.specs.declared.Verdict.the-variants.{Accepted}
 use Rattle.net.specs.Checks.{IsNet}
@@ -14,11 +15,11 @@ use Rattle.sequential.specs.Checks.{arcWordChecks}
 use Rattle.choice.specs.Nodes.{nodesReply}
 
 -- nothing is refused exactly if each node offers one choice set and node 0 is an await node (§6.3, §6.4); then the marks are those of the await nodes (§5.4)
-pub record NodesRight (net sheet : List ℕ) : Type 0 where
-  pub accepts : (nodesReply net sheet .verdict ≡ Accepted)
+pub record NodesRight (starts net sheet : List ℕ) : Type 0 where
+  pub accepts : (nodesReply starts net sheet .verdict ≡ Accepted)
       ↔ (((n : ℕ) → n < nodeCount sheet → OneChoiceSet (petriNet net) (graph (petriNet net) sheet) n) × Await (petriNet net) (graph (petriNet net) sheet) 0)
-  pub marks : nodesReply net sheet .verdict ≡ Accepted → (n : ℕ) → n < nodeCount sheet
-      → (getD (nodesReply net sheet .awaits) n 0 ≡ 1) ↔ Await (petriNet net) (graph (petriNet net) sheet) n
+  pub marks : nodesReply starts net sheet .verdict ≡ Accepted → (n : ℕ) → n < nodeCount sheet
+      → (getD (nodesReply starts net sheet .awaits) n 0 ≡ 1) ↔ Await (petriNet net) (graph (petriNet net) sheet) n
 
 abbrev pub NodesMean : Type 0
-NodesMean = (net sheet : List ℕ) → IsNet net → AllPass (arcWordChecks (petriNet net) sheet) → NodesRight net sheet
+NodesMean = (starts net sheet : List ℕ) → starts ≡ page → IsNet net → AllPass (arcWordChecks (petriNet net) sheet) → NodesRight starts net sheet

@@ -46,8 +46,8 @@ abbrev pub markedOr : List ℕ → Option Refusal → NodesAnswer
 markedOr marks none = record { verdict = Accepted; awaits = marks }
 markedOr marks (some r) = nodesRefused r
 
-unfoldable pub nodesReply : List ℕ → List ℕ → NodesAnswer
-nodesReply net sheet =
+unfoldable pub nodesReply : List ℕ → List ℕ → List ℕ → NodesAnswer
+nodesReply starts net sheet =
     let N = netByRows net in
-    let A = graphByRows net sheet in
+    let A = graphByRows starts net sheet in
     markedOr (awaitMarks N A) (offersFault N A)

@@ -52,8 +52,8 @@ fn refused(number: u32, n: usize) -> NodesAnswer
 }
 
 // Refusals 11 and 12 node by node (§6.3), and then 13 (§6.4), on any words.
-pub fn nodes(net: &[u32], sheet: &[u32]) -> NodesAnswer
-    ensures { λ r. ⌜ r ≡ nodesReply (now (net .entry)) (now (sheet .entry)) ⌝ }
+pub fn nodes(net: &[u32], sheet: &[u32], starts: &[u16; 4096]) -> NodesAnswer
+    ensures { λ r. ⌜ r ≡ nodesReply (now (starts .entry)) (now (net .entry)) (now (sheet .entry)) ⌝ }
 {
     let choices = choice_sets::choices_of(net);
     let leaders = choices.leaders;
@@ -64,7 +64,7 @@ pub fn nodes(net: &[u32], sheet: &[u32]) -> NodesAnswer
     let mut n = 0;
     while n < nodes {
         let offer = offers::offered(
-            graph::arc_entries(net, sheet, n as u32),
+            graph::arc_entries(net, sheet, starts, n as u32),
             leaders,
             transitions,
         );

@@ -14,7 +14,7 @@ use Rattle.sequential.specs.Check.{arcCount}
 use Rattle.sequential.proofs.Words.{words-rise, words-fit}
 use Rattle.graph.specs.Readable.{ArcsReadable}
 use Rattle.graph.specs.Rows.{arcCountReply}
-use Rattle.graph.proofs.Starts.{arcs-start, counts-start}
+use Rattle.graph.proofs.Starts.{arcs-end, counts-start}
 use Rattle.graph.proofs.HasRow.{has-row}
 
 module _ (net sheet : List ℕ) (r : ArcsReadable net sheet) where
@@ -22,7 +22,7 @@ module _ (net sheet : List ℕ) (r : ArcsReadable net sheet) where
   unfolding arcCountReply arcKeys
   bound-is =
       let s = r .sizes in
-      rw (has-row net sheet 0 r (s .some-node), ← counts-start net (nodeCount sheet) 0 (omega arith) (s .few-places), ← arcs-start net (nodeCount sheet) (s .few-nodes) (s .few-transitions))
+      rw (has-row net sheet 0 r (s .some-node), ← counts-start net (nodeCount sheet) 0 (omega arith) (s .few-places), ← arcs-end net (nodeCount sheet) (s .few-nodes) (s .few-transitions))
       (ap (lowerBound sheet 2 (entryCount sheet)) (omega arith))
 
   bound : LowerBound sheet 2 (entryCount sheet) (arcKeys (petriNet net) sheet) (arcCountReply net sheet)

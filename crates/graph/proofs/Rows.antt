@@ -12,6 +12,7 @@ use borrow.Author.Tests.{lt-ltb}
 use Rattle.scan.specs.Scan.{foundOr, when, tabulate}
 use Rattle.scan.proofs.Tests.{byTest}
 use Rattle.scan.proofs.Tabulate.{tabulate-at}
+use Rattle.row_starts.specs.RowStarts.{page}
 use Rattle.table.specs.Table.{valueAt}
 use Rattle.table.specs.Row.{entryRow, entryCode}
 use Rattle.table.proofs.Row.{entry-row-is, value-row-is}
@@ -22,7 +23,7 @@ use Rattle.sequential.specs.Known.{ArcsHold}
 use Rattle.sequential.proofs.Words.{words-rise, words-fit}
 use Rattle.graph.specs.Readable.{ArcsReadable}
 use Rattle.graph.specs.Rows.{arcsStart, countsStart, countEntry, arcEntryCode, countEntryCode, valueTold, markingRow, arcEntryRow, countEntryRow}
-use Rattle.graph.proofs.Starts.{arcs-start, counts-start}
+use Rattle.graph.proofs.Starts.{arcs-end, arcs-start-is, counts-start}
 use Rattle.graph.proofs.HasRow.{has-row}
 
 -- ---- an entry that is told
@@ -97,11 +98,11 @@ module _ (net sheet : List ℕ) (r : ArcsReadable net sheet) (n : ℕ) (l : n < 
   few : n ≤ 128
   few = omega (arith, r .sizes .few-nodes)
 
-  first-arc : arcsStart net n ≡ n * transitionCount net
-  first-arc = sym (arcs-start net n few (r .sizes .few-transitions))
+  first-arc : {starts : List ℕ} → starts ≡ page → arcsStart starts net n ≡ n * transitionCount net
+  first-arc e = let s = r .sizes in arcs-start-is e net n (omega arith) (s .some-transition) (s .few-transitions)
 
   first-count : countsStart net (nodeCount sheet) n ≡ nodeCount sheet * transitionCount net + n * placeCount net
-  first-count = sym (counts-start net (nodeCount sheet) n few (r .sizes .few-places)) ∙ rw (← arcs-start net (nodeCount sheet) (r .sizes .few-nodes) (r .sizes .few-transitions)) refl
+  first-count = sym (counts-start net (nodeCount sheet) n few (r .sizes .few-places)) ∙ rw (← arcs-end net (nodeCount sheet) (r .sizes .few-nodes) (r .sizes .few-transitions)) refl
 
   pub marking-right : markingRow net sheet n ≡ tabulate (countAt (petriNet net) sheet n) 32
   unfolding markingRow countAt entryValue entryWithKey arcKeys
@@ -109,9 +110,9 @@ module _ (net sheet : List ℕ) (r : ArcsReadable net sheet) (n : ℕ) (l : n < 
       rw (has-row net sheet n r l, first-count) (value-row-is sheet 2 (entryCount sheet) (nodeCount sheet * transitionCount net + n * placeCount net) (placeCount net)
       (words-rise N sheet w) (omega (arith, w .shape .whole)) (countAt N sheet n) (λ p h. rw (lt-ltb n (nodeCount sheet) l)))
 
-  pub arcs-right : arcEntryRow net sheet n ≡ tabulate (arcEntryCode (petriNet net) sheet n) 32
+  pub arcs-right : {starts : List ℕ} → starts ≡ page → arcEntryRow starts net sheet n ≡ tabulate (arcEntryCode (petriNet net) sheet n) 32
   unfolding arcEntryRow
-  arcs-right = rw (has-row net sheet n r l, first-arc) (arcs-are N sheet w n l)
+  arcs-right e = rw (has-row net sheet n r l, first-arc e) (arcs-are N sheet w n l)
 
   pub counts-right : countEntryRow net sheet n ≡ tabulate (countEntryCode (petriNet net) sheet n) 32
   unfolding countEntryRow arcKeys

@@ -8,30 +8,32 @@ use mathlib.Core.Bool.{_&&_}
 use lib.Dec.{leb}
 use borrow.Author.Tests.{leb-true, le-leb, lt-leb}
 use Rattle.scan.proofs.Tests.{byTest, and-left, and-right}
+use Rattle.row_starts.specs.RowStarts.{page}
+use Rattle.row_starts.proofs.Page.{start-is}
 use Rattle.net.specs.Net.{placeCount, transitionCount}
-use Rattle.graph.specs.Rows.{arcsStart, countsStart}
+use Rattle.graph.specs.Rows.{arcsStart, arcsEnd, countsStart}
 
 module _ (net : List ℕ) (n : ℕ) where
-  pub arcs-start : n ≤ 128 → transitionCount net ≤ 32 → n * transitionCount net ≡ arcsStart net n
-  unfolding arcsStart
-  arcs-start h k = rw (le-leb n 128 h, le-leb (transitionCount net) 32 k) refl
+  pub arcs-end : n ≤ 128 → transitionCount net ≤ 32 → n * transitionCount net ≡ arcsEnd net n
+  unfolding arcsEnd
+  arcs-end h k = rw (le-leb n 128 h, le-leb (transitionCount net) 32 k) refl
 
-  pub arcs-start-nodes : 128 < n → 0 ≡ arcsStart net n
-  unfolding arcsStart
-  arcs-start-nodes h = rw (lt-leb n 128 h) refl
+  pub arcs-end-nodes : 128 < n → 0 ≡ arcsEnd net n
+  unfolding arcsEnd
+  arcs-end-nodes h = rw (lt-leb n 128 h) refl
 
-  pub arcs-start-transitions : n ≤ 128 → 32 < transitionCount net → 0 ≡ arcsStart net n
-  unfolding arcsStart
-  arcs-start-transitions h k = rw (le-leb n 128 h, lt-leb (transitionCount net) 32 k) refl
+  pub arcs-end-transitions : n ≤ 128 → 32 < transitionCount net → 0 ≡ arcsEnd net n
+  unfolding arcsEnd
+  arcs-end-transitions h k = rw (le-leb n 128 h, lt-leb (transitionCount net) 32 k) refl
 
-  pub arcs-start-low : arcsStart net n ≤ 4096
-  unfolding arcsStart
-  arcs-start-low =
+  pub arcs-end-low : arcsEnd net n ≤ 4096
+  unfolding arcsEnd
+  arcs-end-low =
       byTest (leb n 128 && leb (transitionCount net) 32)
       (λ e. rw e (mul-le-mul (leb-true n 128 (and-left _ _ e)) (leb-true (transitionCount net) 32 (and-right (leb n 128) _ e)))) (λ e. rw e (omega arith))
 
 module _ (net : List ℕ) (nodes n : ℕ) where
-  pub counts-start : n ≤ 128 → placeCount net ≤ 32 → arcsStart net nodes + n * placeCount net ≡ countsStart net nodes n
+  pub counts-start : n ≤ 128 → placeCount net ≤ 32 → arcsEnd net nodes + n * placeCount net ≡ countsStart net nodes n
   unfolding countsStart
   counts-start h k = rw (le-leb n 128 h, le-leb (placeCount net) 32 k) refl
 
@@ -47,5 +49,11 @@ module _ (net : List ℕ) (nodes n : ℕ) where
   unfolding countsStart
   counts-start-low =
       byTest (leb n 128 && leb (placeCount net) 32)
-      (λ e. rw e (omega (arith, arcs-start-low net nodes, mul-le-mul (leb-true n 128 (and-left _ _ e)) (leb-true (placeCount net) 32 (and-right (leb n 128) _ e)))))
+      (λ e. rw e (omega (arith, arcs-end-low net nodes, mul-le-mul (leb-true n 128 (and-left _ _ e)) (leb-true (placeCount net) 32 (and-right (leb n 128) _ e)))))
       (λ e. rw e (omega arith))
+
+-- on the manual's page the first key of a node's arcs is n × T
+pub arcs-start-is : {starts : List ℕ} → starts ≡ page → (net : List ℕ) (n : ℕ) → n < 128 → 1 ≤ transitionCount net → transitionCount net ≤ 32
+    → arcsStart starts net n ≡ n * transitionCount net
+unfolding arcsStart
+arcs-start-is e net n l a b = start-is n (transitionCount net) e l a b

@@ -8,6 +8,7 @@ use mathlib.Core.Option.{Option, none}
 use lib.ListN.{length, getD, replicate}
 use lib.Dec.{ltb, leb}
 use Rattle.scan.specs.Scan.{found}
+use Rattle.row_starts.specs.RowStarts.{rowStart}
 use Rattle.table.specs.Bisection.{lowerBound}
 use Rattle.table.specs.Row.{entryCode, entryRow, valueRow}
 use Rattle.refusal.specs.Limits.{mostPlaces, mostTransitions, mostNodes, mostEntries}
@@ -36,13 +37,17 @@ valueTold sheet (suc i) = entryValue sheet i
 
 -- ---- rows
 
--- the first key of node n's arcs (§3.5), 0 where a size is out of range
-unfoldable pub arcsStart : List ℕ → ℕ → ℕ
-arcsStart net n = cond (leb n mostNodes && leb (transitionCount net) mostTransitions) (n * transitionCount net) 0
+-- the first key of node n's arcs (§3.5), which a page of row starts has: n × T on the manual's (§3.9)
+unfoldable pub arcsStart : List ℕ → List ℕ → ℕ → ℕ
+arcsStart starts net n = rowStart starts n (transitionCount net)
 
--- the first key of its counts, which follow the arcs of all nodes (§3.6), 0 likewise
+-- where the keys of all arcs end (§3.5), 0 where a size is out of range
+unfoldable pub arcsEnd : List ℕ → ℕ → ℕ
+arcsEnd net nodes = cond (leb nodes mostNodes && leb (transitionCount net) mostTransitions) (nodes * transitionCount net) 0
+
+-- the first key of its counts, which follow all arcs (§3.6), 0 likewise
 unfoldable pub countsStart : List ℕ → ℕ → ℕ → ℕ
-countsStart net nodes n = cond (leb n mostNodes && leb (placeCount net) mostPlaces) (arcsStart net nodes + n * placeCount net) 0
+countsStart net nodes n = cond (leb n mostNodes && leb (placeCount net) mostPlaces) (arcsEnd net nodes + n * placeCount net) 0
 
 module _ (net sheet : List ℕ) (n : ℕ) where
   -- the sizes are in range and n is a node
@@ -61,11 +66,13 @@ module _ (net sheet : List ℕ) (n : ℕ) where
   unfoldable pub markingRow : List ℕ
   markingRow = cond hasRow (valueRow sheet 2 (entryCount sheet) (countsStart net (nodeCount sheet) n) (placeCount net)) (replicate mostPlaces 0)
 
-  unfoldable pub arcEntryRow : List ℕ
-  arcEntryRow = cond hasRow (entryRow sheet 2 (entryCount sheet) (arcsStart net n) (transitionCount net)) (replicate mostTransitions 0)
-
   unfoldable pub countEntryRow : List ℕ
   countEntryRow = cond hasRow (entryRow sheet 2 (entryCount sheet) (countsStart net (nodeCount sheet) n) (placeCount net)) (replicate mostPlaces 0)
+
+-- by a page of row starts
+unfoldable pub arcEntryRow : List ℕ → List ℕ → List ℕ → ℕ → List ℕ
+arcEntryRow starts net sheet n =
+    cond (hasRow net sheet n) (entryRow sheet 2 (entryCount sheet) (arcsStart starts net n) (transitionCount net)) (replicate mostTransitions 0)
 
 -- how many entries have a key before those of counts: on keys that rise, the arcs
 unfoldable pub arcCountReply : List ℕ → List ℕ → ℕ

@@ -9,6 +9,7 @@ use lib.Dec.{ltb}
 use Rattle.scan.specs.Scan.{orElse, first, bit, count}
 use Rattle.scan.proofs.Count.{count-ext}
 use Rattle.scan.proofs.First.{orElse-left, orElse-right, orElse-assoc}
+use Rattle.row_starts.specs.RowStarts.{page}
 use Rattle.refusal.proofs.Verdicts.{answer-none, verdict-next, then-next, then-accepted}
 use Rattle.refusal.specs.Verdict.{verdictOf, andThen}
 use Rattle.net.specs.Check.{netReply}
@@ -78,16 +79,16 @@ bit-mark true = refl
 bit-mark false = refl
 
 -- what is found at the nodes, and the marks that come where nothing is
-module _ {net sheet : List ℕ} (r : Readable net sheet) {nodes : NodesAnswer} (told : nodes ≡ nodesReply net sheet) where
+module _ {starts net sheet : List ℕ} (p : starts ≡ page) (r : Readable net sheet) {nodes : NodesAnswer} (told : nodes ≡ nodesReply starts net sheet) where
   abbrev N : PetriNet
   N = petriNet net
 
   pub nodes-told : nodes .verdict ≡ verdictOf (orElse (first (nodeFault N sheet) (nodeCount sheet)) (rootFault N sheet))
-  nodes-told = rw told (verdict-right net sheet (r .arcs))
+  nodes-told = rw told (verdict-right p net sheet (r .arcs))
 
   await-marks : nodes .verdict ≡ Accepted → AwaitMarks N sheet (nodes .awaits)
   unfolding isMarked
-  await-marks h n l = rw told (ap (ltb 0) (awaits-right net sheet (r .arcs) (rw told at h) n l) ∙ bit-mark (isAwait N (graph N sheet) n))
+  await-marks h n l = rw told (ap (ltb 0) (awaits-right p net sheet (r .arcs) (rw told at h) n l) ∙ bit-mark (isAwait N (graph N sheet) n))
 
   -- 16 and 17 by these marks
   pub paths-told : nodes .verdict ≡ Accepted → {v : Verdict} → v ≡ pathsReply net sheet (nodes .awaits)
@@ -106,11 +107,12 @@ module _ {net sheet : List ℕ} where
       let q = words-refused net sheet r (sym e ∙ h) in
       record { reply = e ∙ q; marks = λ a. absurd (let z : _≡_ {A = ℕ} 0 1 = cc in omega arith) }
 
-  pub judged-graph : wordsReply net sheet ≡ Accepted → {v : Verdict} {nodes : NodesAnswer} → nodes ≡ nodesReply net sheet → v ≡ verdictOf (graphFault (petriNet net) sheet)
+  pub judged-graph : {starts : List ℕ} → starts ≡ page → wordsReply net sheet ≡ Accepted → {v : Verdict} {nodes : NodesAnswer} → nodes ≡ nodesReply starts net sheet
+      → v ≡ verdictOf (graphFault (petriNet net) sheet)
       → Judged net sheet (record { verdict = v; awaits = nodes .awaits })
-  judged-graph w told e =
+  judged-graph p w told e =
       let q = words-accepted net sheet w in
-      record { reply = e ∙ sym q; marks = λ a. graph-marks (reply-readable net sheet w) told (sym q ∙ a) }
+      record { reply = e ∙ sym q; marks = λ a. graph-marks p (reply-readable net sheet w) told (sym q ∙ a) }
 
 pub await-count-is : (N : PetriNet) (sheet marks : List ℕ) → AwaitMarks N sheet marks → count (isMarked marks) (nodeCount sheet) ≡ awaitCount N sheet
 unfolding awaitCount

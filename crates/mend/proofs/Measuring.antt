@@ -13,6 +13,7 @@ use Rattle.scan.proofs.Tests.{and-both, not-true→false}
 use Rattle.scan.proofs.First.{orElse-assoc, orElse-left, orElse-right, when-hit, when-miss, when-none, first-all}
 use Rattle.scan.proofs.Every.{all-in}
 use Rattle.scan.proofs.Tabulate.{tabulate-at}
+use Rattle.row_starts.specs.RowStarts.{page}
 use Rattle.refusal.specs.Limits.{mostEntries}
 use Rattle.refusal.specs.Refusal.{refusal}
 use Rattle.refusal.specs.Finding.{foundAt, lineFinds}
@@ -59,16 +60,16 @@ unfolding bit
 bit-mark true = refl
 bit-mark false = refl
 
-module _ {net sheet : List ℕ} (r : ArcsReadable net sheet) {nodes : NodesAnswer} (told : nodes ≡ nodesReply net sheet) where
+module _ {starts net sheet : List ℕ} (p : starts ≡ page) (r : ArcsReadable net sheet) {nodes : NodesAnswer} (told : nodes ≡ nodesReply starts net sheet) where
   abbrev N : PetriNet
   N = petriNet net
 
   pub nodes-told : nodes .verdict ≡ verdictOf (orElse (first (nodeFault N sheet) (nodeCount sheet)) (rootFault N sheet))
-  nodes-told = rw told (verdict-right net sheet r)
+  nodes-told = rw told (verdict-right p net sheet r)
 
   await-marks : nodes .verdict ≡ Accepted → AwaitMarks N sheet (nodes .awaits)
   unfolding isMarked
-  await-marks h n l = rw told (ap (ltb 0) (awaits-right net sheet r (rw told at h) n l) ∙ bit-mark (isAwait N (graph N sheet) n))
+  await-marks h n l = rw told (ap (ltb 0) (awaits-right p net sheet r (rw told at h) n l) ∙ bit-mark (isAwait N (graph N sheet) n))
 
   pub paths-told : nodes .verdict ≡ Accepted → {v : Verdict} → v ≡ pathsReply net sheet (nodes .awaits)
       → v ≡ verdictOf (orElse (first (reachFault N sheet) (nodeCount sheet)) (first (returnFault N sheet) (nodeCount sheet)))
@@ -79,16 +80,16 @@ module _ (net sheet : List ℕ) {v : Verdict} where
   unfolding arcsVerdict
   words-refused e h = e ∙ sym (then-refused (arcsReply net sheet) _ _ (sym e ∙ h))
 
-  module _ (w : arcsReply net sheet ≡ Accepted) {nodes : NodesAnswer} (told : nodes ≡ nodesReply net sheet) where
+  module _ {starts : List ℕ} (p : starts ≡ page) (w : arcsReply net sheet ≡ Accepted) {nodes : NodesAnswer} (told : nodes ≡ nodesReply starts net sheet) where
     pub nodes-refused : {r : Refusal} → v ≡ nodes .verdict → v ≡ Refused r → v ≡ arcsVerdict net sheet
     unfolding arcsVerdict
-    nodes-refused e h = answer-left _ _ v _ (e ∙ nodes-told (reply-arcs net sheet w) told) h ∙ sym (then-next _ _ w)
+    nodes-refused e h = answer-left _ _ v _ (e ∙ nodes-told p (reply-arcs net sheet w) told) h ∙ sym (then-next _ _ w)
 
     pub paths-judged : nodes .verdict ≡ Accepted → v ≡ pathsReply net sheet (nodes .awaits) → v ≡ arcsVerdict net sheet
     unfolding arcsVerdict
     paths-judged h e =
         let r = reply-arcs net sheet w in
-        paths-told r told h e ∙ sym (verdict-next _ _ (sym (nodes-told r told) ∙ h)) ∙ sym (then-next _ _ w)
+        paths-told p r told h e ∙ sym (verdict-next _ _ (sym (nodes-told p r told) ∙ h)) ∙ sym (then-next _ _ w)
 
 -- ---- then 25
 

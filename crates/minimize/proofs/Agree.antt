@@ -1,6 +1,7 @@
 -- Two rows walked in step: each pointer stands at the lower bound of its next key, and the keys before it agree.
 -- Walked to the end, the rows of arcs agree as `agree` says, and those of counts as the labels' test does.
 use Prim.Native.Nat.{ℕ, suc, _+_, _*_, _≤_, _<_}
+use native.Mathlib.Nat.{mul-le-mul}
 use native.Mathlib.Omega.{arith}
 use native.Mathlib.Nat.{add-zero}
 use mathlib.Core.Path.{_≡_, refl, sym, ap, _∙_}
@@ -10,6 +11,7 @@ use mathlib.Core.Option.{Option, none, some, Option·map}
 use lib.Dec.{ltb, eqb}
 use lib.ListN.{length, getD}
 use borrow.Author.Tests.{ltb-true, lt-ltb, eqb-true, eq-eqb, ne-eqb}
+use Rattle.row_starts.specs.RowStarts.{page}
 use Rattle.scan.specs.Scan.{all, tabulate, foundOr}
 use Rattle.scan.proofs.Tests.{true-false, iff→eq, and-left, and-right, and-both}
 use Rattle.scan.proofs.Every.{all-in, all-out, all-ext, all-more, all-fails}
@@ -27,9 +29,9 @@ use Rattle.sequential.proofs.Words.{words-rise, words-fit}
 use Rattle.sequential.proofs.Entries.{marking-node, row-lt}
 use Rattle.graph.specs.Readable.{Readable}
 use Rattle.graph.proofs.Readable.{known, words}
-use Rattle.graph.proofs.Starts.{arcs-start, arcs-start-low, counts-start, counts-start-low}
+use Rattle.graph.proofs.Starts.{arcs-end, arcs-start-is, counts-start, counts-start-low}
 use Rattle.minimize.specs.Tables.{classIn}
-use Rattle.minimize.specs.Agree.{hasKey, keyValue, valuesAgree, keysAgree, Valued, Row, Rows, rowKey, rowWidth, rowStart, RowsOf}
+use Rattle.minimize.specs.Agree.{hasKey, keyValue, valuesAgree, keysAgree, Valued, Row, Rows, rowKey, rowWidth, firstEntry, RowsOf}
 use Rattle.minimize.specs.declared.classes.NodeRows.{NodeRows}
 use Rattle.minimize.specs.Leaders.{rowsAlike}
 
@@ -142,8 +144,8 @@ module _ {sheet classes : List ℕ} {counts : Bool} {width a b i j : ℕ} (rows 
 -- ---- the rows of two nodes
 
 -- rows of a kind are rows of their own kind
-pub own-kind : {net sheet : List ℕ} {counts : Bool} {rows : NodeRows} → RowsOf net sheet counts rows → RowsOf net sheet (rows .counts) rows
-own-kind h = record { kind = refl; wide = rw (h .kind) (h .wide); start = rw (h .kind) (h .start) }
+pub own-kind : {starts net sheet : List ℕ} {counts : Bool} {rows : NodeRows} → RowsOf starts net sheet counts rows → RowsOf starts net sheet (rows .counts) rows
+own-kind h = record { by-page = h .by-page; kind = refl; wide = rw (h .kind) (h .wide); start = rw (h .kind) (h .start) }
 
 labels-all : (f g : ℕ → ℕ) (k : ℕ) → equalLabels (tabulate f k) (tabulate g k) ≡ all (λ p. eqb (f p) (g p)) k
 labels-all f g k =
@@ -160,7 +162,7 @@ value-test sheet none (some j) p q = ne-eqb 0 (entryValue sheet j) (λ e. let z 
 value-test sheet (some i) none p q = ne-eqb (entryValue sheet i) 0 (λ e. let z = p i refl in omega arith)
 value-test sheet (some i) (some j) p q = refl
 
-module _ {net sheet : List ℕ} (readable : Readable net sheet) where
+module _ {starts net sheet : List ℕ} (by-page : starts ≡ page) (readable : Readable net sheet) where
   abbrev N : PetriNet
   N = petriNet net
 
@@ -169,25 +171,28 @@ module _ {net sheet : List ℕ} (readable : Readable net sheet) where
 
   -- ---- the first key of a row, and where the row starts
 
-  first-arc : {n : ℕ} → n < nodeCount sheet → rowKey net sheet false n ≡ n * N .transitions
+  first-arc : {n : ℕ} → n < nodeCount sheet → rowKey starts net sheet false n ≡ n * N .transitions
   unfolding rowKey
-  first-arc {n} l = let k = known net sheet readable in sym (arcs-start net n (omega (arith, k .few-nodes)) (k .few-transitions))
+  first-arc {n} l = let k = known net sheet readable in arcs-start-is by-page net n (omega (arith, k .few-nodes)) (k .some-transition) (k .few-transitions)
 
-  first-count : {n : ℕ} → n < nodeCount sheet → rowKey net sheet true n ≡ arcKeys N sheet + n * N .places
+  first-count : {n : ℕ} → n < nodeCount sheet → rowKey starts net sheet true n ≡ arcKeys N sheet + n * N .places
   unfolding rowKey arcKeys
   first-count {n} l =
       let k = known net sheet readable in
-      sym (counts-start net (nodeCount sheet) n (omega (arith, k .few-nodes)) (k .few-places)) ∙ rw (← arcs-start net (nodeCount sheet) (k .few-nodes) (k .few-transitions)) refl
+      sym (counts-start net (nodeCount sheet) n (omega (arith, k .few-nodes)) (k .few-places)) ∙ rw (← arcs-end net (nodeCount sheet) (k .few-nodes) (k .few-transitions)) refl
 
-  row-low : (counts : Bool) (n : ℕ) → rowKey net sheet counts n + rowWidth net counts ≤ 8224
-  unfolding rowKey rowWidth
-  row-low true n = omega (arith, counts-start-low net (nodeCount sheet) n, known net sheet readable .few-places)
-  row-low false n = omega (arith, arcs-start-low net n, known net sheet readable .few-transitions)
+  row-low : (counts : Bool) {n : ℕ} → n < nodeCount sheet → rowKey starts net sheet counts n + rowWidth net counts ≤ 8224
+  unfolding rowWidth
+  row-low true {n} l = unfold rowKey in (omega (arith, counts-start-low net (nodeCount sheet) n, known net sheet readable .few-places))
+  row-low false {n} l =
+      let k = known net sheet readable in
+      let few : n ≤ 128 = omega (arith, k .few-nodes) in
+      rw (first-arc l) (omega (arith, mul-le-mul few (k .few-transitions), k .few-transitions))
 
-  pub start-low : (counts : Bool) (n : ℕ) → rowStart net sheet counts n ≤ 4096
-  unfolding rowStart
+  pub start-low : (counts : Bool) (n : ℕ) → firstEntry starts net sheet counts n ≤ 4096
+  unfolding firstEntry
   start-low counts n =
-      omega (arith, lower-bound sheet 2 (entryCount sheet) (rowKey net sheet counts n) (words-rise N sheet (w .arcs)) (words-fit N sheet (w .arcs)) .within, w .arcs .shape .few-entries)
+      omega (arith, lower-bound sheet 2 (entryCount sheet) (rowKey starts net sheet counts n) (words-rise N sheet (w .arcs)) (words-fit N sheet (w .arcs)) .within, w .arcs .shape .few-entries)
 
   -- ---- an arc's target is a node
 
@@ -197,7 +202,7 @@ module _ {net sheet : List ℕ} (readable : Readable net sheet) where
       (unfold entryKey arcKeys in (rw (has-is sheet i (n * N .transitions + t) h) (row-lt n (N .transitions) t (nodeCount sheet) l ln)))
 
   row-valued : {classes : List ℕ} (counts : Bool) (n t k : ℕ) → length classes ≡ 128 → n < nodeCount sheet → t < rowWidth net counts
-      → hasKey sheet k (rowKey net sheet counts n + t) ≡ true → Valued sheet classes counts k
+      → hasKey sheet k (rowKey starts net sheet counts n + t) ≡ true → Valued sheet classes counts k
   unfolding rowWidth
   row-valued true n t k long l m h = record { within = has-within sheet k _ h; target = λ z. true-false true refl z }
   row-valued false n t k long l m h = record {
@@ -206,32 +211,32 @@ module _ {net sheet : List ℕ} (readable : Readable net sheet) where
   }
 
   module _ {classes : List ℕ} {counts : Bool} {n m : ℕ} (long : length classes ≡ 128) (ln : n < nodeCount sheet) (lm : m < nodeCount sheet) where
-    row : {k i : ℕ} → k < nodeCount sheet → i ≡ rowStart net sheet counts k → Row sheet classes counts (rowWidth net counts) (rowKey net sheet counts k) i
-    unfolding rowStart
-    row {k} l p = record { low = row-low counts k; start = p; valued = λ t x q h. row-valued counts k t x long l q h }
+    row : {k i : ℕ} → k < nodeCount sheet → i ≡ firstEntry starts net sheet counts k → Row sheet classes counts (rowWidth net counts) (rowKey starts net sheet counts k) i
+    unfolding firstEntry
+    row {k} l p = record { low = row-low counts l; start = p; valued = λ t x q h. row-valued counts k t x long l q h }
 
-    pub rows : {i j : ℕ} → i ≡ rowStart net sheet counts n → j ≡ rowStart net sheet counts m
-        → Rows sheet classes counts (rowWidth net counts) (rowKey net sheet counts n) (rowKey net sheet counts m) i j
+    pub rows : {i j : ℕ} → i ≡ firstEntry starts net sheet counts n → j ≡ firstEntry starts net sheet counts m
+        → Rows sheet classes counts (rowWidth net counts) (rowKey starts net sheet counts n) (rowKey starts net sheet counts m) i j
     rows p q = record { whole = w .arcs .shape .whole; rising = words-rise N sheet (w .arcs); left = row ln p; right = row lm q }
 
   -- ---- the rows walked to the end
 
-  arc-value : (n : ℕ) → n < nodeCount sheet → (t : ℕ) → t < N .transitions → arc N sheet n t ≡ keyValue sheet (rowKey net sheet false n + t)
+  arc-value : (n : ℕ) → n < nodeCount sheet → (t : ℕ) → t < N .transitions → arc N sheet n t ≡ keyValue sheet (rowKey starts net sheet false n + t)
   unfolding arc arcEntry keyValue
   arc-value n l t m = rw (first-arc l, lt-ltb n (nodeCount sheet) l, lt-ltb t (N .transitions) m)
 
-  count-some : (n p i : ℕ) → n < nodeCount sheet → entryWithKey sheet (rowKey net sheet true n + p) ≡ some i → 1 ≤ entryValue sheet i
+  count-some : (n p i : ℕ) → n < nodeCount sheet → entryWithKey sheet (rowKey starts net sheet true n + p) ≡ some i → 1 ≤ entryValue sheet i
   unfolding entryWithKey
   count-some n p i l z =
-      let (h, k) = entry-some sheet 2 (entryCount sheet) (rowKey net sheet true n + p) i z in
+      let (h, k) = entry-some sheet 2 (entryCount sheet) (rowKey starts net sheet true n + p) i z in
       w .values i h .some (unfold entryKey in (rw (k, first-count l) (omega arith)))
 
-  count-value : (n p : ℕ) → n < nodeCount sheet → p < N .places → countAt N sheet n p ≡ foundOr 0 (entryValue sheet) (entryWithKey sheet (rowKey net sheet true n + p))
+  count-value : (n p : ℕ) → n < nodeCount sheet → p < N .places → countAt N sheet n p ≡ foundOr 0 (entryValue sheet) (entryWithKey sheet (rowKey starts net sheet true n + p))
   unfolding countAt
   count-value n p l h = rw (first-count l, lt-ltb n (nodeCount sheet) l, lt-ltb p (N .places) h)
 
   pub walked : (classes : List ℕ) (counts : Bool) {n m : ℕ} → n < nodeCount sheet → m < nodeCount sheet
-      → all (keysAgree sheet (valuesAgree classes counts) (rowKey net sheet counts n) (rowKey net sheet counts m)) (rowWidth net counts)
+      → all (keysAgree sheet (valuesAgree classes counts) (rowKey starts net sheet counts n) (rowKey starts net sheet counts m)) (rowWidth net counts)
       ≡ rowsAlike (graph N sheet) counts (classIn classes) n m
   unfolding valuesAgree keysAgree keyValue rowWidth rowsAlike sameIn agree
   walked classes false {n} {m} ln lm = all-ext _ _ (N .transitions) (λ t l. unfold keyValue in (rw (arc-value n ln t l, arc-value m lm t l)))

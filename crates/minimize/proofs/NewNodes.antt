@@ -6,6 +6,7 @@ use mathlib.Core.List.{List}
 use mathlib.Core.Option.{Option, none, some, Option·map}
 use lib.ListN.{length, getD}
 use lib.Seq.{getD-take}
+use Rattle.row_starts.specs.RowStarts.{page}
 use Rattle.automaton.specs.Automaton.{Automaton, Closed}
 use Rattle.automaton.specs.Equivalence.{same}
 use Rattle.automaton.specs.BreadthFirst.{order}
@@ -54,12 +55,13 @@ module _ (A : Automaton) (closed : Closed A) (reps numbers : List ℕ) (found : 
   pub few-found : found ≤ A .nodes
   few-found = omega (arith, h .size, order-short (same A) A closed (same-equivalence A .reflexive))
 
-pub new-nodes : (net sheet reps numbers : List ℕ) (found : ℕ) → Readable net sheet → Numbered (graph (petriNet net) sheet) reps numbers found
-    → NewNodes net sheet reps numbers found
-new-nodes net sheet reps numbers found r h =
+pub new-nodes : (starts net sheet reps numbers : List ℕ) (found : ℕ) → starts ≡ page → Readable net sheet → Numbered (graph (petriNet net) sheet) reps numbers found
+    → NewNodes starts net sheet reps numbers found
+new-nodes starts net sheet reps numbers found p r h =
     let A = graph (petriNet net) sheet in
     let c = readable-closed net sheet r in
     record {
+      by-page = p;
       readable = r;
       size = size A c reps numbers found h;
       few = omega (arith, few-found A c reps numbers found h, known net sheet r .few-nodes);

@@ -7,6 +7,7 @@ use mathlib.Core.Bool.{Bool, true, false, cond, _&&_}
 use mathlib.Core.Option.{Option, Option·map}
 use lib.Dec.{ltb, eqb}
 use lib.ListN.{length, getD}
+use Rattle.row_starts.specs.RowStarts.{page}
 use Rattle.table.specs.Table.{keyAt, Rising}
 use Rattle.table.specs.Bisection.{lowerBound}
 use Rattle.automaton.specs.Equivalence.{sameClass, equalArcs}
@@ -52,19 +53,20 @@ module _ (sheet : List ℕ) where
 
 -- ---- the rows of all nodes, of their counts or of their arcs
 
--- the first key of node n's row: §3.5, §3.6
-unfoldable pub rowKey : List ℕ → List ℕ → Bool → ℕ → ℕ
-rowKey net sheet counts n = cond counts (countsStart net (nodeCount sheet) n) (arcsStart net n)
+-- the first key of node n's row (§3.5, §3.6), that of its arcs by a page of row starts
+unfoldable pub rowKey : List ℕ → List ℕ → List ℕ → Bool → ℕ → ℕ
+rowKey starts net sheet counts n = cond counts (countsStart net (nodeCount sheet) n) (arcsStart starts net n)
 
 -- how many keys it has
 unfoldable pub rowWidth : List ℕ → Bool → ℕ
 rowWidth net counts = cond counts (placeCount net) (transitionCount net)
 
 -- the entry at which it starts
-unfoldable pub rowStart : List ℕ → List ℕ → Bool → ℕ → ℕ
-rowStart net sheet counts n = lowerBound sheet 2 (entryCount sheet) (rowKey net sheet counts n)
+unfoldable pub firstEntry : List ℕ → List ℕ → List ℕ → Bool → ℕ → ℕ
+firstEntry starts net sheet counts n = lowerBound sheet 2 (entryCount sheet) (rowKey starts net sheet counts n)
 
-pub record RowsOf (net sheet : List ℕ) (counts : Bool) (rows : NodeRows) : Type 0 where
+pub record RowsOf (starts net sheet : List ℕ) (counts : Bool) (rows : NodeRows) : Type 0 where
+  pub by-page : starts ≡ page
   pub kind : rows .counts ≡ counts
   pub wide : rows .width ≡ rowWidth net counts
-  pub start : (n : ℕ) → n < nodeCount sheet → getD (rows .starts) n 0 ≡ rowStart net sheet counts n
+  pub start : (n : ℕ) → n < nodeCount sheet → getD (rows .starts) n 0 ≡ firstEntry starts net sheet counts n

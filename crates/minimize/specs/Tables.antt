@@ -3,6 +3,7 @@ use Prim.Native.Nat.{ℕ, _≤_, _<_}
 use mathlib.Core.Path.{_≡_}
 use mathlib.Core.List.{List}
 use lib.ListN.{length, getD, take}
+use Rattle.row_starts.specs.RowStarts.{page}
 use Rattle.automaton.specs.Automaton.{Automaton}
 use Rattle.automaton.specs.Equivalence.{same, sameClass}
 use Rattle.automaton.specs.BreadthFirst.{order}
@@ -28,7 +29,8 @@ pub record Numbered (A : Automaton) (reps numbers : List ℕ) (found : ℕ) : Ty
   pub number : (n : ℕ) → n < A .nodes → number A n < found → getD numbers n 0 ≡ number A n
 
 -- the minimal form's nodes of words that can be read: the nodes that stand for them, so many, and the new number of each node that an arc of theirs leads to
-pub record NewNodes (net sheet reps numbers : List ℕ) (found : ℕ) : Type 0 where
+pub record NewNodes (starts net sheet reps numbers : List ℕ) (found : ℕ) : Type 0 where
+  pub by-page : starts ≡ page
   pub readable : Readable net sheet
   pub size : minimal (graph (petriNet net) sheet) .nodes ≡ found
   pub few : found ≤ 128

@@ -3,6 +3,7 @@
 ghost use mathlib.Core.Path.{_≡_};
 ghost use Prim.Native.Nat.{_+_, _*_, _≤_, _<_};
 ghost use lib.ListN.{length};
+ghost use Rattle.row_starts.specs.RowStarts as manual;
 ghost use Rattle.scan.specs.Scan.{all};
 ghost use Rattle.automaton.specs.Equivalence.{leaderBy};
 ghost use Rattle.sequential.specs.Petri.{petriNet};
@@ -82,14 +83,14 @@ fn rows_agree(
 }
 
 // The first key of node n's row.
-fn first_key(net: &[u32], sheet: &[u32], counts: bool, n: u32) -> u32
+fn first_key(net: &[u32], sheet: &[u32], page: &[u16; 4096], counts: bool, n: u32) -> u32
     requires { ⌜ Readable (now net) (now sheet) ⌝ }
-    ensures { λ r. ⌜ r ≡ rowKey (now (net .entry)) (now (sheet .entry)) counts n ⌝ }
+    ensures { λ r. ⌜ r ≡ rowKey (now (page .entry)) (now (net .entry)) (now (sheet .entry)) counts n ⌝ }
 {
     if counts {
         return graph::counts_start(net, sheet[0], n);
     }
-    graph::arcs_start(net, n)
+    graph::arcs_start(net, page, n)
 }
 
 // How many keys a row has.
@@ -103,9 +104,10 @@ fn row_width(net: &[u32], counts: bool) -> u32
 }
 
 // The rows of a kind.
-fn rows_of(net: &[u32], sheet: &[u32], counts: bool) -> NodeRows
+fn rows_of(net: &[u32], sheet: &[u32], page: &[u16; 4096], counts: bool) -> NodeRows
     requires { ⌜ Readable (now net) (now sheet) ⌝ }
-    ensures { λ r. ⌜ RowsOf (now (net .entry)) (now (sheet .entry)) counts r ⌝ }
+    requires { ⌜ now page ≡ manual.page ⌝ }
+    ensures { λ r. ⌜ RowsOf (now (page .entry)) (now (net .entry)) (now (sheet .entry)) counts r ⌝ }
 {
     let nodes = sheet[0];
     let entries = sheet[1] as usize;
@@ -113,7 +115,7 @@ fn rows_of(net: &[u32], sheet: &[u32], counts: bool) -> NodeRows
     let mut starts = [0u16; 128];
     let mut n = 0;
     while n < nodes {
-        let key = first_key(net, sheet, counts, n);
+        let key = first_key(net, sheet, page, counts, n);
         starts[n as usize] = table::lower_bound(sheet, 2, entries, key) as u16;
         n += 1;
     }
@@ -128,6 +130,7 @@ fn rows_of(net: &[u32], sheet: &[u32], counts: bool) -> NodeRows
 fn nodes_agree(
     net: &[u32],
     sheet: &[u32],
+    page: &[u16; 4096],
     rows: NodeRows,
     classes: [u8; 128],
     n: u32,
@@ -136,13 +139,13 @@ fn nodes_agree(
     requires { ⌜ Readable (now net) (now sheet) ⌝ }
     requires { ⌜ n < nodeCount (now sheet) ⌝ }
     requires { ⌜ m < nodeCount (now sheet) ⌝ }
-    requires { ⌜ RowsOf (now net) (now sheet) (rows .counts) rows ⌝ }
+    requires { ⌜ RowsOf (now page) (now net) (now sheet) (rows .counts) rows ⌝ }
     ensures { λ r. ⌜ r ≡ rowsAlike (graph (petriNet (now (net .entry))) (now (sheet .entry))) (rows .counts) (classIn classes) n m ⌝ }
 {
     let counts = rows.counts;
     let starts = rows.starts;
-    let a = first_key(net, sheet, counts, n);
-    let b = first_key(net, sheet, counts, m);
+    let a = first_key(net, sheet, page, counts, n);
+    let b = first_key(net, sheet, page, counts, m);
     let i = starts[n as usize] as usize;
     let j = starts[m as usize] as usize;
     rows_agree(sheet, &classes, counts, rows.width, a, b, i, j)
@@ -152,6 +155,7 @@ fn nodes_agree(
 fn leader(
     net: &[u32],
     sheet: &[u32],
+    page: &[u16; 4096],
     rows: NodeRows,
     classes: [u8; 128],
     next: [u8; 128],
@@ -159,7 +163,7 @@ fn leader(
 ) -> u32
     requires { ⌜ Readable (now net) (now sheet) ⌝ }
     requires { ⌜ n < nodeCount (now sheet) ⌝ }
-    requires { ⌜ RowsOf (now net) (now sheet) (rows .counts) rows ⌝ }
+    requires { ⌜ RowsOf (now page) (now net) (now sheet) (rows .counts) rows ⌝ }
     requires { ⌜ LeadersBy (split (graph (petriNet (now net)) (now sheet)) (rows .counts) (classIn classes)) n next ⌝ }
     ensures { λ r. ⌜ r ≡ leaderBy (split (graph (petriNet (now (net .entry))) (now (sheet .entry))) (rows .counts) (classIn classes)) n ⌝ }
 {
@@ -170,7 +174,7 @@ fn leader(
         k += 1;
         if classes[m as usize] == class {
             if next[m as usize] as u32 == m {
-                if nodes_agree(net, sheet, rows, classes, m, n) {
+                if nodes_agree(net, sheet, page, rows, classes, m, n) {
                     return m;
                 }
             }
@@ -180,16 +184,22 @@ fn leader(
 }
 
 // One round: each class is split by the rows of its nodes.
-fn round(net: &[u32], sheet: &[u32], rows: NodeRows, classes: [u8; 128]) -> [u8; 128]
+fn round(
+    net: &[u32],
+    sheet: &[u32],
+    page: &[u16; 4096],
+    rows: NodeRows,
+    classes: [u8; 128],
+) -> [u8; 128]
     requires { ⌜ Readable (now net) (now sheet) ⌝ }
-    requires { ⌜ RowsOf (now net) (now sheet) (rows .counts) rows ⌝ }
+    requires { ⌜ RowsOf (now page) (now net) (now sheet) (rows .counts) rows ⌝ }
     ensures { λ r. ⌜ LeadersBy (split (graph (petriNet (now (net .entry))) (now (sheet .entry))) (rows .counts) (classIn classes)) (nodeCount (now (sheet .entry))) r ⌝ }
 {
     let nodes = sheet[0];
     let mut next = [0u8; 128];
     let mut n = 0;
     while n < nodes {
-        let found = leader(net, sheet, rows, classes, next, n);
+        let found = leader(net, sheet, page, rows, classes, next, n);
         next[n as usize] = found as u8;
         n += 1;
     }
@@ -212,17 +222,18 @@ fn same_tables(a: [u8; 128], b: [u8; 128], nodes: usize) -> bool
 }
 
 // A table of classes in which two nodes have one entry exactly where they are equivalent.
-pub(crate) fn classes(net: &[u32], sheet: &[u32]) -> [u8; 128]
+pub(crate) fn classes(net: &[u32], sheet: &[u32], page: &[u16; 4096]) -> [u8; 128]
     requires { ⌜ Readable (now net) (now sheet) ⌝ }
+    requires { ⌜ now page ≡ manual.page ⌝ }
     ensures { λ r. ⌜ Classes (graph (petriNet (now (net .entry))) (now (sheet .entry))) r ⌝ }
 {
     let nodes = sheet[0] as usize;
-    let arcs = rows_of(net, sheet, false);
-    let counts = rows_of(net, sheet, true);
-    let mut classes = round(net, sheet, counts, [0u8; 128]);
+    let arcs = rows_of(net, sheet, page, false);
+    let counts = rows_of(net, sheet, page, true);
+    let mut classes = round(net, sheet, page, counts, [0u8; 128]);
     let mut rounds = 0;
     while rounds < nodes {
-        let next = round(net, sheet, arcs, classes);
+        let next = round(net, sheet, page, arcs, classes);
         if same_tables(classes, next, nodes) {
             return classes;
         }

@@ -7,10 +7,10 @@ use Rattle.choice.proofs.nodes.Statement.{statement}
 use Rattle.choice.proofs.nodes.Tie as tie
 
 abbrev Inv-loop : tie.InvT-loop
-Inv-loop net sheet leaders source transitions nodes awaits₀ n₀ awaits n = (n ≤ nodes) × Passing net sheet leaders source transitions nodes awaits n
+Inv-loop net sheet starts leaders source transitions nodes awaits₀ n₀ awaits n = (n ≤ nodes) × Passing starts net sheet leaders source transitions nodes awaits n
 
 abbrev μ-loop : tie.MeasureT-loop
-μ-loop net sheet leaders source transitions nodes awaits₀ n₀ awaits n = nodes - n
+μ-loop net sheet starts leaders source transitions nodes awaits₀ n₀ awaits n = nodes - n
 
 loop-holds : tie.Need-loop-holds Inv-loop μ-loop
 loop-holds c = (omega arith, start (ground-is (c .before .before .before .choices-of .ensures) (c .before .transitions .ensures) (c .node-count .ensures)))

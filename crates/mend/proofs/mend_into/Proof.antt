@@ -2,6 +2,7 @@
 use Prim.Native.Nat.{_≤_}
 use mathlib.Core.Path.{refl, sym, _∙_}
 use mathlib.Core.List.{[]}
+use Rattle.row_starts.specs.RowStarts.{line, lines, page}
 use Rattle.call.proofs.Laws.{refused-words}
 use Rattle.mend.proofs.Done.{ready, sheet-short, list-short, both-written}
 use borrow.Author.Needs.{needs}
@@ -9,17 +10,21 @@ use native.Mathlib.Omega.{arith}
 use Rattle.mend.proofs.mend_into.Statement.{statement}
 use Rattle.mend.proofs.mend_into.Tie as tie
 
+measured-requires : tie.Need-measured-requires
+unfolding page lines line
+measured-requires c κs = refl
+
 few : (c : tie.After-enum-told) → (c .before .before .measured .result .entries ≤ 4096) × (c .before .before .measured .result .changes ≤ 4096)
 few c = let k = ready _ _ [] [] (c .before .before .measured .ensures) (c .enum-told .given .1) in (k .few-entries, k .few-changes)
 
 returns : tie.Need-returns
 returns c = refused-words (sym (c .before .before .before .measured .ensures .reply) ∙ c .before .found .given .1) refl
 
-mul-t16 : tie.Need-mul-t16
-mul-t16 c = let k = few c in omega arith
+mul-t18 : tie.Need-mul-t18
+mul-t18 c = let k = few c in omega arith
 
-add-t17 : tie.Need-add-t17
-add-t17 c = let k = few c in omega arith
+add-t19 : tie.Need-add-t19
+add-t19 c = let k = few c in omega arith
 
 mul-output-fault : tie.Need-mul-output-fault
 mul-output-fault c = let k = few c in omega arith
@@ -61,12 +66,12 @@ pub mend-into-spec : {M : Type 1} → statement M
 mend-into-spec =
     tie.close
     (tie.spec
-    (λ c κs. search needs)
+    measured-requires
     (λ c. search needs)
     returns
     (λ c. search needs)
-    mul-t16
-    add-t17
+    mul-t18
+    add-t19
     mul-output-fault
     add-output-fault
     (λ c κs. search needs)

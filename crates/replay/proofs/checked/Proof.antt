@@ -1,6 +1,7 @@
 -- `replay::checked` meets its contract.
-use mathlib.Core.Path.{sym, _∙_}
+use mathlib.Core.Path.{refl, sym, _∙_}
 use borrow.Author.Needs.{needs}
+use Rattle.row_starts.specs.RowStarts.{line, lines, page}
 use Rattle.refusal.proofs.Verdicts.{answer-none}
 use Rattle.judge.proofs.Judged.{accepted-readable}
 use Rattle.replay.proofs.Logs.{log-holds}
@@ -17,15 +18,18 @@ returns-2 c =
     (c .before .before .log-fault .ensures) (c .enum-told3 .given .1)
 
 followed-requires : tie.Need-followed-requires
-followed-requires c κs = (
-  accepted-readable _ _ (sym (c .before .before .before .before .before .verdict .ensures) ∙ c .before .before .before .enum-told2 .given .1) .arcs,
-  log-holds _ (answer-none _ (sym (c .before .before .log-fault .ensures) ∙ c .enum-told4 .given .1)),
-)
+unfolding page lines line
+followed-requires c κs =
+    let f = c .before .before .before in (
+      accepted-readable _ _ (sym (f .before .before .before .verdict .ensures) ∙ f .before .enum-told2 .given .1) .arcs,
+      (refl, log-holds _ (answer-none _ (sym (f .log-fault .ensures) ∙ c .before .enum-told4 .given .1))),
+    )
 
 returns-3 : tie.Need-returns-3
 returns-3 c =
-    firings-judged _ _ _ (sym (c .before .before .before .before .before .before .verdict .ensures) ∙ c .before .before .before .before .enum-told2 .given .1)
-    (answer-none _ (sym (c .before .before .before .log-fault .ensures) ∙ c .before .enum-told4 .given .1)) (c .followed .ensures)
+    let f = c .before .before .before .before in
+    firings-judged _ _ _ (sym (f .before .before .before .verdict .ensures) ∙ f .before .enum-told2 .given .1)
+    (answer-none _ (sym (f .log-fault .ensures) ∙ c .before .before .enum-told4 .given .1)) (c .followed .ensures)
 
 pub checked-spec : {M : Type 1} → statement M
 checked-spec =

@@ -25,7 +25,7 @@ returns c =
     refused-measured (c .refused .ensures ∙ before-refused _ _ (c .before .before .before .checked .ensures) e) (c .refused .ensures ∙ e)
 
 search-requires : tie.Need-search-requires
-search-requires c κs = let a = sym (c .before .before .checked .ensures) ∙ c .enum-told2 .given .1 in (before-readable _ _ a, before-reached _ _ a)
+search-requires c κs = let a = sym (c .before .before .checked .ensures) ∙ c .enum-told2 .given .1 in ((c .before .before .before .before .before .pre, before-readable _ _ a), before-reached _ _ a)
 
 all-fit-requires : tie.Need-all-fit-requires
 all-fit-requires c κs = let a = sym (c .before .before .before .checked .ensures) ∙ c .before .enum-told2 .given .1 in (before-readable _ _ a, c .search .ensures)

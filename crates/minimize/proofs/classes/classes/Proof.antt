@@ -17,19 +17,19 @@ use Rattle.minimize.proofs.classes.classes.Statement.{statement}
 use Rattle.minimize.proofs.classes.classes.Tie as tie
 
 abbrev Inv-loop : tie.InvT-loop
-Inv-loop net sheet nodes arcs classes₀ rounds₀ classes rounds =
-    (rounds ≤ nodes) × Readable net sheet × RowsOf net sheet false arcs × LeadersBy (sameIn (graph (petriNet net) sheet) rounds) (nodeCount sheet) classes
+Inv-loop net sheet page nodes arcs classes₀ rounds₀ classes rounds =
+    (rounds ≤ nodes) × Readable net sheet × RowsOf page net sheet false arcs × LeadersBy (sameIn (graph (petriNet net) sheet) rounds) (nodeCount sheet) classes
 
 abbrev μ-loop : tie.MeasureT-loop
-μ-loop net sheet nodes arcs classes₀ rounds₀ classes rounds = nodes - rounds
+μ-loop net sheet page nodes arcs classes₀ rounds₀ classes rounds = nodes - rounds
 
 round-requires : tie.Need-round-requires Inv-loop μ-loop
-round-requires c κs = (c .before .before .before .before .before .pre, own-kind (c .rows-of2 .ensures))
+round-requires c κs = (c .before .before .before .before .before .pre .0, own-kind (c .rows-of2 .ensures))
 
 loop-holds : tie.Need-loop-holds Inv-loop μ-loop
 loop-holds c =
     let h = c .before .rows-of2 .ensures in
-    (omega arith, c .before .before .before .before .before .before .pre, c .before .before .rows-of .ensures, by-counts _ _ _ one-class (rw (h .kind) at (c .round .ensures)))
+    (omega arith, c .before .before .before .before .before .before .pre .0, c .before .before .rows-of .ensures, by-counts _ _ _ one-class (rw (h .kind) at (c .round .ensures)))
 
 round-requires-2 : tie.Need-round-requires-2 Inv-loop μ-loop
 round-requires-2 c κs = let (l, r, h, is) = c .before .loop .inv in (r, own-kind h)

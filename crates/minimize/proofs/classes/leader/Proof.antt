@@ -16,10 +16,10 @@ use Rattle.minimize.proofs.classes.leader.Statement.{statement}
 use Rattle.minimize.proofs.classes.leader.Tie as tie
 
 abbrev Inv-loop : tie.InvT-loop
-Inv-loop net sheet rows n classes next class k₀ k = (k ≤ n) × (n < 128) × (any (inClass (split (graph (petriNet net) sheet) (rows .counts) (classIn classes)) n) k ≡ false)
+Inv-loop net sheet page rows n classes next class k₀ k = (k ≤ n) × (n < 128) × (any (inClass (split (graph (petriNet net) sheet) (rows .counts) (classIn classes)) n) k ≡ false)
 
 abbrev μ-loop : tie.MeasureT-loop
-μ-loop net sheet rows n classes next class k₀ k = n - k
+μ-loop net sheet page rows n classes next class k₀ k = n - k
 
 loop-holds : tie.Need-loop-holds Inv-loop μ-loop
 loop-holds c = let (r, p) = c .before .before .pre in (omega arith, omega (arith, p .0, r .arcs .sizes .few-nodes), any-none-yet _)

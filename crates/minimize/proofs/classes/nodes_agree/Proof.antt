@@ -12,15 +12,15 @@ rows-agree-requires c κs =
     let (ln, q) = p in
     let (lm, h) = q in
     let a = c .before .before .before .before .before .before .args in
-    let e : length (a .t4) ≡ 128 = search needs in
-    rw (h .wide, c .before .before .first-key .ensures, c .before .first-key2 .ensures) (rows r e ln lm (h .start _ ln) (h .start _ lm))
+    let e : length (a .t5) ≡ 128 = search needs in
+    rw (h .wide, c .before .before .first-key .ensures, c .before .first-key2 .ensures) (rows (h .by-page) r e ln lm (h .start _ ln) (h .start _ lm))
 
 returns : tie.Need-returns
 returns c =
     let (r, p) = c .before .before .before .before .before .before .before .pre in
     let (ln, q) = p in
     let (lm, h) = q in
-    c .rows-agree .ensures ∙ rw (h .wide, c .before .before .before .first-key .ensures, c .before .before .first-key2 .ensures) (walked r _ _ ln lm)
+    c .rows-agree .ensures ∙ rw (h .wide, c .before .before .before .first-key .ensures, c .before .before .first-key2 .ensures) (walked (h .by-page) r _ _ ln lm)
 
 pub nodes-agree-spec : {M : Type 1} → statement M
 nodes-agree-spec =

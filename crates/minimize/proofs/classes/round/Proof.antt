@@ -14,11 +14,11 @@ use Rattle.minimize.proofs.classes.round.Statement.{statement}
 use Rattle.minimize.proofs.classes.round.Tie as tie
 
 abbrev Inv-loop : tie.InvT-loop
-Inv-loop net sheet rows classes nodes next₀ n₀ next n = (n ≤ nodes) × (nodes ≤ 128) × (length next ≡ 128)
+Inv-loop net sheet page rows classes nodes next₀ n₀ next n = (n ≤ nodes) × (nodes ≤ 128) × (length next ≡ 128)
     × LeadersBy (split (graph (petriNet net) sheet) (rows .counts) (classIn classes)) n next
 
 abbrev μ-loop : tie.MeasureT-loop
-μ-loop net sheet rows classes nodes next₀ n₀ next n = nodes - n
+μ-loop net sheet page rows classes nodes next₀ n₀ next n = nodes - n
 
 loop-holds : tie.Need-loop-holds Inv-loop μ-loop
 loop-holds c = let (r, p) = c .before .before .before .pre in (omega arith, r .arcs .sizes .few-nodes, refl, leaders-start _ _)

@@ -4,6 +4,18 @@ use Rattle.minimize.proofs.Writing.{form-written}
 use Rattle.minimize.proofs.writer.write_form.Statement.{statement}
 use Rattle.minimize.proofs.writer.write_form.Tie as tie
 
+write-section-requires : tie.Need-write-section-requires
+write-section-requires c κs = c .before .before .before .before .before .before .before .before .before .before .before .before .before .pre .0
+
+write-section-requires-2 : tie.Need-write-section-requires-2
+write-section-requires-2 c κs = let d = c .before .before .before .before .before in d .before .before .before .before .before .before .before .before .before .before .before .before .pre .0
+
+write-section-requires-3 : tie.Need-write-section-requires-3
+write-section-requires-3 c κs = let d = c .before .before .before .before .before .before .before .before .before in d .before .before .before .before .before .before .before .before .before .before .before .before .pre .0
+
+write-section-requires-4 : tie.Need-write-section-requires-4
+write-section-requires-4 c κs = let d = c .before .before .before .before .before .before .before .before .before .before .before .before .before in d .before .before .before .before .before .before .before .before .before .before .before .before .pre .0
+
 returns : tie.Need-returns
 returns c =
     let c₁ = c .before .before in
@@ -19,5 +31,5 @@ returns c =
 pub write-form-spec : {M : Type 1} → statement M
 write-form-spec =
     tie.close
-    (tie.spec (λ c. search needs) (λ c κs. search needs) (λ c. search needs) (λ c κs. search needs) (λ c κs. search needs) (λ c κs. search needs)
-    (λ c κs. search needs) (λ c κs. search needs) (λ c. search needs) returns)
+    (tie.spec (λ c. search needs) (λ c κs. search needs) (λ c. search needs) (λ c κs. search needs) write-section-requires write-section-requires-2
+    write-section-requires-3 write-section-requires-4 (λ c. search needs) returns)

@@ -9,20 +9,20 @@ use Rattle.replay.proofs.follow.followed.Statement.{statement}
 use Rattle.replay.proofs.follow.followed.Tie as tie
 
 abbrev Inv-loop : tie.InvT-loop
-Inv-loop net sheet log n node₀ entry₀ i₀ node entry i = Along net sheet log n node entry i
+Inv-loop net sheet starts log n node₀ entry₀ i₀ node entry i = Along starts net sheet log n node entry i
 
 abbrev μ-loop : tie.MeasureT-loop
-μ-loop net sheet log n node₀ entry₀ i₀ node entry i = n - i
+μ-loop net sheet starts log n node₀ entry₀ i₀ node entry i = n - i
 
 read-n : tie.Need-shared-slice-read-n Inv-loop μ-loop
-read-n c = omega (arith, c .before .before .before .before .pre .1 .whole)
+read-n c = omega (arith, c .before .before .before .before .pre .1 .1 .whole)
 
 cast-n : tie.Need-cast-n Inv-loop μ-loop
 unfolding firingCount
-cast-n c = omega (arith, c .before .before .before .before .pre .1 .few)
+cast-n c = omega (arith, c .before .before .before .before .pre .1 .1 .few)
 
 loop-holds : tie.Need-loop-holds Inv-loop μ-loop
-loop-holds c = sets-out _ _ _ (c .before .before .before .before .pre .0) (c .before .before .before .before .pre .1)
+loop-holds c = let (r, (p, h)) = c .before .before .before .before .pre in sets-out _ _ _ _ p r h
 
 returns : tie.Need-returns Inv-loop μ-loop
 returns c =
@@ -36,7 +36,7 @@ returns-2 c =
     (sym (c .before .before .before .before .before .before .before .arc .ensures) ∙ c .before .before .before .before .before .e .given .1) (c .before .before .before .value .ensures)
     (c .before .if1 .taken) (c .refuse2 .ensures)
 
-cast-entry : tie.Need-cast-t23 Inv-loop μ-loop
+cast-entry : tie.Need-cast-t24 Inv-loop μ-loop
 cast-entry c =
     let w = c .before .before .before .before .before .before .before .before .before .loop in
     omega (

@@ -1,0 +1,17 @@
+-- `minimize::written` meets its contract.
+use borrow.Author.Needs.{needs}
+use Rattle.graph.proofs.Readable.{reply-readable}
+use Rattle.minimize.proofs.written.Statement.{statement}
+use Rattle.minimize.proofs.written.Tie as tie
+
+classes-requires : tie.Need-classes-requires
+classes-requires c κs = let (w, p) = c .before .before .before .pre in (reply-readable _ _ w, p)
+
+numbering-requires : tie.Need-numbering-requires
+numbering-requires c κs = let (w, p) = c .before .before .before .before .pre in ((p, reply-readable _ _ w), c .classes .ensures)
+
+write-requires : tie.Need-write-requires
+write-requires c κs = (c .before .before .before .before .before .before .pre .0, c .before .numbering .ensures)
+
+pub written-spec : {M : Type 1} → statement M
+written-spec = tie.close (tie.spec classes-requires numbering-requires write-requires (λ c. search needs) (λ c. search needs))
