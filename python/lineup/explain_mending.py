@@ -1,6 +1,6 @@
 """Refusal 25, no counts fit: by the firings that lead to an arrow, and what the places hold there."""
 from lineup import mending
-from lineup.explain_schedule import arrow
+from lineup.explain_schedule import arrow, no_room
 from lineup.faults import ENTRIES, WEIGHT
 
 
@@ -30,6 +30,8 @@ def told(net, sheet, misfit, p):
     holds, taken, put = misfit.counts[n].get(p, 0), net.taken[t].get(p, 0), net.put[t].get(p, 0)
     if misfit.what == "starved":
         return start + f"{net.transitions[t]} takes {taken}, and there is {holds}"
+    if misfit.what == "overfull":
+        return start + no_room(net, t, p, holds)
     sum_ = f"{holds} - {taken} + {put} = {holds - taken + put}"
     if misfit.what == "count":
         return start + f"{sum_}, and a count is at most {WEIGHT:,}"

@@ -1,4 +1,4 @@
-"""Refusals of a sheet that can be read, 10 to 17, and of a firing in a run, 20: by node, transition and place, with the arithmetic."""
+"""Refusals of a sheet that can be read, 10 to 17 and 27, and of a firing in a run, 20: by node, transition and place, with the arithmetic."""
 from lineup.words import SHEET_HEAD, sheet_entry
 
 
@@ -60,6 +60,21 @@ def starved_arc(entry, net, source):
         takes, holds = net.taken[t][p], sheet.counts[n].get(p, 0)
         lines.append(f"{arrow(net, sheet, n, t, m)}: {net.places[p]}: {net.transitions[t]} takes {takes}, but node {sheet.nodes[n]} holds {holds}")
     return source.locate(("arc", n, t)), lines, {"arcs": [(n, t)], "nodes": [n], "places": places}
+
+
+def over_capacity(entry, net, source):
+    sheet = source.model
+    n, t, m = arc_at(entry, net, sheet, source.words)
+    places = net.overfilled(sheet.counts[n], t)
+    lines = [f"{arrow(net, sheet, n, t, m)}: {net.places[p]}: {no_room(net, t, p, sheet.counts[n].get(p, 0))}" for p in places]
+    return source.locate(("arc", n, t)), lines, {"arcs": [(n, t)], "nodes": [n], "places": places}
+
+
+def no_room(net, t, p, holds):
+    """What t puts into a place that holds so much is more than the place can hold."""
+    puts, taken = net.put[t][p], net.taken[t].get(p, 0)
+    sum_ = f"{holds} + {puts} = {holds + puts}, but it can hold at most {net.capacity[p]}"
+    return sum_ + (f"; what {net.transitions[t]} takes there, {taken}, makes no room" if taken else "")
 
 
 def wrong_landing(entry, net, source):
@@ -129,4 +144,5 @@ FAULTS = {
     15: wrong_landing,
     16: stray_node,
     17: no_way_home,
+    27: over_capacity,
 }

@@ -1,4 +1,4 @@
-"""Refusals of words, 1 to 9: sizes, lengths, keys and values, with the likely cause."""
+"""Refusals of words, 1 to 9: sizes, lengths, keys and values, with the likely cause; and of a net by 26."""
 from lineup.faults import ENTRIES, LINES, NODES, WEIGHT
 from lineup.words import NET_HEAD, SHEET_HEAD, net_entry, net_keys, sheet_entry
 
@@ -9,12 +9,14 @@ def net_fault(answer, net):
         return None, ragged(net, NET_HEAD, "net", "places, transitions, entries", "weights")
     if answer.number == 2:
         return net_size(net)
+    if answer.number == 26:
+        return net.locate(("capacity", answer.index), ("start", answer.index)), *overfull_start(net.model)
     if answer.number == 5:
         return net.locate(("transition", 0)), no_source(net)
     i = answer.index
     if answer.number == 3:
         places, transitions = net.words[:2]
-        limit = f"(2 * {transitions} + 1) * {places} = {net_keys(places, transitions)}"
+        limit = f"(2 * {transitions} + 2) * {places} = {net_keys(places, transitions)}"
         return net.locate_word(NET_HEAD + i), key_order(net, NET_HEAD, i, limit, lambda i: net_said(net, i))
     weight = net.words[NET_HEAD + net.words[NET_HEAD - 1] + i]
     where = net.locate_word(NET_HEAD + net.words[NET_HEAD - 1] + i) or net.locate(net_about(net, i))
@@ -127,6 +129,8 @@ def net_said(net, index, weight=None):
     many = "" if weight is None else f" {weight}"
     if what[0] == "start":
         return f"{place} starts with{many}"
+    if what[0] == "capacity":
+        return f"{place} can hold" + ("" if weight is None else f" at most {weight}")
     transition = net.model.transitions[what[1]] if net.model else net.names.one("transition", what[1])
     return f"{transition} takes{many} from {place}" if what[0] == "taken" else f"{transition} puts{many} into {place}"
 
@@ -144,3 +148,9 @@ def no_source(net):
     told = [f"{name} takes {net.model.held(taken)}" for name, taken in zip(net.model.transitions, net.model.taken)]
     more = [f"and {len(told) - 8} more"] if len(told) > 8 else []
     return ["every transition takes something: " + "; ".join(told[:8] + more)]
+
+
+def overfull_start(net):
+    """Sentences that tell it, and what a picture marks."""
+    places = net.overfull(net.start)
+    return [f"{net.places[p]} starts with {net.start[p]}, and can hold at most {net.capacity[p]}" for p in places], {"places": places}

@@ -37,6 +37,9 @@ def differences(own, other):
         here, there = own.start.get(p, 0), other.start.get(other.places.index(name), 0)
         if here != there:
             found.append(f"place {quoted(name)} starts with {here} here and {there} there")
+        here, there = (net.capacity.get(net.places.index(name), "any number") for net in (own, other))
+        if here != there:
+            found.append(f"place {quoted(name)} can hold {here} here and {there} there")
     for t, name in enumerate(own.transitions):
         u = other.transitions.index(name)
         for verb, here, there in (("takes", own.taken[t], other.taken[u]), ("puts", own.put[t], other.put[u])):

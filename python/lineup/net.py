@@ -1,15 +1,15 @@
-"""A place/transition net with names: what each transition takes and puts, and what each place starts with."""
+"""A place/transition net with names: what each transition takes and puts, and what each place starts with and can hold."""
 
 
 class Net:
     """Places and transitions are known by their numbers, which the order of their names gives. `taken[t]` and `put[t]` are {place: weight},
-    `start` is {place: count}. `where` tells the line and column of ("place", p), ("transition", t), ("taken", t, p), ("put", t, p) and
-    ("start", p), as far as they have one."""
+    `start` is {place: count} and `capacity` {place: the most it can hold}, of those that have one. `where` tells the line and column of
+    ("place", p), ("transition", t), ("taken", t, p), ("put", t, p), ("start", p) and ("capacity", p), as far as they have one."""
 
     def __init__(self, name=""):
         self.name = name
         self.places, self.transitions = [], []
-        self.taken, self.put, self.start = [], [], {}
+        self.taken, self.put, self.start, self.capacity = [], [], {}, {}
         self.where = {}
 
     def sources(self):
@@ -31,6 +31,18 @@ class Net:
     def starved(self, counts, t):
         """The places that hold less than t takes."""
         return [p for p, weight in sorted(self.taken[t].items()) if counts.get(p, 0) < weight]
+
+    def capacities(self):
+        """By name, of the places that have one."""
+        return {self.places[p]: most for p, most in sorted(self.capacity.items())}
+
+    def overfull(self, counts):
+        """The places that hold more than they can."""
+        return [p for p, most in sorted(self.capacity.items()) if counts.get(p, 0) > most]
+
+    def overfilled(self, counts, t):
+        """The places that have no room for what t puts, beside what they hold before t takes anything."""
+        return self.overfull({p: counts.get(p, 0) + weight for p, weight in self.put[t].items() if weight})
 
     def fired(self, counts, t):
         """What the places hold after t."""

@@ -1,4 +1,4 @@
-"""Nets as text, in the way of TINA's .net: reading and writing."""
+"""Nets as text, in the way of TINA's .net, with a mark of ours for what a place can hold: reading and writing."""
 from lineup import tokens
 from lineup.net import Net
 from lineup.tokens import written
@@ -67,6 +67,10 @@ class Reader:
             line.take(")", "')'")
             if count:
                 self.net.start[p] = count
+        if line.kind() == "<=":
+            line.at += 1
+            self.net.where["capacity", p] = (line.number, line.column())
+            self.net.capacity[p] = line.number_word("the most that the place can hold")
         self.no_label(line)
         if line.kind() in ("name", "->"):
             line.fail("arcs stand on the lines of transitions: tr NAME places -> places")
@@ -104,7 +108,8 @@ def write(net):
     """The net as text. Every place has a line, so that reading gives each its number again."""
     lines = [f"net {written(net.name)}"] if net.name else []
     for p, name in enumerate(net.places):
-        lines.append(f"pl {written(name)}" + (f" ({net.start[p]})" if p in net.start else ""))
+        start = f" ({net.start[p]})" if p in net.start else ""
+        lines.append(f"pl {written(name)}" + start + (f" <= {net.capacity[p]}" if p in net.capacity else ""))
     names = [written(name) for name in net.transitions]
     takes = ["" if not taken else net.held(taken) for taken in net.taken]
     wide, deep = max(map(len, names), default=0), max(map(len, takes), default=0)

@@ -22,13 +22,14 @@ class Picture:
 
 
 def of_net(net, bounds=None, marks=None):
-    """Places and transitions; below a place what it holds at most, where bounds are given."""
+    """Places and transitions; below a place its capacity, and what it holds at most, where bounds are given."""
     at_fault = set((marks or {}).get("places", []))
     large = 1000  # a number that a circle has no room for
     picture = Picture([len(net.places) + t for t in net.sources()])
     for p, name in enumerate(net.places):
         tokens = net.start.get(p, 0)
         parts = [(f"starts with {tokens}", False)] if tokens >= large else []
+        parts += [(f"can hold {net.capacity[p]}", False)] if p in net.capacity else []
         parts += [(f"at most {bounds[p]}", False)] if bounds else []
         picture.boxes.append(Box("place", name, parts, refused=p in at_fault, tokens=tokens if tokens < large else 0))
     for t, name in enumerate(net.transitions):

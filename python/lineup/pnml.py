@@ -1,4 +1,4 @@
-"""Nets as PNML (ISO/IEC 15909-2), place/transition nets alone: reading and writing."""
+"""Nets as PNML (ISO/IEC 15909-2), place/transition nets alone, with a label of ours for what a place can hold: reading and writing."""
 import re
 from xml.sax.saxutils import escape
 
@@ -11,7 +11,7 @@ from lineup.visible import quoted
 SPACE = "http://www.pnml.org/version-2009/grammar/pnml"
 TYPE = "http://www.pnml.org/version-2009/grammar/ptnet"
 LAYOUT = {"name", "graphics", "toolspecific"}  # children that say nothing about the net's behaviour
-MEANING = {"place": {"initialMarking"}, "transition": set(), "arc": {"inscription"}, "net": {"page", "place", "transition", "arc"}}
+MEANING = {"place": {"initialMarking", "capacity"}, "transition": set(), "arc": {"inscription"}, "net": {"page", "place", "transition", "arc"}}
 
 
 def read(path, data):
@@ -106,6 +106,11 @@ class Reader:
         if count:
             self.net.start[p] = count
             self.net.where["start", p] = element.where
+        if element.all("capacity"):
+            if self.label(element, "capacity") is None:
+                self.fail(element.all("capacity")[0], "a capacity without a text: <capacity><text>NUMBER</text></capacity> is expected")
+            self.net.capacity[p] = self.number(element, "capacity", 0)
+            self.net.where["capacity", p] = element.where
 
     def transition(self, element):
         self.add(element, "transition", self.net.transitions)
@@ -142,7 +147,8 @@ def write(net):
     lines += ['    <page id="page">']
     for p, name in enumerate(net.places):
         start = label("initialMarking", net.start[p]) if p in net.start else ""
-        lines.append(f'      <place id="p{p}">{label("name", name)}{start}</place>')
+        most = label("capacity", net.capacity[p]) if p in net.capacity else ""
+        lines.append(f'      <place id="p{p}">{label("name", name)}{start}{most}</place>')
     for t, name in enumerate(net.transitions):
         lines.append(f'      <transition id="t{t}">{label("name", name)}</transition>')
     arcs = [(f"p{p}", f"t{t}", weight) for t, row in enumerate(net.taken) for p, weight in sorted(row.items())]

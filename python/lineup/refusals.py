@@ -4,7 +4,7 @@ from collections import namedtuple
 Refusal = namedtuple("Refusal", "word meaning remedy")
 
 # which are about the net, about the words of a sheet, about a list of firings, and about a log; the others are about a sheet that can be read
-OF_NET, OF_WORDS, OF_RECORD, OF_LOG = {1, 2, 3, 4, 5}, {6, 7, 8, 9}, {20}, {20, 23, 24}
+OF_NET, OF_WORDS, OF_RECORD, OF_LOG = {1, 2, 3, 4, 5, 26}, {6, 7, 8, 9}, {20}, {20, 23, 24}
 NO_COUNTS = 25
 
 REFUSALS = {
@@ -25,7 +25,7 @@ REFUSALS = {
     ),
     4: Refusal(
         "net weight",
-        "A transition takes or puts, or a place starts with, 0 or more than 1,000,000,000.",
+        "A transition takes or puts, or a place starts with or can hold, 0 or more than 1,000,000,000.",
         "Leave out what is 0; count in a larger unit what is too much.",
     ),
     5: Refusal(
@@ -130,7 +130,17 @@ REFUSALS = {
     ),
     25: Refusal(
         "no counts fit",
-        "No counts whatsoever make these arrows right: a transition is planned where there is less than it takes, two ways to one node bring different counts, or a count or the sheet would be too large.",
-        "Follow the firings that are told: an arrow on the way is wrong, or two nodes were made one that hold different counts.",
+        "No counts whatsoever make these arrows right: a transition is planned where there is less than it takes, or no room for what it puts, two ways to one node bring different counts, or a count or the sheet would be too large.",
+        "Follow the firings that are told: an arrow on the way is wrong, or a capacity is, or two nodes were made one that hold different counts.",
+    ),
+    26: Refusal(
+        "overfull start",
+        "A place holds more than it can when the schedule begins.",
+        "Correct what the place starts with, or its capacity.",
+    ),
+    27: Refusal(
+        "over capacity",
+        "A transition is planned where a place has no room for what it puts, before anything is taken from it.",
+        "Plan the transition after one that drains the place, or correct its capacity.",
     ),
 }

@@ -8,7 +8,7 @@ from lineup.visible import HIDDEN, escape, quoted
 LARGEST_WORD = 4_294_967_295
 BARE = r"[\w'](?:[\w'.]|-(?!>))*"
 TOKEN = re.compile(
-    rf"""(?P<blank>[ \t\r]+|\#.*) | (?P<arrow>->) | \{{(?P<braced>(?:[^{{}}\\]|\\.)*)\}} | (?P<bare>{BARE}) | (?P<mark>[*:()]|\[0,w\[)""",
+    rf"""(?P<blank>[ \t\r]+|\#.*) | (?P<arrow>->) | \{{(?P<braced>(?:[^{{}}\\]|\\.)*)\}} | (?P<bare>{BARE}) | (?P<mark>[*:()]|<=|\[0,w\[)""",
     re.VERBOSE,
 )
 # what nets of other tools have here, by the character that it begins with

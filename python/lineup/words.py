@@ -3,7 +3,7 @@ from lineup.net import Net
 from lineup.sheet import Sheet
 
 NET_HEAD, SHEET_HEAD = 3, 2  # words before the keys
-NET_WORDS, SHEET_WORDS, LOG_WORDS = 4_164, 8_195, 8_194  # handed on of a longer file, one more than fits
+NET_WORDS, SHEET_WORDS, LOG_WORDS = 4_228, 8_195, 8_194  # handed on of a longer file, one more than fits
 LIST_WORDS = 8_193  # of a list of changes, at most
 
 
@@ -13,7 +13,7 @@ def keyed(entries):
     return [len(keys)] + keys + [entries[key] for key in keys]
 
 
-# ---- the net: t takes from p, t puts into p, p starts with
+# ---- the net: t takes from p, t puts into p, p starts with, p can hold
 
 
 def net_key(places, transitions, what):
@@ -22,7 +22,7 @@ def net_key(places, transitions, what):
         return at[0] * places + at[1]
     if kind == "put":
         return (transitions + at[0]) * places + at[1]
-    return 2 * transitions * places + at[0]
+    return (2 * transitions + (kind == "capacity")) * places + at[0]
 
 
 def net_entry(places, transitions, key):
@@ -32,12 +32,14 @@ def net_entry(places, transitions, key):
         return ("taken", row, p)
     if row < 2 * transitions:
         return ("put", row - transitions, p)
-    return ("start", p) if row == 2 * transitions else None
+    if row == 2 * transitions:
+        return ("start", p)
+    return ("capacity", p) if row == 2 * transitions + 1 else None
 
 
 def net_keys(places, transitions):
     """All keys lie below this."""
-    return (2 * transitions + 1) * places
+    return (2 * transitions + 2) * places
 
 
 def net_entries(net):
@@ -45,6 +47,7 @@ def net_entries(net):
     weights = {("taken", t, p): weight for t, row in enumerate(net.taken) for p, weight in row.items()}
     weights.update({("put", t, p): weight for t, row in enumerate(net.put) for p, weight in row.items()})
     weights.update({("start", p): count for p, count in net.start.items()})
+    weights.update({("capacity", p): most for p, most in net.capacity.items()})
     sizes = len(net.places), len(net.transitions)
     return {net_key(*sizes, what): weight for what, weight in weights.items()}
 
@@ -60,8 +63,8 @@ def net_of(words, places, transitions):
     net.taken, net.put = [{} for _ in transitions], [{} for _ in transitions]
     for key, weight in pairs(words, NET_HEAD):
         kind, *at = net_entry(len(places), len(transitions), key)
-        if kind == "start":
-            net.start[at[0]] = weight
+        if kind in ("start", "capacity"):
+            (net.start if kind == "start" else net.capacity)[at[0]] = weight
         else:
             (net.taken if kind == "taken" else net.put)[at[0]][at[1]] = weight
     return net

@@ -10,6 +10,8 @@ def net_text(net):
         held = net.held({what[-1]: 1 for what in whats})
         if kind == "start":
             return f"starting counts of {held}"
+        if kind == "capacity":
+            return f"capacities of {held}"
         return f"{net.transitions[at[0]]} {'takes from' if kind == 'taken' else 'puts into'} {held}"
 
     entries = net_entries(net)

@@ -43,6 +43,9 @@ NETS = [
     ("pl a (one)\n", "1:7", ["the number that the place starts with is expected, not 'one'"]),
     ("pl a (1\n", "1:8", ["')' is expected, not the end of the line"]),
     ("pl a (4294967296)\n", "1:7", ["'4294967296' is above 4,294,967,295"]),
+    ("pl a <=\n", "1:8", ["the most that the place can hold is expected, not the end of the line"]),
+    ("pl a (1) <= many\n", "1:13", ["the most that the place can hold is expected, not 'many'"]),
+    ("pl a <= 2 (1)\n", "1:11", ["'(' after place 'a'"]),
     ("pl a (1) t -> u\n", "1:10", ["arcs stand on the lines of transitions"]),
     ("pl a : label\n", "1:6", ["labels (':')"]),
     ("pl a )\n", "1:6", ["')' after place 'a'"]),
@@ -104,6 +107,7 @@ PNMLS = [
     (OPEN + '<transition id="t"><condition><text>x = 1</text></condition></transition>' + CLOSE, "3:20", ["'condition' ('x = 1') at a transition"]),
     (OPEN + PLACE + '<arc id="a" source="p" target="t"><type value="inhibitor"/></arc>' + CLOSE, "5:35", ["'type' ('inhibitor') at an arc"]),
     (OPEN + '<place id="p"><name><text>a</text></name><name><text>b</text></name></place>' + CLOSE, "3:42", ["a second 'name' at a place"]),
+    (OPEN + '<place id="p"><capacity><value>2</value></capacity></place>' + CLOSE, "3:15", ["a capacity without a text"]),
     (OPEN + '<place id="p"><initialMarking><text>two</text></initialMarking></place>' + CLOSE, "3:15", ["'two' is no number from 0 to 4,294,967,295"]),
     (OPEN + '<place id="p"><name><text>a&#x202e;b</text></name></place>' + CLOSE, "3:1", ["a name holds \\u202e"]),
     (OPEN + "<place/>" + CLOSE, "3:1", ["a name is empty"]),
@@ -198,6 +202,7 @@ def mappings(tally, path):
     cases = {
         "other places": (named.replace("b", "c"), words["net.txt"], ["place 'c' is only here", "place 'b' is only there"]),
         "another start": (named, "2 2 5 2 3 5 6 8 1 1 1 1 2", ["place 'a' starts with 2 here and 1 there"]),
+        "a capacity": (named, "2 2 6 2 3 5 6 8 10 1 1 1 1 1 1", ["place 'a' can hold 1 here and any number there"]),
         "another weight": (named, "2 2 5 2 3 5 6 8 1 2 1 1 1", ["transition 'u' takes a b*2 here and a b there"]),
         "no readable words": (named, "2 2", ["its words cannot be laid over"]),
     }

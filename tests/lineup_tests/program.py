@@ -26,9 +26,14 @@ ARROWS = "n:\n  s -> m\nm:\n  u -> n\n"
 STALE = "n: a*0\n  s -> m\nm: a*7\n  u -> o\no: a*4294967295\n  s -> p\np:\n  u -> n\n"
 HOARD = "n:\n  s -> n\n"
 STARVED = "n:\n  s -> m\nm:\n  w -> n\n"
+CAPPED = "pl a <= 1\ntr s -> a\ntr u a ->\n"
+BACK = "pl a <= 1\ntr s -> a\ntr b a -> a\ntr u a ->\n"
+BACKS = "n:\n  s -> m\nm:\n  b -> m\n  u -> n\n"
+OVER = "pl a (2) <= 1\ntr s -> a\ntr u a ->\n"
 FILES = {
     "x.net": NET, "x.sheet": SHEET, "longer.sheet": LONGER, "greedy.sheet": GREEDY, "torn.sheet": TORN, "shared.net": SHARED, "both.sheet": BOTH, "x.log": LOG,
     "arrows.sheet": ARROWS, "stale.sheet": STALE, "hoard.sheet": HOARD, "starved.sheet": STARVED,
+    "capped.net": CAPPED, "back.net": BACK, "back.sheet": BACKS, "over.net": OVER,
 }
 
 
@@ -84,6 +89,21 @@ def statuses(tally, folder):
         (1, "mend x.net torn.sheet", ["torn.sheet:3:1: refused, 11 dead end", "core: answer 11 node 1 length 0 list 0"]),
         (1, "mend x.net hoard.sheet", ["hoard.sheet:2:3: refused, 25 no counts fit", "node n, s -> n: a: 0 - 0 + 1 = 1, and another way to node n gives 0", "node n is reached by no firing and then holds nothing", "core: answer 25 none 0"]),
         (1, "mend shared.net starved.sheet", ["starved.sheet:4:3: refused, 25 no counts fit", "node m, w -> n: a: w takes 2, and there is 1", "node m is reached by s and then holds a"]),
+        (0, "check capped.net", ["accepted, as a net", "capacities: a <= 1"]),
+        (0, "check capped.net x.sheet", ["accepted", "bounds: a <= 1"]),
+        (1, "check capped.net greedy.sheet", ["greedy.sheet:4:3: refused, 27 over capacity", "node m, s -> o: a: 1 + 1 = 2, but it can hold at most 1", "core: answer 27 entry 1"]),
+        (0, "bounds capped.net x.sheet", ["a 1  at m; it can hold 1"]),
+        (0, "mend capped.net arrows.sheet", ["# arrows.sheet: no count was given, and 1 count filled in", "length 8 list 3", "m:  a"]),
+        (0, "mend capped.net stale.sheet", ["stale.sheet:3:1: node m: a 7 becomes 1", "node o: a 4294967295 becomes 0"]),
+        (1, "mend capped.net greedy.sheet", ["greedy.sheet:4:3: refused, 25 no counts fit", "node m, s -> o: a: 1 + 1 = 2, but it can hold at most 1", "node m is reached by s and then holds a", "core: answer 25 none 0"]),
+        (1, "mend back.net back.sheet", ["back.sheet:4:3: refused, 25 no counts fit", "node m, b -> m: a: 1 + 1 = 2, but it can hold at most 1; what b takes there, 1, makes no room"]),
+        (1, "mend over.net arrows.sheet", ["over.net:1:13: refused, 26 overfull start", "a starts with 2, and can hold at most 1", "core: answer 26 place 0 length 0 list 0"]),
+        (1, "check over.net", ["over.net:1:13: refused, 26 overfull start", "core: answer 26 place 0"]),
+        (0, "words capped.net x.sheet", ["net 1 2 3 1 2 5 1 1 1", "sheet 2 3 0 3 5 1 0 1"]),
+        (0, "names capped.net", ["pl a <= 1"]),
+        (0, "names capped.net --pnml", ["<capacity><text>1</text></capacity>"]),
+        (0, "draw capped.net", ["can hold 1"]),
+        (1, "draw over.net", ["// refused, 26 overfull start", "// a starts with 2, and can hold at most 1", 'fillcolor="#fbe3e6"']),
         (0, "words x.net x.sheet", ["net 1 2 2 1 2 1 1", "sheet 2 3 0 3 5 1 0 1"]),
         (0, "names x.net x.sheet", ["tr u  a ->", "m:  a"]),
         (0, "names x.net --pnml", ['<place id="p0"><name><text>a</text></name></place>']),
@@ -134,16 +154,20 @@ def read(folder, name, mode="r"):
 def as_json(tally, folder):
     cases = {
         "check x.net x.sheet": {"accepted": True, "nodes": 2, "arcs": 2, "awaits": 1, "bounds": {"a": 1}},
-        "check x.net": {"accepted": True, "sources": ["s"]},
+        "check x.net": {"accepted": True, "sources": ["s"], "capacities": {}},
+        "check capped.net": {"accepted": True, "capacities": {"a": 1}},
         "check x.net torn.sheet": {"accepted": False},
         "diff x.net x.sheet longer.sheet": {"same": True},
         "diff x.net x.sheet greedy.sheet": {"same": False, "before": ["s"]},
         "short x.net longer.sheet": {"nodes": 2, "merged": [["n", "o"], ["m", "p"]], "words": [2, 3, 0, 3, 5, 1, 0, 1]},
-        "bounds x.net greedy.sheet": {"bounds": {"a": 2}, "attained": {"a": ["o"]}},
+        "bounds x.net greedy.sheet": {"bounds": {"a": 2}, "attained": {"a": ["o"]}, "capacities": {}},
+        "bounds capped.net x.sheet": {"bounds": {"a": 1}, "attained": {"a": ["m"]}, "capacities": {"a": 1}},
         "run x.net x.sheet s": {"fired": 1, "node": "m", "counts": {"a": 1}},
         "replay x.net x.sheet x.log": {"accepted": True, "firings": 3, "node": "m", "taken": {"a": 1}, "put": {"a": 2}, "total": {"taken": 1, "put": 2}},
         "mend x.net arrows.sheet": {"accepted": True, "nodes": 2, "changes": [{"node": "m", "place": "a", "given": 0, "count": 1}], "words": [2, 3, 0, 3, 5, 1, 0, 1], "list": [1, 1, 1], "sheet": "n:\n  s -> m\nm:  a\n  u -> n\n"},
         "mend x.net hoard.sheet": {"accepted": False},
+        "mend capped.net arrows.sheet": {"accepted": True, "nodes": 2, "list": [1, 1, 1]},
+        "mend capped.net greedy.sheet": {"accepted": False},
         "words x.net": {"net": [1, 2, 2, 1, 2, 1, 1]},
         "names x.net": {"net": "pl a\ntr s    -> a\ntr u  a ->\n"},
         "draw x.net x.sheet": {"accepted": True},
@@ -177,9 +201,9 @@ def word_files(tally, folder):
         "hardly a net": (net[:8], sheet, ["there are 2 words, and a net begins with 3"]),
         "empty": (b"", b"", ["there are 0 words"]),
         "a key twice": (struct.pack("<7I", 1, 2, 2, 2, 2, 1, 1), sheet, ["entry 1: key 2 (t0 puts into p0) is there twice", "key at byte 16, value at byte 24"]),
-        "a key too large": (struct.pack("<7I", 1, 2, 2, 1, 5, 1, 1), sheet, ["entry 1: key 5 is not below (2 * 2 + 1) * 1 = 5"]),
+        "a key too large": (struct.pack("<7I", 1, 2, 2, 1, 6, 1, 1), sheet, ["entry 1: key 6 is not below (2 * 2 + 2) * 1 = 6"]),
         "a sheet's key too large": (net, struct.pack("<8I", 2, 3, 0, 3, 6, 1, 0, 1), ["entry 2: key 6 is not below 2 * (2 + 1) = 6"]),
-        "too many entries": (struct.pack("<3I", 1, 2, 6), sheet, ["K says 6 entries, and 1 places with 2 transitions have at most 5"]),
+        "too many entries": (struct.pack("<3I", 1, 2, 7), sheet, ["K says 7 entries, and 1 places with 2 transitions have at most 6"]),
         "a sheet's too many": (net, struct.pack("<2I", 2, 4097), ["the sheet has 4097 arcs and counts, and may have 4,096"]),
     }
     for what, (one, other, parts) in cases.items():

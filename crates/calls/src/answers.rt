@@ -18,6 +18,7 @@ fn weights(net: &[u32], t: u32, p: u32) {
         net::taken(net, t, p),
         net::put(net, t, p),
         net::start(net, p),
+        net::capacity(net, p),
     );
 }
 

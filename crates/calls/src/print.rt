@@ -6,6 +6,7 @@ use judge::CheckAnswer;
 use libc::STDOUT_FILENO;
 use mended::MendAnswer;
 use minimal::FormAnswer;
+use net::PlaceCapacity;
 use refusal::Verdict;
 use replay::ReplayAnswer;
 use schedule::FireAnswer;
@@ -88,11 +89,12 @@ pub(crate) fn mend_answer(answer: MendAnswer) {
     named(b" list", plain[4] as u64);
 }
 
-// What a transition takes and puts at a place, and what the place starts with.
-pub(crate) fn weights(taken: u32, put: u32, start: u32) {
+// What a transition takes and puts at a place, what the place starts with and its capacity.
+pub(crate) fn weights(taken: u32, put: u32, start: u32, capacity: PlaceCapacity) {
     named(b"taken", taken as u64);
     named(b" put", put as u64);
     named(b" start", start as u64);
+    named(b" capacity", capacity.plain() as u64);
 }
 
 // A byte put at an index of a block, and the index after it; past the block nothing is put.

@@ -8,9 +8,9 @@ ghost use Rattle.files.specs.Printed.{printed, Buffers, Reads};
 use libc::STDOUT_FILENO;
 
 // Of each file one word more than fits: §12.3.
-const NET_WORDS: usize = 4164;
+const NET_WORDS: usize = 4228;
 
-const NET_BYTES: usize = 16656;
+const NET_BYTES: usize = 16912;
 
 const SHEET_WORDS: usize = 8195;
 

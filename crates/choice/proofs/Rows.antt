@@ -5,7 +5,7 @@ use native.Mathlib.Decide.{decLt}
 use mathlib.Core.Path.{_≡_, refl, sym, ap, _∙_, fun-ext}
 use mathlib.Core.List.{List}
 use mathlib.Core.Bool.{and-false}
-use mathlib.Core.Option.{Option, none, some, Option·map}
+use mathlib.Core.Option.{Option, none, some, Option·map, Option·getD}
 use lib.ListN.{getD, replicate, getD-replicate, List·getD-eq-default}
 use lib.Dec.{ltb}
 use borrow.Author.Tests.{lt-ltb, le-ltb}
@@ -13,9 +13,9 @@ use Rattle.scan.specs.Scan.{when, tabulate}
 use Rattle.scan.proofs.Tests.{byTest}
 use Rattle.scan.proofs.Tabulate.{tabulate-at, tabulate-length, tabulate-is}
 use Rattle.table.specs.Row.{entryCode}
-use Rattle.net.specs.Net.{transitionCount, taken, put, start}
+use Rattle.net.specs.Net.{transitionCount, taken, put, start, capacity}
 use Rattle.net.specs.Check.{netReply}
-use Rattle.net.proofs.Laws.{accessors, sizes, taken-no-place, put-no-place, start-no-place}
+use Rattle.net.proofs.Laws.{accessors, sizes, taken-no-place, put-no-place, start-no-place, capacity-no-place, capacity-some}
 use Rattle.row_starts.specs.RowStarts.{page}
 use Rattle.refusal.specs.declared.Verdict.the-variants.{Accepted}
 use Rattle.automaton.specs.Automaton.{Automaton}
@@ -34,19 +34,28 @@ told-row row f e z = fun-ext (λ p. elim (decLt p 32) [
   | no l ↦ rw e (List·getD-eq-default (tabulate f 32) 0 {n = p} (rw (tabulate-length f 32) (omega arith)) ∙ sym (z p (omega arith)))
 ])
 
-same-net : (P T P′ T′ : ℕ) (f g f′ g′ : ℕ → ℕ → ℕ) (s s′ : ℕ → ℕ) → P ≡ P′ → T ≡ T′ → f ≡ f′ → g ≡ g′ → s ≡ s′
-    → _≡_ {A = PetriNet} (record { places = P; transitions = T; taken = f; put = g; start = s }) (record { places = P′; transitions = T′; taken = f′; put = g′; start = s′ })
-same-net P T P′ T′ f g f′ g′ s s′ a b c d e = rw (a, b, c, d, e)
+-- a word of the row of capacities says the capacity, 0 that there is none
+word-capacity : (o : Option ℕ) → ((c : ℕ) → o ≡ some c → 1 ≤ c) → when (ltb 0 (Option·getD o 0)) (Option·getD o 0) ≡ o
+unfolding when
+word-capacity none h = refl
+word-capacity (some c) h = rw (lt-ltb 0 c (h c refl))
+
+same-net : (P T P′ T′ : ℕ) (f g f′ g′ : ℕ → ℕ → ℕ) (s s′ : ℕ → ℕ) (k k′ : ℕ → Option ℕ) → P ≡ P′ → T ≡ T′ → f ≡ f′ → g ≡ g′ → s ≡ s′ → k ≡ k′
+    → _≡_ {A = PetriNet} (record { places = P; transitions = T; taken = f; put = g; start = s; capacity = k })
+    (record { places = P′; transitions = T′; taken = f′; put = g′; start = s′; capacity = k′ })
+same-net P T P′ T′ f g f′ g′ s s′ k k′ a b c d e h = rw (a, b, c, d, e, h)
 
 pub net-told : (net : List ℕ) → netReply net ≡ Accepted → netByRows net ≡ petriNet net
 unfolding netByRows
 net-told net h =
     let n = sizes net h in
     let a = accessors net h in
-    same-net _ _ _ _ _ _ _ _ _ _ (omega arith) (omega arith)
+    same-net _ _ _ _ _ _ _ _ _ _ _ _ (omega arith) (omega arith)
     (fun-ext (λ t. told-row _ (taken net t) (a .takes-row t) (λ p l. taken-no-place net t p (omega arith))))
     (fun-ext (λ t. told-row _ (put net t) (a .puts-row t) (λ p l. put-no-place net t p (omega arith))))
     (told-row _ (start net) (a .starts-row) (λ p l. start-no-place net p (omega arith)))
+    (fun-ext (λ p. rw (ap (λ (f : ℕ → ℕ). f p) (told-row _ (λ p. Option·getD (capacity net p) 0) (a .capacities-row)
+    (λ p l. ap (λ (o : Option ℕ). Option·getD o 0) (capacity-no-place net p (omega arith))))) (word-capacity (capacity net p) (capacity-some net h p))))
 
 -- ---- the graph
 
@@ -58,7 +67,8 @@ arc-of-code sheet (some i) row t e = let z : i + 1 - 1 ≡ i = omega arith in rw
 no-node : (starts net sheet : List ℕ) (n : ℕ) → nodeCount sheet ≤ n → arcEntryRow starts net sheet n ≡ tabulate (λ t. 0) 32
 unfolding arcEntryRow
 no-node starts net sheet n l =
-    byTest (hasRow net sheet n) (λ e. let z = has-row-out net sheet n e .node in absurd (omega arith)) (λ e. rw e (tabulate-is (λ t. 0) 0 32 (replicate 32 0) refl (λ i k. getD-replicate {A = ℕ} 32 i 0 0 k)))
+    byTest (hasRow net sheet n) (λ e. let z = has-row-out net sheet n e .node in absurd (omega arith))
+    (λ e. rw e (tabulate-is (λ t. 0) 0 32 (replicate 32 0) refl (λ i k. getD-replicate {A = ℕ} 32 i 0 0 k)))
 
 module _ {starts : List ℕ} (e : starts ≡ page) (net sheet : List ℕ) (r : ArcsReadable net sheet) where
   code-past : (n t : ℕ) → transitionCount net ≤ t → arcEntryCode (petriNet net) sheet n t ≡ 0

@@ -1,4 +1,4 @@
--- What is promised of the answer on a schedule's nodes, as a statement: on words that 1 to 8 do not refuse, nor 9 for an arc: counts are not looked at. proofs/Demands has the term.
+-- What is promised of the answer on a schedule's nodes, as a statement: on words that 1 to 8 and 26 do not refuse, nor 9 for an arc: counts are not looked at. proofs/Demands has the term.
 use Prim.Native.Nat.{ℕ, _<_}
 use mathlib.Core.Path.{_≡_}
 use mathlib.Core.Logic.{_↔_}

@@ -1,5 +1,5 @@
 -- The net and the graph as their rows tell them, on any words: weights and arcs are read from the rows, and a size is cut where rows or marks end.
--- Where 1 to 5 refuse nothing this net is the net, and where the arcs are readable this graph is the graph (proofs/Rows).
+-- Where 1 to 5 and 26 refuse nothing this net is the net, and where the arcs are readable this graph is the graph (proofs/Rows).
 use Prim.Native.Nat.{ℕ, _-_, min}
 use mathlib.Core.List.{List}
 use mathlib.Core.Bool.{Bool}
@@ -9,7 +9,7 @@ use lib.Dec.{ltb}
 use Rattle.scan.specs.Scan.{when}
 use Rattle.refusal.specs.Limits.{mostPlaces, mostTransitions, mostNodes}
 use Rattle.net.specs.Net.{placeCount, transitionCount}
-use Rattle.net.specs.Accessors.{takenRowReply, putRowReply, startRowReply}
+use Rattle.net.specs.Accessors.{takenRowReply, putRowReply, startRowReply, capacityRowReply}
 use Rattle.automaton.specs.Automaton.{Automaton}
 use Rattle.sequential.specs.Petri.{PetriNet}
 use Rattle.sequential.specs.Words.{nodeCount, entryValue, marking}
@@ -22,6 +22,7 @@ netByRows net = record {
   taken = λ t p. getD (takenRowReply net t) p 0;
   put = λ t p. getD (putRowReply net t) p 0;
   start = λ p. getD (startRowReply net) p 0;
+  capacity = λ p. when (ltb 0 (getD (capacityRowReply net) p 0)) (getD (capacityRowReply net) p 0);
 }
 
 -- transition t has an arc in a row

@@ -15,7 +15,7 @@ use Rattle.automaton.specs.Reach.{arcInto, arcFrom, reachedIn, leadsIn}
 use Rattle.automaton.specs.Equivalence.{equalLabels, agree, sameIn, same}
 use Rattle.automaton.specs.BreadthFirst.{classAt, indexOf, enter, expand, explored, order}
 use Rattle.automaton.specs.Quotient.{merged, minimalBy, minimal}
-use Rattle.net.specs.Net.{placeCount, transitionCount, keyLimit, entryWeight, weightAt, taken, put, start, takesNothing, isSource, hasSource, entryCount}
+use Rattle.net.specs.Net.{placeCount, transitionCount, keyLimit, entryWeight, weightAt, taken, put, start, capacity, takesNothing, isSource, hasSource, entryCount}
 use Rattle.net.specs.Check.{sizesPass, weightFails, netReply}
 use Rattle.sequential.specs.Petri as petri
 use Rattle.sequential.specs.Words as words
@@ -36,7 +36,7 @@ use Rattle.minimal.specs.Form.{plainForm, FormDone}
 use Rattle.minimal.specs.declared.FormAnswer.{FormAnswer}
 use Rattle.minimal.proofs.Minimal.{form-short}
 use Rattle.minimal.proofs.Done.{form-law}
-use Rattle.demands.specs.Examples.{Row, starred, further, Holds, AllHold, Starred, FurtherRows}
+use Rattle.demands.specs.Examples.{Row, starred, further, capped, Holds, AllHold, Starred, FurtherRows, CappedRows}
 use Rattle.demands.proofs.Demand3.{form-zero, made-form}
 
 -- ---- what a row computes
@@ -101,22 +101,26 @@ table-holds : (rs : List Row) → TableHolds rs → AllHold rs
 table-holds [] h = tt
 table-holds (r ∷ rs) (p, q) = (row-holds r (ap headOf p) (ap headOf q), table-holds rs (ap tailOf p, ap tailOf q))
 
--- one computation for both tables
-computed : TableHolds starred × TableHolds further
+-- one computation for all tables
+computed : TableHolds starred × TableHolds further × TableHolds capped
 unfolding orElse when found first all any bit count passing least tabulate keyAt valueAt entryWith entryOf arcInto arcFrom reachedIn leadsIn
-    placeCount transitionCount keyLimit entryWeight weightAt taken put start takesNothing isSource hasSource entryCount keyFails foundAt foundBy
-    finding sizesPass weightFails netReply tests.holdsEnough tests.enabled petri.firedCount tests.takesNothing tests.isSource tests.takesAlike
-    tests.takesSame tests.bothDraw tests.sharesPlace tests.sharesAlike tests.freeChoice tests.sameChoice words.entryKey words.entryValue words.entryWithKey words.arcKeys words.keyLimit words.arcEntry
+    placeCount transitionCount keyLimit entryWeight weightAt taken put start capacity takesNothing isSource hasSource entryCount keyFails foundAt foundBy
+    finding sizesPass weightFails netReply tests.holdsEnough tests.holdsTaken tests.roomAt tests.hasRoom petri.firedCount tests.takesNothing tests.isSource
+    tests.takesAlike tests.takesSame tests.bothDraw tests.sharesPlace tests.sharesAlike tests.freeChoice tests.sameChoice
+    words.entryKey words.entryValue words.entryWithKey words.arcKeys words.keyLimit words.arcEntry
     words.arc words.countAt words.marking tests.offers tests.offersAsSource tests.isAwait tests.offersSome tests.firstOffered
     tests.offersAsChoice tests.offersOneChoiceSet check.sizesPass check.targetFails check.countFails words.isArc check.valueFails check.wordsFault
-    words.arcNode words.arcTransition check.arcEnabled check.landsAt check.arcLands check.graphFault check.scheduleFault check.arcCount
+    words.arcNode words.arcTransition check.arcHolds check.arcHasRoom check.landsAt check.arcLands check.graphFault check.scheduleFault check.arcCount
     check.awaitCount equalLabels agree sameIn same classAt indexOf enter expand explored order merged minimalBy minimal encoding.gather
     encoding.gatherRows encoding.keyOfArc encoding.held encoding.keyOfCount encoding.valueOfCount encoding.keys encoding.values encoding.encode
     minimalForm scheduleReply countsOf
-computed = ((refl, refl), (refl, refl))
+computed = ((refl, refl), (refl, refl), (refl, refl))
 
 pub starred-holds : Starred
 starred-holds = table-holds starred (computed .0)
 
 pub further-holds : FurtherRows
 further-holds = table-holds further (computed .1)
+
+pub capped-holds : CappedRows
+capped-holds = table-holds capped (computed .2)

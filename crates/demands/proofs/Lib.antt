@@ -7,5 +7,6 @@ pub mod BesideRun
 pub mod Replay
 pub mod Entries
 pub mod Mend
+pub mod Capacities
 pub mod Examples
 pub mod Nine

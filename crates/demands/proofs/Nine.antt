@@ -16,7 +16,7 @@ use Rattle.automaton.specs.BreadthFirst.{classAt, indexOf, enter, expand, explo
 use Rattle.automaton.specs.Quotient.{merged, minimalBy, minimal}
 use Rattle.automaton.proofs.Classes.{classes-at}
 use Rattle.automaton.proofs.MinimalBy.{minimalBy-stable}
-use Rattle.net.specs.Net.{placeCount, transitionCount, keyLimit, entryWeight, weightAt, taken, put, start, takesNothing, isSource, hasSource, entryCount}
+use Rattle.net.specs.Net.{placeCount, transitionCount, keyLimit, entryWeight, weightAt, taken, put, start, capacity, takesNothing, isSource, hasSource, entryCount}
 use Rattle.sequential.specs.Petri.{PetriNet, petriNet}
 use Rattle.sequential.proofs.Words.{words-out}
 use Rattle.sequential.proofs.Entries.{graph-closed}
@@ -87,12 +87,13 @@ answer = 0 ∷ 0 ∷ 0 ∷ 9 ∷ 12 ∷ 3 ∷ []
 
 checked : (check.scheduleReply netQ nine ≡ verdict.Accepted) × (answered (row netQ nine answer nineForm) ≡ answer)
 unfolding orElse when found first all any bit count passing least tabulate keyAt valueAt entryWith entryOf arcInto arcFrom reachedIn leadsIn
-    placeCount transitionCount keyLimit entryWeight weightAt taken put start takesNothing isSource hasSource entryCount keyFails foundAt foundBy
-    finding sizesPass weightFails netReply tests.holdsEnough tests.enabled petri.firedCount tests.takesNothing tests.isSource tests.takesAlike
-    tests.takesSame tests.bothDraw tests.sharesPlace tests.sharesAlike tests.freeChoice tests.sameChoice words.entryKey words.entryValue words.entryWithKey words.arcKeys words.keyLimit words.arcEntry
+    placeCount transitionCount keyLimit entryWeight weightAt taken put start capacity takesNothing isSource hasSource entryCount keyFails foundAt foundBy
+    finding sizesPass weightFails netReply tests.holdsEnough tests.holdsTaken tests.roomAt tests.hasRoom petri.firedCount tests.takesNothing tests.isSource
+    tests.takesAlike tests.takesSame tests.bothDraw tests.sharesPlace tests.sharesAlike tests.freeChoice tests.sameChoice
+    words.entryKey words.entryValue words.entryWithKey words.arcKeys words.keyLimit words.arcEntry
     words.arc words.countAt words.marking tests.offers tests.offersAsSource tests.isAwait tests.offersSome tests.firstOffered
     tests.offersAsChoice tests.offersOneChoiceSet check.sizesPass check.targetFails check.countFails words.isArc check.valueFails check.wordsFault
-    words.arcNode words.arcTransition check.arcEnabled check.landsAt check.arcLands check.graphFault check.scheduleFault check.arcCount
+    words.arcNode words.arcTransition check.arcHolds check.arcHasRoom check.landsAt check.arcLands check.graphFault check.scheduleFault check.arcCount
     check.awaitCount scheduleReply countsOf
 checked = (refl, refl)
 

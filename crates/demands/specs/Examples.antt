@@ -82,6 +82,33 @@ further =
 abbrev pub FurtherRows : Type 0
 FurtherRows = AllHold further
 
+-- §14.16, row by row: capacities
+abbrev pub capped : List Row
+capped =
+    -- a place filled to its capacity and drained
+    row (1 ∷ 2 ∷ 3 ∷ 1 ∷ 2 ∷ 5 ∷ 1 ∷ 1 ∷ 1 ∷ []) (2 ∷ 3 ∷ 0 ∷ 3 ∷ 5 ∷ 1 ∷ 0 ∷ 1 ∷ []) (0 ∷ 0 ∷ 0 ∷ 2 ∷ 2 ∷ 1 ∷ []) (2 ∷ 3 ∷ 0 ∷ 3 ∷ 5 ∷ 1 ∷ 0 ∷ 1 ∷ [])
+    -- twice as much is put, to a target that holds it, and to one that does not: 27 comes before 15
+    ∷ row (1 ∷ 2 ∷ 3 ∷ 1 ∷ 2 ∷ 5 ∷ 1 ∷ 2 ∷ 1 ∷ []) (2 ∷ 3 ∷ 0 ∷ 3 ∷ 5 ∷ 1 ∷ 0 ∷ 2 ∷ []) (27 ∷ 1 ∷ 0 ∷ 0 ∷ 0 ∷ 0 ∷ []) []
+    ∷ row (1 ∷ 2 ∷ 3 ∷ 1 ∷ 2 ∷ 5 ∷ 1 ∷ 2 ∷ 1 ∷ []) (2 ∷ 3 ∷ 0 ∷ 3 ∷ 5 ∷ 1 ∷ 0 ∷ 1 ∷ []) (27 ∷ 1 ∷ 0 ∷ 0 ∷ 0 ∷ 0 ∷ []) []
+    -- more is taken than there is, and more is put than there is room for: 14 comes before 27
+    ∷ row (1 ∷ 2 ∷ 4 ∷ 1 ∷ 2 ∷ 3 ∷ 5 ∷ 2 ∷ 1 ∷ 3 ∷ 3 ∷ []) (2 ∷ 3 ∷ 0 ∷ 3 ∷ 5 ∷ 1 ∷ 0 ∷ 1 ∷ []) (14 ∷ 1 ∷ 1 ∷ 0 ∷ 0 ∷ 0 ∷ []) []
+    -- one is taken from a full place and put back: nothing is deducted; with room for one more it is only a loop
+    ∷ row (1 ∷ 2 ∷ 4 ∷ 1 ∷ 2 ∷ 3 ∷ 5 ∷ 1 ∷ 1 ∷ 1 ∷ 1 ∷ []) (2 ∷ 3 ∷ 0 ∷ 3 ∷ 5 ∷ 1 ∷ 1 ∷ 1 ∷ []) (27 ∷ 1 ∷ 1 ∷ 0 ∷ 0 ∷ 0 ∷ []) []
+    ∷ row (1 ∷ 2 ∷ 4 ∷ 1 ∷ 2 ∷ 3 ∷ 5 ∷ 1 ∷ 1 ∷ 1 ∷ 2 ∷ []) (2 ∷ 3 ∷ 0 ∷ 3 ∷ 5 ∷ 1 ∷ 1 ∷ 1 ∷ []) (17 ∷ 3 ∷ 1 ∷ 0 ∷ 0 ∷ 0 ∷ []) []
+    -- a node above the capacity, whose arc puts nothing there: nothing is asked of it, and it is only not reached
+    ∷ row (1 ∷ 2 ∷ 3 ∷ 1 ∷ 2 ∷ 5 ∷ 1 ∷ 1 ∷ 1 ∷ []) (3 ∷ 5 ∷ 0 ∷ 3 ∷ 5 ∷ 7 ∷ 8 ∷ 1 ∷ 0 ∷ 1 ∷ 1 ∷ 2 ∷ []) (16 ∷ 3 ∷ 2 ∷ 0 ∷ 0 ∷ 0 ∷ []) []
+    -- a start above its capacity, and at it, where the source has no room
+    ∷ row (1 ∷ 2 ∷ 4 ∷ 1 ∷ 2 ∷ 4 ∷ 5 ∷ 1 ∷ 1 ∷ 2 ∷ 1 ∷ []) (1 ∷ 2 ∷ 0 ∷ 2 ∷ 0 ∷ 2 ∷ []) (26 ∷ 2 ∷ 0 ∷ 0 ∷ 0 ∷ 0 ∷ []) []
+    ∷ row (1 ∷ 2 ∷ 4 ∷ 1 ∷ 2 ∷ 4 ∷ 5 ∷ 1 ∷ 1 ∷ 1 ∷ 1 ∷ []) (1 ∷ 2 ∷ 0 ∷ 2 ∷ 0 ∷ 1 ∷ []) (27 ∷ 1 ∷ 0 ∷ 0 ∷ 0 ∷ 0 ∷ []) []
+    -- of one choice set, one member has room and one has not
+    ∷ row (1 ∷ 3 ∷ 5 ∷ 1 ∷ 2 ∷ 3 ∷ 5 ∷ 7 ∷ 1 ∷ 1 ∷ 1 ∷ 1 ∷ 1 ∷ []) (2 ∷ 4 ∷ 0 ∷ 4 ∷ 5 ∷ 7 ∷ 1 ∷ 0 ∷ 1 ∷ 1 ∷ []) (27 ∷ 1 ∷ 2 ∷ 0 ∷ 0 ∷ 0 ∷ []) []
+    -- count, put and capacity at the limit
+    ∷ row (1 ∷ 1 ∷ 3 ∷ 1 ∷ 2 ∷ 3 ∷ 1000000000 ∷ 1000000000 ∷ 1000000000 ∷ []) (1 ∷ 2 ∷ 0 ∷ 1 ∷ 0 ∷ 1000000000 ∷ []) (27 ∷ 1 ∷ 0 ∷ 0 ∷ 0 ∷ 0 ∷ []) []
+    ∷ []
+
+abbrev pub CappedRows : Type 0
+CappedRows = AllHold capped
+
 -- §14.5: lists alone would leave six nodes
 abbrev pub netQ : List ℕ
 netQ = 4 ∷ 6 ∷ 10 ∷ 8 ∷ 10 ∷ 12 ∷ 17 ∷ 18 ∷ 21 ∷ 24 ∷ 29 ∷ 35 ∷ 50 ∷ 1 ∷ 1 ∷ 1 ∷ 1 ∷ 1 ∷ 1 ∷ 1 ∷ 1 ∷ 1 ∷ 1 ∷ []

@@ -6,4 +6,5 @@ pub mod Further
 pub mod Replay
 pub mod Entries
 pub mod Mend
+pub mod Capacities
 pub mod Examples

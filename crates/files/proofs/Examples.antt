@@ -8,7 +8,7 @@ use Rattle.automaton.specs.Reach.{arcInto, arcFrom, reachedIn, leadsIn}
 use Rattle.automaton.specs.Equivalence.{equalLabels, agree, sameIn, same}
 use Rattle.automaton.specs.BreadthFirst.{classAt, indexOf, enter, expand, explored, order}
 use Rattle.automaton.specs.Quotient.{merged, minimalBy, minimal}
-use Rattle.net.specs.Net.{placeCount, transitionCount, keyLimit, entryWeight, weightAt, taken, put, start, takesNothing, isSource, hasSource, entryCount}
+use Rattle.net.specs.Net.{placeCount, transitionCount, keyLimit, entryWeight, weightAt, taken, put, start, capacity, takesNothing, isSource, hasSource, entryCount}
 use Rattle.net.specs.Check.{sizesPass, weightFails, netReply}
 use Rattle.sequential.specs.Petri as petri
 use Rattle.sequential.specs.Words as words
@@ -35,12 +35,13 @@ table-tails = refl
 
 pub samples-printed : SamplesPrinted
 unfolding orElse when found first all any bit count passing least tabulate greatest keyAt valueAt entryWith entryOf arcInto arcFrom reachedIn leadsIn
-    placeCount transitionCount keyLimit entryWeight weightAt taken put start takesNothing isSource hasSource entryCount keyFails foundAt foundBy
-    finding sizesPass weightFails netReply tests.holdsEnough tests.enabled petri.firedCount tests.takesNothing tests.isSource tests.takesAlike
-    tests.takesSame tests.bothDraw tests.sharesPlace tests.sharesAlike tests.freeChoice tests.sameChoice words.entryKey words.entryValue words.entryWithKey words.arcKeys words.keyLimit words.arcEntry
+    placeCount transitionCount keyLimit entryWeight weightAt taken put start capacity takesNothing isSource hasSource entryCount keyFails foundAt foundBy
+    finding sizesPass weightFails netReply tests.holdsEnough tests.holdsTaken tests.roomAt tests.hasRoom petri.firedCount tests.takesNothing tests.isSource
+    tests.takesAlike tests.takesSame tests.bothDraw tests.sharesPlace tests.sharesAlike tests.freeChoice tests.sameChoice
+    words.entryKey words.entryValue words.entryWithKey words.arcKeys words.keyLimit words.arcEntry
     words.arc words.countAt words.marking tests.offers tests.offersAsSource tests.isAwait tests.offersSome tests.firstOffered
     tests.offersAsChoice tests.offersOneChoiceSet check.sizesPass check.targetFails check.countFails words.isArc check.valueFails check.wordsFault
-    words.arcNode words.arcTransition check.arcEnabled check.landsAt check.arcLands check.graphFault check.scheduleFault check.arcCount
+    words.arcNode words.arcTransition check.arcHolds check.arcHasRoom check.landsAt check.arcLands check.graphFault check.scheduleFault check.arcCount
     check.awaitCount check.scheduleReply equalLabels agree sameIn same classAt indexOf enter expand explored order merged minimalBy minimal encoding.gather
     encoding.gatherRows encoding.keyOfArc encoding.held encoding.keyOfCount encoding.valueOfCount encoding.keys encoding.values encoding.encode
     minimalForm heldAt bound bounds countsOf digits decimal lines.field lines.joined lines.answerLine lines.countsLine lines.boundLine

@@ -96,25 +96,28 @@ checks-short net sheet l = (
       λ k. (
         (omega arith, λ i. refl, refl),
         λ e. (
-          omega arith,
-          λ h. (
+          (omega (arith, s .few-places), λ i. refl, refl),
+          λ o. (
             omega arith,
-            λ b. (
+            λ h. (
               omega arith,
-              λ v. (
+              λ b. (
                 omega arith,
-                λ m. (
-                  (omega arith, λ i. refl, refl),
-                  λ w. (
-                    (omega (arith, s .few-places), λ i. refl, refl),
-                    λ x. (
-                      (omega arith, λ i. refl, refl),
-                      λ y. (
+                λ v. (
+                  omega arith,
+                  λ m. (
+                    (omega arith, λ i. refl, refl),
+                    λ w. (
+                      (omega (arith, s .few-places), λ i. refl, refl),
+                      λ x. (
                         (omega arith, λ i. refl, refl),
-                        λ z. (
+                        λ y. (
                           (omega arith, λ i. refl, refl),
-                          λ q.
-                              ((omega arith, λ i. refl, refl), λ r. ((omega arith, λ i. refl, refl), λ t. tt)),
+                          λ z. (
+                            (omega arith, λ i. refl, refl),
+                            λ q.
+                                ((omega arith, λ i. refl, refl), λ r. ((omega arith, λ i. refl, refl), λ t. tt)),
+                          ),
                         ),
                       ),
                     ),

@@ -36,7 +36,7 @@ pub record ReadAsCut (most : ℕ) (bytes : List ℕ) : Type 0 where
 abbrev pub CutReads : Type 0
 CutReads = (most : ℕ) (bytes : List ℕ) → ReadAsCut most bytes
 
--- a longer file is answered as its cut: 16,656 bytes of the net and 32,780 of the sheet are enough (§12.3)
+-- a longer file is answered as its cut: 16,912 bytes of the net and 32,780 of the sheet are enough (§12.3)
 abbrev pub CutAnswers : Type 0
 CutAnswers = (net sheet : List ℕ) → programAnswer (cut netRead net) (cut sheetRead sheet) ≡ programAnswer net sheet
 

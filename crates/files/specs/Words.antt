@@ -7,11 +7,12 @@ use lib.ListN.{length, getD, take, drop}
 use lib.Dec.{leb, eqb}
 use Rattle.scan.specs.Scan.{tabulate}
 use Rattle.refusal.specs.Limits.{mostPlaces, mostTransitions, mostEntries}
+use Rattle.net.specs.Net.{keyCount}
 use Rattle.files.specs.declared.Reading.{Reading}
 
 -- one word more than the longest net has, and than the longest schedule has: §12.3
 abbrev pub netRead : ℕ
-netRead = 4 + 2 * ((2 * mostTransitions + 1) * mostPlaces)
+netRead = 4 + 2 * keyCount mostPlaces mostTransitions
 
 abbrev pub sheetRead : ℕ
 sheetRead = 3 + 2 * mostEntries

@@ -1,4 +1,4 @@
--- What is promised of a node's rows and of the look-up of an arc, as statements: on words that 1 to 9 do not refuse. proofs/Demands has the terms.
+-- What is promised of a node's rows and of the look-up of an arc, as statements: on words that 1 to 9 and 26 do not refuse. proofs/Demands has the terms.
 use Prim.Native.Nat.{ℕ, _<_}
 use mathlib.Core.Path.{_≡_}
 use mathlib.Core.List.{List}

@@ -1,4 +1,4 @@
--- Refusals 1 to 9, the words of the net and of the schedule, and what is readable: words that none of them refuses, or whose arcs none does.
+-- Refusals 1 to 9 and 26, the words of the net and of the schedule, and what is readable: words that none of them refuses, or whose arcs none does.
 use mathlib.Core.Path.{_≡_}
 use mathlib.Core.List.{List}
 use mathlib.Core.Bool.{Bool, cond}
@@ -53,13 +53,13 @@ pub record Sizes (net sheet : List ℕ) : Type 0 where
   pub few-arcs : nodeCount sheet * transitionCount net ≤ 4096
   pub few-keys : nodeCount sheet * (transitionCount net + placeCount net) ≤ 8192
 
--- 1 to 8 refuse nothing, and 9 no arc
+-- 1 to 8 and 26 refuse nothing, and 9 no arc
 pub record ArcsReadable (net sheet : List ℕ) : Type 0 where
   pub accepted : netReply net ≡ Accepted
   pub sizes : Sizes net sheet
   pub holds : ArcsHold (petriNet net) sheet
 
--- 1 to 9 refuse nothing
+-- 1 to 9 and 26 refuse nothing
 pub record Readable (net sheet : List ℕ) : Type 0 where
   pub arcs : ArcsReadable net sheet
   pub values : (i : ℕ) → i < entryCount sheet → ValuePasses sheet (arcKeys (petriNet net) sheet) i

@@ -1,4 +1,4 @@
--- An accepted schedule is readable; 1 to 17 one after the other, and the await nodes of what is accepted.
+-- An accepted schedule is readable; 1 to 17, with 26 and 27, one after the other, and the await nodes of what is accepted.
 use Prim.Native.Nat.{ℕ}
 use native.Mathlib.Omega.{arith}
 use mathlib.Core.Path.{_≡_, refl, sym, ap, _∙_}
@@ -55,7 +55,7 @@ words-accepted net sheet h =
     let (a, b) = then-accepted (netReply net) (verdictOf faults) h in
     then-next (netReply net) (verdictOf (orElse faults (graphFault (petriNet net) sheet))) a ∙ verdict-next faults (graphFault (petriNet net) sheet) b
 
--- ---- 10 to 17, one after the other
+-- ---- 10 to 17, with 27, one after the other
 
 -- what comes after checks that refuse nothing
 pub answer-next : (a b : Option Refusal) {v w : Verdict} → v ≡ verdictOf a → v ≡ Accepted → w ≡ verdictOf b → w ≡ verdictOf (orElse a b)

@@ -168,13 +168,16 @@ module _ (net sheet : List ℕ) (r : ArcsReadable net sheet) where
     where
       arc : (n t : ℕ) → n < A .nodes → arcFits M A n t ≡ true
       arc n t l = unfold arcFits landsAt newCount firedCount in (arc-cases (A .arc n t) (λ e. rw e) (λ m e. rw e (and-both _ _
-          (enabled↔ M _ _ .1 (record { holds = λ p k. unfold newCount in (fit p k .enabled n t m l e) }))
+          (enabled↔ M _ _ .1 (record { holds = λ p k. unfold newCount in (fit p k .enabled n t m l e .holds); room = λ p k. unfold newCount in (fit p k .enabled n t m l e .room) }))
           (all-in (landsAt M A n t m) (M .places) (λ p k. eq-eqb _ _ (unfold newCount in (fit p k .lands n t m l e)))))))
 
   pub fits-places : countsFit (petriNet net) (graph (petriNet net) sheet) ≡ true → AllFit (petriNet net) sheet
   fits-places h p k = record {
     start = unfold newCount initial in (ap (λ (x : List ℕ). getD x p 0) (worked-root M A closed) ∙ tabulate-at (M .start) 0 (M .places) p k);
-    enabled = λ n t m l e. unfold newCount in (worked-enables M A closed refl h n t m l e .holds p k);
+    enabled = λ n t m l e. record {
+      holds = unfold newCount in (worked-enables M A closed refl h n t m l e .holds p k);
+      room = unfold newCount in (worked-enables M A closed refl h n t m l e .room p k);
+    };
     lands = λ n t m l e. unfold newCount fire firedCount in
         (ap (λ (x : List ℕ). getD x p 0) (worked-lands M A closed refl h n t m l e) ∙ tabulate-at (firedCount M (workedOut M A n) t) 0 (M .places) p k);
     most = λ n l. worked-most M A closed refl h n p l k;

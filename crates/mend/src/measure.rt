@@ -19,7 +19,7 @@ pub(crate) struct Measure {
     pub changes: usize,
 }
 
-// Refusals 1 to 9, 9 of arcs alone, 11 to 13, 16 and 17.
+// Refusals 1 to 9 and 26, 9 of arcs alone, 11 to 13, 16 and 17.
 fn checked(net: &[u32], sheet: &[u32], page: &[u16; 4096]) -> Verdict
     requires { ⌜ now page ≡ manual.page ⌝ }
     ensures { λ r. ⌜ r ≡ arcsVerdict (now (net .entry)) (now (sheet .entry)) ⌝ }

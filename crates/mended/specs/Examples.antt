@@ -1,4 +1,4 @@
--- Mended schedules: what is answered, as plain numbers, and the words of both results, none where it is refused (§14.8).
+-- Mended schedules: what is answered, as plain numbers, and the words of both results, none where it is refused (§14.8, §14.16).
 use Prim.Native.Nat.{ℕ}
 use mathlib.Core.Path.{_≡_}
 use mathlib.Core.List.{List, [], _∷_}
@@ -58,6 +58,19 @@ table =
     ∷ row netA (1 ∷ 1 ∷ 0 ∷ 0 ∷ []) (25 ∷ 0 ∷ 0 ∷ 0 ∷ 0 ∷ []) [] []
     -- the start is at the limit, and transition 0 puts one more
     ∷ row (1 ∷ 2 ∷ 3 ∷ 1 ∷ 2 ∷ 4 ∷ 1 ∷ 1 ∷ 1000000000 ∷ []) (2 ∷ 2 ∷ 0 ∷ 3 ∷ 1 ∷ 0 ∷ []) (25 ∷ 0 ∷ 0 ∷ 0 ∷ 0 ∷ []) [] []
+    -- §14.16, row by row: counts that are not looked at may be above a capacity
+    ∷ row (1 ∷ 2 ∷ 3 ∷ 1 ∷ 2 ∷ 5 ∷ 1 ∷ 1 ∷ 1 ∷ []) (2 ∷ 4 ∷ 0 ∷ 3 ∷ 4 ∷ 5 ∷ 1 ∷ 0 ∷ 7 ∷ 9 ∷ []) (0 ∷ 0 ∷ 0 ∷ 8 ∷ 5 ∷ []) two (2 ∷ 0 ∷ 1 ∷ 0 ∷ 1 ∷ [])
+    -- the capacity is what transition 0 puts, and one less
+    ∷ row (1 ∷ 2 ∷ 3 ∷ 1 ∷ 2 ∷ 5 ∷ 2 ∷ 2 ∷ 2 ∷ []) (2 ∷ 2 ∷ 0 ∷ 3 ∷ 1 ∷ 0 ∷ []) (0 ∷ 0 ∷ 0 ∷ 8 ∷ 3 ∷ []) (2 ∷ 3 ∷ 0 ∷ 3 ∷ 5 ∷ 1 ∷ 0 ∷ 2 ∷ []) (1 ∷ 1 ∷ 2 ∷ [])
+    ∷ row (1 ∷ 2 ∷ 3 ∷ 1 ∷ 2 ∷ 5 ∷ 2 ∷ 2 ∷ 1 ∷ []) (2 ∷ 2 ∷ 0 ∷ 3 ∷ 1 ∷ 0 ∷ []) (25 ∷ 0 ∷ 0 ∷ 0 ∷ 0 ∷ []) [] []
+    -- one is taken and put back, with room for one more and from a full place: nothing is deducted
+    ∷ row (1 ∷ 3 ∷ 5 ∷ 1 ∷ 2 ∷ 3 ∷ 4 ∷ 7 ∷ 1 ∷ 1 ∷ 1 ∷ 1 ∷ 2 ∷ []) (2 ∷ 3 ∷ 0 ∷ 4 ∷ 5 ∷ 1 ∷ 1 ∷ 0 ∷ []) (0 ∷ 0 ∷ 0 ∷ 10 ∷ 3 ∷ []) (2 ∷ 4 ∷ 0 ∷ 4 ∷ 5 ∷ 7 ∷ 1 ∷ 1 ∷ 0 ∷ 1 ∷ []) (1 ∷ 1 ∷ 1 ∷ [])
+    ∷ row (1 ∷ 3 ∷ 5 ∷ 1 ∷ 2 ∷ 3 ∷ 4 ∷ 7 ∷ 1 ∷ 1 ∷ 1 ∷ 1 ∷ 1 ∷ []) (2 ∷ 3 ∷ 0 ∷ 4 ∷ 5 ∷ 1 ∷ 1 ∷ 0 ∷ []) (25 ∷ 0 ∷ 0 ∷ 0 ∷ 0 ∷ []) [] []
+    -- a start below the capacity, at it, and above it; 26 comes before 5
+    ∷ row (1 ∷ 2 ∷ 4 ∷ 1 ∷ 2 ∷ 4 ∷ 5 ∷ 1 ∷ 1 ∷ 1 ∷ 2 ∷ []) (2 ∷ 2 ∷ 0 ∷ 3 ∷ 1 ∷ 0 ∷ []) (0 ∷ 0 ∷ 0 ∷ 10 ∷ 5 ∷ []) (2 ∷ 4 ∷ 0 ∷ 3 ∷ 4 ∷ 5 ∷ 1 ∷ 0 ∷ 1 ∷ 2 ∷ []) (2 ∷ 0 ∷ 1 ∷ 1 ∷ 2 ∷ [])
+    ∷ row (1 ∷ 2 ∷ 4 ∷ 1 ∷ 2 ∷ 4 ∷ 5 ∷ 1 ∷ 1 ∷ 1 ∷ 1 ∷ []) (2 ∷ 2 ∷ 0 ∷ 3 ∷ 1 ∷ 0 ∷ []) (25 ∷ 0 ∷ 0 ∷ 0 ∷ 0 ∷ []) [] []
+    ∷ row (1 ∷ 2 ∷ 4 ∷ 1 ∷ 2 ∷ 4 ∷ 5 ∷ 1 ∷ 1 ∷ 2 ∷ 1 ∷ []) (2 ∷ 2 ∷ 0 ∷ 3 ∷ 1 ∷ 0 ∷ []) (26 ∷ 2 ∷ 0 ∷ 0 ∷ 0 ∷ []) [] []
+    ∷ row (1 ∷ 1 ∷ 3 ∷ 0 ∷ 2 ∷ 3 ∷ 1 ∷ 2 ∷ 1 ∷ []) (1 ∷ 1 ∷ 0 ∷ 0 ∷ []) (26 ∷ 2 ∷ 0 ∷ 0 ∷ 0 ∷ []) [] []
     ∷ []
 
 -- ---- what the definitions give

@@ -19,7 +19,7 @@ formCore net sheet = record {
   results = minimalForm net sheet ∷ [];
 }
 
--- the same of words that can be read, whether they are a schedule or not: only 1 to 9 are asked
+-- the same of words that can be read, whether they are a schedule or not: only 1 to 9 and 26 are asked
 abbrev pub readCore : List ℕ → List ℕ → Core FormAnswer
 readCore net sheet = record {
   verdict = wordsReply net sheet;

@@ -23,7 +23,7 @@ fn written(net: &[u32], sheet: &[u32], page: &[u16; 4096], out: &mut [u32]) -> F
     writer::write(net, sheet, page, new, out)
 }
 
-// The minimal form of words that can be read, whether they are a schedule or not: a refusal by 1 to 9 is the reply.
+// The minimal form of words that can be read, whether they are a schedule or not: a refusal by 1 to 9 or 26 is the reply.
 pub fn form_of(net: &[u32], sheet: &[u32], out: &mut [u32]) -> FormAnswer
     ensures { λ r. ⌜ FormOf (now (net .entry)) (now (sheet .entry)) (now (out .entry)) r (now (out .exit)) ⌝ }
 {

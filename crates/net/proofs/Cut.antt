@@ -1,4 +1,4 @@
--- A net of more words than fit is answered as its first words are: the largest has 4,163.
+-- A net of more words than fit is answered as its first words are: the largest has 4,227.
 use Prim.Native.Nat.{ℕ, _+_, _*_, _≤_, _<_}
 use native.Mathlib.Omega.{arith}
 use mathlib.Core.Path.{_≡_, sym, ap, _∙_}
@@ -27,7 +27,7 @@ use Rattle.net.proofs.Checks.{net-fault}
 unfoldable pub overlongFault : ℕ → ℕ → ℕ → Refusal
 overlongFault p t k = cond (sizesPass p t k) (refusal 1 Nothing) (refusal 2 Nothing)
 
-module _ (net : List ℕ) (l : 4164 ≤ length net) where
+module _ (net : List ℕ) (l : 4228 ≤ length net) where
   not-whole : sizesPass (placeCount net) (transitionCount net) (entryCount net) ≡ true → eqb (length net) (3 + 2 * entryCount net) ≡ false
   not-whole h =
       let s = sizes-out net h in
@@ -44,7 +44,7 @@ module _ (net : List ℕ) (l : 4164 ≤ length net) where
   unfolding netReply
   overlong = ap verdictOf (net-fault net ∙ orElse-hit _ _ _ shape-overlong)
 
-module _ (n : ℕ) (l : 4164 ≤ n) (net : List ℕ) where
+module _ (n : ℕ) (l : 4228 ≤ n) (net : List ℕ) where
   cut-overlong : n < length net → netReply (take n net) ≡ netReply net
   unfolding placeCount transitionCount entryCount
   cut-overlong m =
@@ -52,7 +52,7 @@ module _ (n : ℕ) (l : 4164 ≤ n) (net : List ℕ) where
       overlong (take n net) (omega arith)
       ∙ rw (getD-take n net 0 0 (omega arith), getD-take n net 1 0 (omega arith), getD-take n net 2 0 (omega arith)) (sym (overlong net (omega arith)))
 
-  -- the first 4,164 words tell the answer
+  -- the first 4,228 words tell the answer
   pub cut-reply : netReply (take n net) ≡ netReply net
   cut-reply =
       byTest (leb (length net) n) (λ h. ap netReply (take-all n net (leb-true (length net) n h))) (λ h. cut-overlong (leb-false (length net) n h))

@@ -1,5 +1,5 @@
 -- The promises of the net's weights and accessors, each proved.
-use Rattle.net.specs.Demands.{AccessorsMean, OutsideNothing, WeightsLimited}
+use Rattle.net.specs.Demands.{AccessorsMean, OutsideNothing, WithoutCapacities, WeightsLimited}
 use Rattle.net.proofs.Checks.{net-judged, net-entries}
 use Rattle.net.proofs.Accessors.{accessors-right}
 use Rattle.net.proofs.Laws as laws
@@ -14,9 +14,20 @@ outside-nothing net = record {
   put-no-transition = laws.put-no-transition net;
   put-no-place = laws.put-no-place net;
   start-no-place = laws.start-no-place net;
+  capacity-no-place = laws.capacity-no-place net;
 }
+
+pub without-capacities : WithoutCapacities
+without-capacities = laws.no-capacity
 
 pub weights-limited : WeightsLimited
 weights-limited net h =
     let a = net-judged net .accepts .1 h in
-    record { takes = laws.taken-most net a; puts = laws.put-most net a; starts = laws.start-most net a }
+    record {
+      takes = laws.taken-most net a;
+      puts = laws.put-most net a;
+      starts = laws.start-most net a;
+      some-capacity = laws.capacity-some net a;
+      capacities = laws.capacity-most net a;
+      starts-within = laws.start-within net a;
+    }

@@ -1,18 +1,23 @@
--- What the crates above use of a net: its sizes, the range of its weights, and that nothing else has a weight.
+-- What the crates above use of a net: its sizes, the range of its weights and capacities, and that nothing else has any.
 -- They stand on these and on the accessors' contracts, and open no definition of the net.
 use Prim.Native.Nat.{ℕ, _≤_, _+_, _*_}
 use native.Mathlib.Omega.{arith}
+use native.Mathlib.Decide.{decLt}
 use mathlib.Core.Path.{_≡_}
 use mathlib.Core.List.{List}
 use mathlib.Core.Bool.{Bool, true, false, cond, _&&_, and-false}
+use mathlib.Core.Option.{none, some}
 use borrow.Author.Tests.{le-ltb}
+use Rattle.scan.proofs.Tests.{byTest}
+use Rattle.scan.proofs.First.{none-some}
+use Rattle.table.proofs.Table.{entry-absent}
 use Rattle.refusal.specs.Limits.{mostCount}
-use Rattle.net.specs.Net.{placeCount, transitionCount, taken, put, start}
+use Rattle.net.specs.Net.{placeCount, transitionCount, entryCount, entryKey, taken, put, start, capacity, Within}
 use Rattle.net.specs.Check.{netReply}
 use Rattle.net.specs.Checks.{SizesPass, IsNet, HasSource}
 use Rattle.refusal.specs.declared.Verdict.the-variants.{Accepted}
-use Rattle.net.specs.Demands.{AccessorsRight}
-use Rattle.net.proofs.Accessors.{accessors-right}
+use Rattle.net.specs.Demands.{AccessorsRight, NoCapacityKeys}
+use Rattle.net.proofs.Accessors.{capacity-range, accessors-right}
 use Rattle.net.specs.Known.{EntriesPass}
 use Rattle.net.proofs.Entries.{weight-small}
 use Rattle.net.proofs.Checks.{net-judged, net-entries}
@@ -41,6 +46,17 @@ module _ (net : List ℕ) where
   unfolding start
   start-no-place p l = rw (le-ltb p (placeCount net) l)
 
+  pub capacity-no-place : (p : ℕ) → placeCount net ≤ p → capacity net p ≡ none
+  unfolding capacity
+  capacity-no-place p l = rw (le-ltb p (placeCount net) l)
+
+-- ---- without capacities
+
+pub no-capacity : (net : List ℕ) → NoCapacityKeys net → (p : ℕ) → capacity net p ≡ none
+unfolding capacity entryKey
+no-capacity net h p =
+    byTest (ltb p (placeCount net)) (λ e. rw (e, entry-absent net 3 (entryCount net) ((2 * transitionCount net + 1) * placeCount net + p) (λ i l q. let z = h i l in omega arith))) (λ e. rw e)
+
 -- ---- an accepted net
 
 guarded : (b : Bool) (w : ℕ) → w ≤ mostCount → cond b w 0 ≤ mostCount
@@ -61,7 +77,7 @@ module _ (net : List ℕ) (accepted : netReply net ≡ Accepted) where
   sizes = passes .shape .sizes
 
   pub some-source : HasSource net
-  some-source = let (a, (b, (c, (d, (e, u))))) = is-net in e
+  some-source = let (a, (b, (c, (d, (s, (e, u)))))) = is-net in e
 
   pub taken-most : (t p : ℕ) → taken net t p ≤ mostCount
   unfolding taken
@@ -74,3 +90,15 @@ module _ (net : List ℕ) (accepted : netReply net ≡ Accepted) where
   pub start-most : (p : ℕ) → start net p ≤ mostCount
   unfolding start
   start-most p = guarded (ltb p (placeCount net)) _ (weight-small net passes (2 * transitionCount net * placeCount net + p))
+
+  pub capacity-some : (p c : ℕ) → capacity net p ≡ some c → 1 ≤ c
+  capacity-some p c h = capacity-range net passes p c h .0
+
+  pub capacity-most : (p c : ℕ) → capacity net p ≡ some c → c ≤ mostCount
+  capacity-most p c h = capacity-range net passes p c h .1
+
+  pub start-within : (p : ℕ) → Within (capacity net p) (start net p)
+  start-within p = elim (decLt p (placeCount net)) [
+    | yes l ↦ let (a, (b, (c, (d, (s, e))))) = is-net in s p l .0
+    | no l ↦ λ c h. none-some _ c (capacity-no-place net p (omega arith)) h
+  ]

@@ -2,6 +2,7 @@ pub mod Shape
 pub mod Entries
 pub mod Source
 pub mod Accessors
+pub mod Overfull
 pub mod Checks
 pub mod Examples
 pub mod Laws

@@ -50,9 +50,9 @@ shape-in net s =
     rw (le-ltb (length net) 3 (omega (arith, s .whole)), sizes-in net (s .sizes), eq-eqb (length net) (3 + 2 * entryCount net) (s .whole))
 
 -- every key is below this, whatever the sizes
-pub limit-high : (net : List ℕ) → SizesPass net → keyLimit net ≤ 2080
+pub limit-high : (net : List ℕ) → SizesPass net → keyLimit net ≤ 2112
 unfolding keyLimit
-limit-high net s = let a : 2 * transitionCount net + 1 ≤ 65 = omega (arith, s .few-transitions) in mul-le-mul a (s .few-places)
+limit-high net s = let a : 2 * transitionCount net + 2 ≤ 66 = omega (arith, s .few-transitions) in mul-le-mul a (s .few-places)
 
 -- the same about the words themselves
 pub known : (net : List ℕ) → shapeFault net ≡ none → Known net

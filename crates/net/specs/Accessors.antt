@@ -1,10 +1,11 @@
 -- What the net's accessors answer on any words: the weight that bisection finds, and the row that one walk from there finds; 0 where 1 or 2 refuses the net.
--- On an accepted net these are the weights of §2.5 to §2.8 (Demands, `AccessorsRight`): §10.2.
-use Prim.Native.Nat.{ℕ, _+_, _*_}
+-- On an accepted net these are the weights of §2.5 to §2.8 and the capacities of §2.10 (Demands, `AccessorsRight`): §10.2.
+use Prim.Native.Nat.{ℕ, zero, suc, _+_, _*_}
 use mathlib.Core.List.{List}
-use mathlib.Core.Bool.{Bool, true, cond, not, _&&_}
+use mathlib.Core.Bool.{Bool, true, cond, not, _&&_, _||_}
+use mathlib.Core.Option.{Option, none, some}
 use lib.ListN.{replicate}
-use lib.Dec.{ltb}
+use lib.Dec.{ltb, leb, eqb}
 use Rattle.scan.specs.Scan.{found}
 use Rattle.table.specs.Bisection.{lookUp}
 use Rattle.table.specs.Row.{valueRow}
@@ -13,6 +14,27 @@ use Rattle.table.specs.declared.Found.the-variants.{At, Nothing}
 use Rattle.refusal.specs.Limits.{mostPlaces}
 use Rattle.net.specs.Net.{placeCount, transitionCount, entryCount, entryWeight}
 use Rattle.net.specs.Check.{shapeFault}
+use Rattle.net.specs.declared.PlaceCapacity.{PlaceCapacity}
+use Rattle.net.specs.declared.PlaceCapacity.the-variants.{Unlimited, AtMost}
+
+-- a capacity as it is answered: by a case of its own where there is none
+abbrev pub capacityTold : Option ℕ → PlaceCapacity
+capacityTold none = Unlimited
+capacityTold (some c) = AtMost c
+
+-- and its plain number: 1 more than it is, 0 where there is none (§8.4)
+abbrev pub plainCapacity : PlaceCapacity → ℕ
+plainCapacity Unlimited = 0
+plainCapacity (AtMost c) = c + 1
+
+-- as a word of a row 0 is none, which no capacity is
+abbrev pub capacityOfWord : ℕ → PlaceCapacity
+capacityOfWord zero = Unlimited
+capacityOfWord (suc c) = AtMost (suc c)
+
+-- a count is at most the capacity that such a word says
+unfoldable pub wordAllows : ℕ → ℕ → Bool
+wordAllows capacity n = eqb capacity 0 || leb n capacity
 
 module _ (net : List ℕ) where
   unfoldable pub shaped : Bool
@@ -39,7 +61,7 @@ module _ (net : List ℕ) where
   unfoldable pub rowOrZeros : Bool → ℕ → List ℕ
   rowOrZeros known row = cond (known && shaped) (rowWeights row) (replicate mostPlaces 0)
 
-  -- row t is what t takes, row T + t what t puts, row 2 × T what the places start with
+  -- row t is what t takes, row T + t what t puts, row 2 × T what the places start with, row 2 × T + 1 their capacities
   unfoldable pub takenReply : ℕ → ℕ → ℕ
   takenReply t p = weightOrZero (ltb t (transitionCount net)) t p
 
@@ -49,6 +71,9 @@ module _ (net : List ℕ) where
   unfoldable pub startReply : ℕ → ℕ
   startReply p = weightOrZero true (2 * transitionCount net) p
 
+  unfoldable pub capacityReply : ℕ → PlaceCapacity
+  capacityReply p = capacityOfWord (weightOrZero true (2 * transitionCount net + 1) p)
+
   unfoldable pub takenRowReply : ℕ → List ℕ
   takenRowReply t = rowOrZeros (ltb t (transitionCount net)) t
 
@@ -57,3 +82,6 @@ module _ (net : List ℕ) where
 
   unfoldable pub startRowReply : List ℕ
   startRowReply = rowOrZeros true (2 * transitionCount net)
+
+  unfoldable pub capacityRowReply : List ℕ
+  capacityRowReply = rowOrZeros true (2 * transitionCount net + 1)

@@ -2,8 +2,8 @@
 use Prim.Native.Nat.{ℕ, _+_, _*_}
 use mathlib.Core.Path.{_≡_}
 use mathlib.Core.List.{List, [], _∷_}
-use mathlib.Core.Bool.{Bool, not, _&&_, _||_}
-use mathlib.Core.Option.{Option}
+use mathlib.Core.Bool.{Bool, true, not, _&&_, _||_}
+use mathlib.Core.Option.{Option, none, some}
 use lib.ListN.{length, take}
 use lib.Dec.{ltb, leb, eqb}
 use Rattle.table.specs.Keys.{keyFails}
@@ -12,7 +12,7 @@ use Rattle.refusal.specs.Verdict.{verdictOf}
 use Rattle.refusal.specs.Finding.{Tests, asked, lineFinds, finding}
 use Rattle.refusal.specs.declared.Refusal.{Refusal}
 use Rattle.refusal.specs.declared.Verdict.{Verdict}
-use Rattle.net.specs.Net.{keyCount, placeCount, transitionCount, entryCount, entryWeight, keyLimit, hasSource}
+use Rattle.net.specs.Net.{keyCount, placeCount, transitionCount, entryCount, entryWeight, keyLimit, start, capacity, hasSource}
 use Rattle.net.specs.Checks.{netChecks}
 
 -- §2.2
@@ -22,6 +22,11 @@ sizesPass p t k = leb 1 p && (leb p mostPlaces && (leb 1 t && (leb t mostTransit
 -- §2.4
 unfoldable pub weightFails : ℕ → Bool
 weightFails w = eqb w 0 || ltb mostCount w
+
+-- §2.10
+abbrev pub within : Option ℕ → ℕ → Bool
+within none n = true
+within (some c) n = leb n c
 
 module _ (net : List ℕ) where
   abbrev pub entryTests : Tests
@@ -33,6 +38,7 @@ module _ (net : List ℕ) where
       ∷ asked (not (sizesPass (placeCount net) (transitionCount net) (entryCount net)))
       ∷ asked (not (eqb (length net) (3 + 2 * entryCount net)))
       ∷ entryTests
+      ∷ ((λ p. not (within (capacity net p) (start net p))) ∷ [])
       ∷ asked (not (hasSource net))
       ∷ []
 
@@ -45,6 +51,10 @@ module _ (net : List ℕ) where
   -- 3 and 4 at one entry
   unfoldable pub entryFault : ℕ → Option Refusal
   entryFault i = lineFinds (netChecks net) netTests 3 i
+
+  -- 26 at one place
+  unfoldable pub overfullFault : ℕ → Option Refusal
+  overfullFault p = lineFinds (netChecks net) netTests 4 p
 
 -- what the net check answers: §10.1
 unfoldable pub netReply : List ℕ → Verdict

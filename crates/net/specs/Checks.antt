@@ -6,8 +6,8 @@ use lib.ListN.{length}
 use Rattle.table.specs.Table.{KeyPasses}
 use Rattle.refusal.specs.Limits.{mostPlaces, mostTransitions, mostCount}
 use Rattle.refusal.specs.Checks.{_else_, Check, each, once, AllPass}
-use Rattle.refusal.specs.declared.Position.the-variants.{Entry}
-use Rattle.net.specs.Net.{placeCount, transitionCount, entryCount, entryWeight, keyLimit, taken}
+use Rattle.refusal.specs.declared.Position.the-variants.{Entry, Place}
+use Rattle.net.specs.Net.{placeCount, transitionCount, entryCount, entryWeight, keyLimit, taken, start, capacity, Within}
 
 -- §2.2, with the limits of §1.3
 pub record SizesPass (net : List ℕ) : Type 0 where
@@ -22,20 +22,25 @@ pub record WeightPasses (net : List ℕ) (i : ℕ) : Type 0 where
   pub some : 1 ≤ entryWeight net i
   pub most : entryWeight net i ≤ mostCount
 
+-- §2.11
+abbrev pub StartWithin : List ℕ → ℕ → Type 0
+StartWithin net p = Within (capacity net p) (start net p)
+
 -- §2.9
 abbrev pub HasSource : List ℕ → Type 0
 HasSource net = (t : ℕ) × (t < transitionCount net) × ((p : ℕ) → p < placeCount net → taken net t p ≡ 0)
 
--- in the order of §7.55; a number is that of its clause, §7.1 to §7.5, and positions are those of §7.53
+-- in the order of §7.55; a number is that of its clause, §7.1 to §7.5 and §7.26, and positions are those of §7.53
 abbrev pub netChecks : List ℕ → List Check
 netChecks net =
     once (3 ≤ length net) 1
     ∷ once (SizesPass net) 2
     ∷ once (length net ≡ 3 + 2 * entryCount net) 1
     ∷ each (entryCount net) Entry (KeyPasses net 3 (keyLimit net) else 3 ∷ WeightPasses net else 4 ∷ [])
+    ∷ each (placeCount net) Place (StartWithin net else 26 ∷ [])
     ∷ once (HasSource net) 5
     ∷ []
 
--- the words are right: §2.1 to §2.4, §2.9
+-- the words are right: §2.1 to §2.4, §2.9, §2.11
 abbrev pub IsNet : List ℕ → Type 0
 IsNet net = AllPass (netChecks net)

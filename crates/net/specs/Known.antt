@@ -19,8 +19,8 @@ pub record Known (net : List ℕ) : Type 0 where
   pub few-places : getD net 0 0 ≤ 32
   pub some-transition : 1 ≤ getD net 1 0
   pub few-transitions : getD net 1 0 ≤ 32
-  pub few-keys : keyCount (getD net 0 0) (getD net 1 0) ≤ 2080
-  pub few-entries : getD net 2 0 ≤ 2080
+  pub few-keys : keyCount (getD net 0 0) (getD net 1 0) ≤ 2112
+  pub few-entries : getD net 2 0 ≤ 2112
 
 -- 3 and 4 refuse nothing at entry i
 pub record EntryPasses (net : List ℕ) (i : ℕ) : Type 0 where

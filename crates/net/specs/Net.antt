@@ -1,15 +1,21 @@
--- The net's words, §2.1 to §2.8, and what a source is, §2.9.
-use Prim.Native.Nat.{ℕ, _+_, _*_}
+-- The net's words, §2.1 to §2.8 and §2.10, and what a source is, §2.9.
+use Prim.Native.Nat.{ℕ, _+_, _*_, _≤_}
+use mathlib.Core.Path.{_≡_}
 use mathlib.Core.List.{List}
 use mathlib.Core.Bool.{Bool, cond, _&&_}
+use mathlib.Core.Option.{Option, none, some, Option·map}
 use lib.ListN.{getD}
 use lib.Dec.{ltb, eqb}
 use Rattle.scan.specs.Scan.{foundOr, all, any}
 use Rattle.table.specs.Table.{keyAt, valueAt, entryOf}
 
--- how many keys there are, in 2 × T + 1 rows of P: §2.2
+-- how many keys there are, in 2 × T + 2 rows of P: §2.2
 abbrev pub keyCount : ℕ → ℕ → ℕ
-keyCount places transitions = (2 * transitions + 1) * places
+keyCount places transitions = (2 * transitions + 2) * places
+
+-- a count is at most a capacity, where there is one: §2.10
+abbrev pub Within : Option ℕ → ℕ → Type 0
+Within capacity n = (c : ℕ) → capacity ≡ some c → n ≤ c
 
 -- §2.1; a word that is missing counts as 0
 module _ (net : List ℕ) where
@@ -45,6 +51,10 @@ module _ (net : List ℕ) where
 
   unfoldable pub start : ℕ → ℕ
   start p = cond (ltb p placeCount) (weightAt (2 * transitionCount * placeCount + p)) 0
+
+  -- one row more for the capacities of places (§2.10); a place whose key is absent has none, and so has what is no place
+  unfoldable pub capacity : ℕ → Option ℕ
+  capacity p = cond (ltb p placeCount) (Option·map entryWeight (entryOf net 3 entryCount ((2 * transitionCount + 1) * placeCount + p))) none
 
   -- §2.9
   unfoldable pub takesNothing : ℕ → ℕ → Bool

@@ -1,7 +1,7 @@
 // The weight at a place of a row of keys, and the weights of a row at once.
 ghost use mathlib.Core.Bool.{true};
 ghost use mathlib.Core.Path.{_≡_};
-ghost use Prim.Native.Nat.{_*_, _≤_};
+ghost use Prim.Native.Nat.{_+_, _*_, _≤_};
 ghost use Rattle.net.specs.Net.{transitionCount};
 ghost use Rattle.net.specs.Known.{Known};
 ghost use Rattle.net.specs.Accessors.{rowReply, rowWeights, weightOrZero, rowOrZeros};
@@ -11,7 +11,7 @@ use refusal::Verdict;
 // The weight that bisection finds at place p of a row of keys, or 0 (§2.8).
 fn weight_in_row(net: &[u32], row: usize, p: u32) -> u32
     requires { ⌜ Known (now net) ⌝ }
-    requires { ⌜ row ≤ 64 ⌝ }
+    requires { ⌜ row ≤ 65 ⌝ }
     ensures { λ r. ⌜ r ≡ rowReply (now (net .entry)) row p ⌝ }
 {
     let places = net[0];
@@ -27,7 +27,7 @@ fn weight_in_row(net: &[u32], row: usize, p: u32) -> u32
 
 // The same on any words, 0 where it is not known that there is such a row.
 pub(crate) fn weight_or_zero(net: &[u32], known: bool, row: usize, p: u32) -> u32
-    requires { ⌜ (known ≡ true → row ≤ 2 * transitionCount (now net)) ⌝ }
+    requires { ⌜ (known ≡ true → row ≤ 2 * transitionCount (now net) + 1) ⌝ }
     ensures { λ r. ⌜ r ≡ weightOrZero (now (net .entry)) known row p ⌝ }
 {
     if !known {
@@ -42,7 +42,7 @@ pub(crate) fn weight_or_zero(net: &[u32], known: bool, row: usize, p: u32) -> u3
 // The weights of a row of keys, place by place, 0 from P on.
 fn weights_in_row(net: &[u32], row: usize) -> [u32; 32]
     requires { ⌜ Known (now net) ⌝ }
-    requires { ⌜ row ≤ 64 ⌝ }
+    requires { ⌜ row ≤ 65 ⌝ }
     ensures { λ r. ⌜ r ≡ rowWeights (now (net .entry)) row ⌝ }
 {
     let places = net[0];
@@ -57,7 +57,7 @@ fn weights_in_row(net: &[u32], row: usize) -> [u32; 32]
 
 // The same on any words.
 pub(crate) fn row_or_zeros(net: &[u32], known: bool, row: usize) -> [u32; 32]
-    requires { ⌜ (known ≡ true → row ≤ 2 * transitionCount (now net)) ⌝ }
+    requires { ⌜ (known ≡ true → row ≤ 2 * transitionCount (now net) + 1) ⌝ }
     ensures { λ r. ⌜ r ≡ rowOrZeros (now (net .entry)) known row ⌝ }
 {
     if !known {

@@ -19,7 +19,7 @@ fn key_count(places: u32, transitions: u32) -> u32
     requires { ⌜ transitions ≤ mostTransitions ⌝ }
     ensures { λ r. ⌜ r ≡ keyCount places transitions ⌝ }
 {
-    (2 * transitions + 1) * places
+    (2 * transitions + 2) * places
 }
 
 // Whether P, T and K lie in their ranges (§2.2). P and T come first, so that the number of keys cannot overflow.

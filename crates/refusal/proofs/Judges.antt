@@ -1,5 +1,5 @@
 -- Verdicts that follow a list of checks, one list after the other, and the numbers that they refuse by.
-use Prim.Native.Nat.{ℕ, _≤_}
+use Prim.Native.Nat.{ℕ, _≤_, _<_}
 use native.Mathlib.Omega.{arith}
 use mathlib.Core.Path.{_≡_, refl, ap, _∙_}
 use mathlib.Core.Logic.{_⊎_, _↔_, inl, inr, ⊎-elim}
@@ -112,7 +112,9 @@ proper-number n h =
 
 at-number : (at : ℕ → Position) (cs : List Clause) (i : ℕ) (r : Refusal) → properAt cs ≡ true → FailAt at cs i r → Numbered r
 at-number at [] i r h b = absurd b
-at-number at (c ∷ cs) i r h f = ⊎-elim (λ (n, e). rw e (proper-number (c .number) (and-left (proper (c .number)) (properAt cs) h))) (λ (p, g). at-number at cs i r (and-right (proper (c .number)) (properAt cs) h) g) f
+at-number at (c ∷ cs) i r h f =
+    ⊎-elim (λ (n, e). rw e (proper-number (c .number) (and-left (proper (c .number)) (properAt cs) h)))
+    (λ (p, g). at-number at cs i r (and-right (proper (c .number)) (properAt cs) h) g) f
 
 by-number : (c : Check) (r : Refusal) → properBy c ≡ true → Fails c r → Numbered r
 by-number (once P number) r h (n, e) = rw e (proper-number number h)
@@ -122,3 +124,63 @@ pub fails-number : (cs : List Check) (r : Refusal) → properly cs ≡ true → 
 fails-number [] r h b = absurd b
 fails-number (c ∷ cs) r h f =
     ⊎-elim (by-number c r (and-left (properBy c) (properly cs) h)) (λ (p, g). fails-number cs r (and-right (properBy c) (properly cs) h) g) f
+
+-- ---- a number that is never given
+
+-- each clause of that number holds
+abbrev SparedAt : ℕ → List Clause → ℕ → Type 0
+SparedAt k [] i = Unit
+SparedAt k (c ∷ cs) i = (c .number ≡ k → c .holds i) × SparedAt k cs i
+
+abbrev SparedBy : ℕ → Check → Type 0
+SparedBy k (once P number) = number ≡ k → P
+SparedBy k (each size at clauses) = (i : ℕ) → i < size → SparedAt k clauses i
+
+abbrev pub Spared : ℕ → List Check → Type 0
+Spared k [] = Unit
+Spared k (c ∷ cs) = SparedBy k c × Spared k cs
+
+at-spared : (k : ℕ) (at : ℕ → Position) (cs : List Clause) (i : ℕ) (r : Refusal) → SparedAt k cs i → FailAt at cs i r → r .number ≡ k → ⊥
+at-spared k at [] i r s b e = b
+at-spared k at (c ∷ cs) i r (h, s) f e = ⊎-elim (λ (n, q). n (h (rw q at e))) (λ (p, g). at-spared k at cs i r s g e) f
+
+by-spared : (k : ℕ) (c : Check) (r : Refusal) → SparedBy k c → Fails c r → r .number ≡ k → ⊥
+by-spared k (once P number) r s (n, q) e = n (s (rw q at e))
+by-spared k (each size at clauses) r s f e = at-spared k at clauses (f .index) r (s (f .index) (f .within)) (f .there) e
+
+pub spared-never : (k : ℕ) (cs : List Check) (r : Refusal) → Spared k cs → FirstFails cs r → r .number ≡ k → ⊥
+spared-never k [] r s b e = b
+spared-never k (c ∷ cs) r (h, s) f e = ⊎-elim (λ x. by-spared k c r h x e) (λ (p, g). spared-never k cs r s g e) f
+
+pub spared-append : (k : ℕ) (cs ds : List Check) → Spared k cs → Spared k ds → Spared k (cs ++ ds)
+spared-append k [] ds s t = t
+spared-append k (c ∷ cs) ds (h, s) t = (h, spared-append k cs ds s t)
+
+-- as where no clause has that number
+abbrev withoutAt : ℕ → List Clause → Bool
+withoutAt k [] = true
+withoutAt k (c ∷ cs) = not (eqb (c .number) k) && withoutAt k cs
+
+abbrev withoutBy : ℕ → Check → Bool
+withoutBy k (once P number) = not (eqb number k)
+withoutBy k (each size at clauses) = withoutAt k clauses
+
+abbrev pub without : ℕ → List Check → Bool
+without k [] = true
+without k (c ∷ cs) = withoutBy k c && without k cs
+
+without-at : (k : ℕ) (cs : List Clause) (i : ℕ) → withoutAt k cs ≡ true → SparedAt k cs i
+without-at k [] i h = tt
+without-at k (c ∷ cs) i h = (
+  λ e. absurd (eqb-false _ _ (not-true _ (and-left (not (eqb (c .number) k)) (withoutAt k cs) h)) e),
+  without-at k cs i (and-right (not (eqb (c .number) k)) (withoutAt k cs) h),
+)
+
+without-by : (k : ℕ) (c : Check) → withoutBy k c ≡ true → SparedBy k c
+without-by k (once P number) h = λ e. absurd (eqb-false number k (not-true _ h) e)
+without-by k (each size at clauses) h = λ i l. without-at k clauses i h
+
+pub without-spared : (k : ℕ) (cs : List Check) → without k cs ≡ true → Spared k cs
+without-spared k [] h = tt
+without-spared k (c ∷ cs) h =
+    (without-by k c (and-left (withoutBy k c) (without k cs) h), without-spared k cs (and-right (withoutBy k c) (without k cs) h))

@@ -92,7 +92,7 @@ impl Refusal {
 
     pub const ROOT_NOT_AWAIT: u32 = 13; // §7.13, busy root
 
-    pub const NOT_ENABLED: u32 = 14; // §7.14, starved arc
+    pub const NOT_HELD: u32 = 14; // §7.14, starved arc
 
     pub const WRONG_TARGET: u32 = 15; // §7.15, wrong landing
 
@@ -115,6 +115,10 @@ impl Refusal {
     pub const WRONG_NODE: u32 = 24; // §7.24, logged node differs
 
     pub const NO_COUNTS_FIT: u32 = 25; // §7.25, no counts fit
+
+    pub const START_OVER_CAPACITY: u32 = 26; // §7.26, overfull start
+
+    pub const OVER_CAPACITY: u32 = 27; // §7.27, over capacity
 }
 
 // What a check answers that has no numbers of its own.

@@ -18,7 +18,7 @@ use Rattle.replay.specs.declared.Totals.{Totals}
 use Rattle.replay.specs.declared.ReplayAnswer.{ReplayAnswer}
 use Rattle.replay.specs.declared.ReplayAnswer.the-variants.{Done, Stopped}
 
--- 1 to 17, and then the log: §7.54
+-- 1 to 17, with 26 and 27, and then the log: §7.54
 unfoldable pub replayVerdict : List ℕ → List ℕ → List ℕ → Verdict
 replayVerdict net sheet log = andThen (scheduleReply net sheet) (verdictOf (replayFault (petriNet net) sheet log))
 

@@ -74,7 +74,7 @@ fn log_fault(log: &[u32]) -> Verdict
     Verdict::Accepted
 }
 
-// Refusals 1 to 17, 23, 20 and 24.
+// Refusals 1 to 17, 26 and 27, and then 23, 20 and 24.
 fn checked(net: &[u32], sheet: &[u32], log: &[u32]) -> Findings
     ensures { λ r. ⌜ LogChecked (now (net .entry)) (now (sheet .entry)) (now (log .entry)) (r .verdict) (r .entry) ⌝ }
 {

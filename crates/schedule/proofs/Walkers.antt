@@ -126,7 +126,9 @@ module _ (net sheet : List ℕ) (accepted : scheduleReply net sheet ≡ Accepted
     held p l = passes .holds p (omega (arith, few-places)) ∙ sym (marking-at (petriNet net) sheet (w .node) p (passes .node) l)
 
     pub fires-enabled : Enabled (petriNet net) (w .counts) t
-    fires-enabled = record { holds = λ p l. rw (held p l) (accepts net sheet accepted .schedule .enables (w .node) t m (passes .node) e .holds p l) }
+    fires-enabled =
+        let h = accepts net sheet accepted .schedule .enables (w .node) t m (passes .node) e in
+        record { holds = λ p l. rw (held p l) (h .holds p l); room = λ p l. rw (held p l) (h .room p l) }
 
     pub target-node : m < nodeCount sheet
     target-node = closed net sheet accepted .lands (w .node) t m (passes .node) e

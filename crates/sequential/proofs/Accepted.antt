@@ -14,8 +14,8 @@ use Rattle.net.specs.Checks.{netChecks}
 use Rattle.net.specs.Check.{netReply}
 use Rattle.net.proofs.Checks.{net-judged}
 use Rattle.net.proofs.Laws.{sizes}
-use Rattle.sequential.specs.Petri.{PetriNet, petriNet}
-use Rattle.sequential.specs.Words.{nodeCount, entryCount, entryValue, arcNode, arcTransition, arc, graph, entryKey, arcKeys}
+use Rattle.sequential.specs.Petri.{PetriNet, petriNet, Enabled}
+use Rattle.sequential.specs.Words.{nodeCount, entryCount, entryValue, arcNode, arcTransition, arc, marking, graph, entryKey, arcKeys}
 use Rattle.sequential.specs.Schedule.{IsSchedule}
 use Rattle.sequential.specs.Checks.{wordChecks, graphChecks, sheetChecks}
 use Rattle.sequential.specs.Check.{scheduleFault, scheduleReply}
@@ -35,10 +35,14 @@ module _ (N : PetriNet) (sheet : List ℕ) (T : 0 < N .transitions) (w : ArcsHol
     root-awaits = c 0 (omega arith) .0;
     enables = λ n t m l h.
         let (i, x) = arc-entry N sheet T w n t m h in
-        rw (x .node, x .transition) at (d i (x .entry) .0 (isArc↔ N sheet i .0 (x .arc)));
+        let a = isArc↔ N sheet i .0 (x .arc) in
+        record {
+          holds = rw (x .node, x .transition) at (d i (x .entry) .0 a);
+          room = rw (x .node, x .transition) at (d i (x .entry) .1 .0 a);
+        };
     lands = λ n t m l h.
         let (i, x) = arc-entry N sheet T w n t m h in
-        rw (x .node, x .transition, x .target) at (d i (x .entry) .1 .0 (isArc↔ N sheet i .0 (x .arc)));
+        rw (x .node, x .transition, x .target) at (d i (x .entry) .1 .1 .0 (isArc↔ N sheet i .0 (x .arc)));
     reached = λ n l. e n l .0;
     returns = λ n l. f n l .0;
   }
@@ -51,7 +55,7 @@ module _ (N : PetriNet) (sheet : List ℕ) (T : 0 < N .transitions) (w : ArcsHol
       (
         λ n l. let z : n ≡ 0 = omega arith in rw z (s .root-awaits, tt),
         (
-          λ i l. (λ a. s .enables _ _ _ (node i l a) (at i l a), (λ a. s .lands _ _ _ (node i l a) (at i l a), tt)),
+          λ i l. (λ a. enables i l a .holds, (λ a. enables i l a .room, (λ a. s .lands _ _ _ (node i l a) (at i l a), tt))),
           (
             λ n l. (s .reached n l, tt),
             (λ n l. (s .returns n l, tt), tt),
@@ -66,6 +70,9 @@ module _ (N : PetriNet) (sheet : List ℕ) (T : 0 < N .transitions) (w : ArcsHol
 
       at : (i : ℕ) → i < entryCount sheet → entryKey sheet i < arcKeys N sheet → arc N sheet (arcNode N sheet i) (arcTransition N sheet i) ≡ some (entryValue sheet i)
       at i l a = entry-arc N sheet T w i l (isArc↔ N sheet i .1 a)
+
+      enables : (i : ℕ) → i < entryCount sheet → entryKey sheet i < arcKeys N sheet → Enabled N (marking N sheet (arcNode N sheet i)) (arcTransition N sheet i)
+      enables i l a = s .enables _ _ _ (node i l a) (at i l a)
 
 -- ---- the verdict
 

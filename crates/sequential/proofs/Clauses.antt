@@ -1,19 +1,24 @@
 -- The tests of the net and of the nodes, and the clauses that they decide.
-use Prim.Native.Nat.{ℕ, _<_}
+use Prim.Native.Nat.{ℕ, zero, suc, _<_}
 use native.Mathlib.Omega.{arith}
 use mathlib.Core.Path.{_≡_, refl, sym, _∙_}
 use mathlib.Core.Logic.{_↔_}
 use mathlib.Core.List.{List}
-use mathlib.Core.Bool.{Bool, true, false, Bool·beq}
-use borrow.Author.Tests.{leb-true, le-leb}
+use mathlib.Core.Bool.{Bool, true, false, Bool·beq, _||_}
+use mathlib.Core.Option.{Option}
+use lib.Dec.{eqb}
+use borrow.Author.Tests.{leb-true, le-leb, ne-eqb}
 use Rattle.scan.specs.Scan.{found}
-use Rattle.scan.proofs.Tests.{iff→eq}
+use Rattle.scan.proofs.Tests.{iff→eq, and-left, and-right, and-both}
 use Rattle.scan.proofs.First.{found-some}
 use Rattle.scan.proofs.Every.{all-in, all-out, any-in, any-out}
 use Rattle.scan.proofs.Least.{least-hit, least-of}
 use Rattle.automaton.specs.Automaton.{Automaton}
-use Rattle.sequential.specs.Petri.{PetriNet, Enabled, SameChoice}
-use Rattle.sequential.specs.Tests.{holdsEnough, enabled, offers, offersAsSource, isAwait, offersSome, firstOffered, offersAsChoice, offersOneChoiceSet}
+use Rattle.net.specs.Net.{Within}
+use Rattle.net.specs.Check.{within}
+use Rattle.net.proofs.Checks.{within↔}
+use Rattle.sequential.specs.Petri.{PetriNet, HoldsTaken, HasRoom, Enabled, SameChoice}
+use Rattle.sequential.specs.Tests.{holdsEnough, holdsTaken, roomAt, hasRoom, enabled, offers, offersAsSource, isAwait, offersSome, firstOffered, offersAsChoice, offersOneChoiceSet}
 use Rattle.sequential.specs.Schedule.{Offers, Await, OneChoiceSet}
 use Rattle.sequential.proofs.Choices.{source↔, choice↔, choice-refl, choice-sym, choice-trans}
 
@@ -38,12 +43,33 @@ agree-in a b e f g = beq-in a b (iff→eq a b (λ x. g .1 (e .0 (f .0 x))) (λ y
 
 -- ---- the net
 
+room-one↔ : (put : ℕ) (capacity : Option ℕ) (n : ℕ) → ((eqb put 0 || within capacity n) ≡ true) ↔ (0 < put → Within capacity n)
+room-one↔ zero capacity n = (λ e l. absurd (omega arith), λ h. refl)
+room-one↔ (suc w) capacity n = let z = ne-eqb (suc w) 0 (λ e. omega arith) in (
+  λ e l. within↔ capacity n .0 (rw z at e),
+  λ h. rw z (within↔ capacity n .1 (h (omega arith))),
+)
+
 module _ (N : PetriNet) where
+  pub holds↔ : (m : List ℕ) (t : ℕ) → (holdsTaken N m t ≡ true) ↔ HoldsTaken N m t
+  unfolding holdsTaken holdsEnough
+  holds↔ m t = (
+    λ e p l. leb-true _ _ (all-out (holdsEnough N m t) (N .places) e p l),
+    λ h. all-in (holdsEnough N m t) (N .places) (λ p l. le-leb _ _ (h p l)),
+  )
+
+  pub room↔ : (m : List ℕ) (t : ℕ) → (hasRoom N m t ≡ true) ↔ HasRoom N m t
+  unfolding hasRoom roomAt
+  room↔ m t = (
+    λ e p l. room-one↔ (N .put t p) _ _ .0 (all-out (roomAt N m t) (N .places) e p l),
+    λ h. all-in (roomAt N m t) (N .places) (λ p l. room-one↔ (N .put t p) _ _ .1 (h p l)),
+  )
+
   pub enabled↔ : (m : List ℕ) (t : ℕ) → (enabled N m t ≡ true) ↔ Enabled N m t
-  unfolding enabled holdsEnough
+  unfolding enabled
   enabled↔ m t = (
-    λ e. record { holds = λ p l. leb-true _ _ (all-out (holdsEnough N m t) (N .places) e p l) },
-    λ h. all-in (holdsEnough N m t) (N .places) (λ p l. le-leb _ _ (h .holds p l)),
+    λ e. record { holds = holds↔ m t .0 (and-left _ _ e); room = room↔ m t .0 (and-right (holdsTaken N m t) _ e) },
+    λ h. and-both _ _ (holds↔ m t .1 (h .holds)) (room↔ m t .1 (h .room)),
   )
 
 -- ---- the nodes

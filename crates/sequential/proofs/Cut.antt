@@ -55,7 +55,7 @@ module _ (N : PetriNet) (m : ℕ) (l : 8195 ≤ m) (sheet : List ℕ) where
       byTest (leb (length sheet) m) (λ h. ap (scheduleFault N) (take-all m sheet (leb-true (length sheet) m h)))
       (λ h. cut-overlong (leb-false (length sheet) m h))
 
-module _ (n m : ℕ) (a : 4164 ≤ n) (b : 8195 ≤ m) (net sheet : List ℕ) where
+module _ (n m : ℕ) (a : 4228 ≤ n) (b : 8195 ≤ m) (net sheet : List ℕ) where
   whole-net : length net ≤ n → scheduleReply (take n net) (take m sheet) ≡ scheduleReply net sheet
   unfolding scheduleReply
   whole-net h = rw (take-all n net h, cut-fault (petriNet net) m b sheet)
@@ -67,6 +67,6 @@ module _ (n m : ℕ) (a : 4164 ≤ n) (b : 8195 ≤ m) (net sheet : List ℕ) wh
       let c = cut-reply n a net in
       then-refused _ _ _ (c ∙ e) ∙ c ∙ sym (then-refused _ _ _ e)
 
-  -- the first 4,164 words of a net and 8,195 of a sheet tell the answer
+  -- the first 4,228 words of a net and 8,195 of a sheet tell the answer
   pub cut-reply-both : scheduleReply (take n net) (take m sheet) ≡ scheduleReply net sheet
   cut-reply-both = byTest (leb (length net) n) (λ h. whole-net (leb-true (length net) n h)) (λ h. overlong-net (leb-false (length net) n h))

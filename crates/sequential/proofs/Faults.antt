@@ -1,4 +1,4 @@
--- 10 to 17: the tests decide the clauses.
+-- 10 to 17, with 27: the tests decide the clauses.
 use Prim.Native.Nat.{ℕ, _-_, _<_}
 use mathlib.Core.Path.{_≡_, sym, ap, _∙_}
 use mathlib.Core.Logic.{_↔_}
@@ -21,15 +21,15 @@ use Rattle.refusal.specs.Refusal.{refusal}
 use Rattle.refusal.specs.Finding.{foundAt, foundBy, lineFinds, finding}
 use Rattle.refusal.specs.declared.Position.the-variants.{Entry}
 use Rattle.refusal.proofs.Checks.{Decides, Decided, Lawful, Tells, finding-tells}
-use Rattle.sequential.specs.Petri.{PetriNet, initial, fire, firedCount, Enabled}
+use Rattle.sequential.specs.Petri.{PetriNet, initial, fire, firedCount, HoldsTaken, HasRoom}
 use Rattle.sequential.specs.Words.{nodeCount, entryCount, entryValue, countAt, marking, graph, isArc, arcNode, arcTransition, entryKey, arcKeys}
 use Rattle.sequential.specs.Schedule.{Offers, ToAwait}
 use Rattle.sequential.specs.Tests.{isAwait, offersSome}
 use Rattle.sequential.specs.Checks.{graphChecks}
-use Rattle.sequential.specs.Check.{startFault, nodeFault, rootFault, arcEnabled, landsAt, arcLands, arcFault, reachFault, returnFault, graphTests, graphFault}
+use Rattle.sequential.specs.Check.{startFault, nodeFault, rootFault, arcHolds, arcHasRoom, landsAt, arcLands, arcFault, reachFault, returnFault, graphTests, graphFault}
 use Rattle.sequential.specs.Known.{ArcsHold}
 use Rattle.sequential.proofs.Entries.{graph-closed, entry-target, marking-node, marking-at}
-use Rattle.sequential.proofs.Clauses.{enabled↔, await↔, some-out, some-in, one-out, one-in}
+use Rattle.sequential.proofs.Clauses.{holds↔, room↔, await↔, some-out, some-in, one-out, one-in}
 
 -- a path to a node that passes the test is one to an await node
 pub leads-await : (N : PetriNet) (A : Automaton) (n : ℕ) → Leads A (isAwait N A) n ↔ ToAwait N A n
@@ -60,13 +60,18 @@ module _ (N : PetriNet) (sheet : List ℕ) where
   unfolding isArc
   isArc↔ i = (ltb-true _ _, lt-ltb _ _)
 
-  arcEnabled↔ : (i : ℕ) → (arcEnabled N sheet i ≡ true) ↔ Enabled N (marking N sheet (arcNode N sheet i)) (arcTransition N sheet i)
-  unfolding arcEnabled
-  arcEnabled↔ i = enabled↔ N _ _
+  arcHolds↔ : (i : ℕ) → (arcHolds N sheet i ≡ true) ↔ HoldsTaken N (marking N sheet (arcNode N sheet i)) (arcTransition N sheet i)
+  unfolding arcHolds
+  arcHolds↔ i = holds↔ N _ _
+
+  arcHasRoom↔ : (i : ℕ) → (arcHasRoom N sheet i ≡ true) ↔ HasRoom N (marking N sheet (arcNode N sheet i)) (arcTransition N sheet i)
+  unfolding arcHasRoom
+  arcHasRoom↔ i = room↔ N _ _
 
   -- what is found at an entry that is an arc, and that nothing is at another
   pub arc-fault : (i : ℕ) → isArc N sheet i ≡ true
-      → arcFault N sheet i ≡ orElse (when (not (arcEnabled N sheet i)) (refusal 14 (Entry i))) (when (not (arcLands N sheet i)) (refusal 15 (Entry i)))
+      → arcFault N sheet i ≡ orElse (when (not (arcHolds N sheet i)) (refusal 14 (Entry i)))
+      (orElse (when (not (arcHasRoom N sheet i)) (refusal 27 (Entry i))) (when (not (arcLands N sheet i)) (refusal 15 (Entry i))))
   unfolding arcFault lineFinds foundAt
   arc-fault i e = rw e
 
@@ -74,7 +79,7 @@ module _ (N : PetriNet) (sheet : List ℕ) where
   unfolding arcFault lineFinds foundAt orElse when
   no-arc-fault i e = rw e
 
-  -- 10 to 17, one after the other
+  -- 10 to 17, with 27, one after the other
   pub graph-fault : graphFault N sheet
       ≡ orElse (first (startFault N sheet) (N .places)) (orElse (first (nodeFault N sheet) (nodeCount sheet)) (orElse (rootFault N sheet)
       (orElse (first (arcFault N sheet) (entryCount sheet)) (orElse (first (reachFault N sheet) (nodeCount sheet)) (first (returnFault N sheet) (nodeCount sheet))))))
@@ -114,7 +119,10 @@ module _ (N : PetriNet) (sheet : List ℕ) where
         (
           λ h n l. (decides-not _ (await↔ N (graph N sheet) n .0) (await↔ N (graph N sheet) n .1), λ x. tt),
           (
-            λ h i l. (decides-unless _ _ (isArc↔ i) (λ a. arcEnabled↔ i), λ e. (decides-unless _ _ (isArc↔ i) (arcLands↔ i l), λ x. tt)),
+            λ h i l. (
+              decides-unless _ _ (isArc↔ i) (λ a. arcHolds↔ i),
+              λ e. (decides-unless _ _ (isArc↔ i) (λ a. arcHasRoom↔ i), λ f. (decides-unless _ _ (isArc↔ i) (arcLands↔ i l), λ x. tt)),
+            ),
             (
               λ h n l. (decides-not _ (reached↔ n .0) (reached↔ n .1), λ x. tt),
               (λ h n l. (decides-not _ (leads↔ n l .0) (leads↔ n l .1), λ x. tt), tt),

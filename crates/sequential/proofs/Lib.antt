@@ -6,6 +6,7 @@ pub mod Clauses
 pub mod Faults
 pub mod Accepted
 pub mod Runs
+pub mod Capacities
 pub mod Published
 pub mod Paths
 pub mod Numbers

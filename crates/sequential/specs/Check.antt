@@ -18,7 +18,7 @@ use Rattle.refusal.specs.declared.Verdict.{Verdict}
 use Rattle.net.specs.Check.{netReply}
 use Rattle.sequential.specs.Petri.{PetriNet, petriNet, firedCount}
 use Rattle.sequential.specs.Words.{nodeCount, entryCount, entryKey, entryValue, arcKeys, keyLimit, marking, graph, isArc, arcNode, arcTransition, countAt}
-use Rattle.sequential.specs.Tests.{enabled, isAwait, offersSome, offersOneChoiceSet}
+use Rattle.sequential.specs.Tests.{holdsTaken, hasRoom, isAwait, offersSome, offersOneChoiceSet}
 use Rattle.sequential.specs.Checks.{shapeChecks, wordChecks, arcWordChecks, graphChecks}
 
 -- ---- the words
@@ -74,8 +74,11 @@ module _ (N : PetriNet) (sheet : List ℕ) where
   -- ---- the graph
 
   -- §6.5
-  unfoldable pub arcEnabled : ℕ → Bool
-  arcEnabled i = enabled N (marking N sheet (arcNode N sheet i)) (arcTransition N sheet i)
+  unfoldable pub arcHolds : ℕ → Bool
+  arcHolds i = holdsTaken N (marking N sheet (arcNode N sheet i)) (arcTransition N sheet i)
+
+  unfoldable pub arcHasRoom : ℕ → Bool
+  arcHasRoom i = hasRoom N (marking N sheet (arcNode N sheet i)) (arcTransition N sheet i)
 
   -- the target holds what firing gives: §6.6
   unfoldable pub landsAt : ℕ → ℕ → Bool
@@ -84,13 +87,13 @@ module _ (N : PetriNet) (sheet : List ℕ) where
   unfoldable pub arcLands : ℕ → Bool
   arcLands i = all (landsAt i) (N .places)
 
-  -- §7.10 to §7.17, in the order of §7.57
+  -- §7.10 to §7.17 and §7.27, in the order of §7.57
   abbrev pub graphTests : List Tests
   graphTests =
       ((λ p. not (eqb (countAt N sheet 0 p) (N .start p))) ∷ [])
       ∷ ((λ n. not (offersSome N (graph N sheet) n)) ∷ (λ n. not (offersOneChoiceSet N (graph N sheet) n)) ∷ [])
       ∷ ((λ n. not (isAwait N (graph N sheet) n)) ∷ [])
-      ∷ ((λ i. isArc N sheet i && not (arcEnabled i)) ∷ (λ i. isArc N sheet i && not (arcLands i)) ∷ [])
+      ∷ ((λ i. isArc N sheet i && not (arcHolds i)) ∷ (λ i. isArc N sheet i && not (arcHasRoom i)) ∷ (λ i. isArc N sheet i && not (arcLands i)) ∷ [])
       -- V - 1 arcs are enough for both: §6.9
       ∷ ((λ n. not (reachedIn (graph N sheet) (nodeCount sheet - 1) n)) ∷ [])
       ∷ ((λ n. not (leadsIn (graph N sheet) (isAwait N (graph N sheet)) (nodeCount sheet - 1) n)) ∷ [])
@@ -115,11 +118,11 @@ module _ (N : PetriNet) (sheet : List ℕ) where
   unfoldable pub returnFault : ℕ → Option Refusal
   returnFault n = lineFinds (graphChecks N sheet) graphTests 5 n
 
-  -- 10 to 17
+  -- 10 to 17, with 27
   unfoldable pub graphFault : Option Refusal
   graphFault = finding (graphChecks N sheet) graphTests
 
-  -- 6 to 17
+  -- 6 to 17, with 27
   unfoldable pub scheduleFault : Option Refusal
   scheduleFault = orElse wordsFault graphFault
 
@@ -131,6 +134,6 @@ module _ (N : PetriNet) (sheet : List ℕ) where
   unfoldable pub awaitCount : ℕ
   awaitCount = count (isAwait N (graph N sheet)) (nodeCount sheet)
 
--- 1 to 17: the net, and then the schedule (§7.54)
+-- 1 to 17, with 26 and 27: the net, and then the schedule (§7.54)
 unfoldable pub scheduleReply : List ℕ → List ℕ → Verdict
 scheduleReply net sheet = andThen (netReply net) (verdictOf (scheduleFault (petriNet net) sheet))

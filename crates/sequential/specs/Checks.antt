@@ -8,7 +8,7 @@ use Rattle.automaton.specs.Reach.{Reachable}
 use Rattle.refusal.specs.Limits.{mostNodes, mostEntries, mostCount}
 use Rattle.refusal.specs.Checks.{_else_, Check, once, each, AllPass}
 use Rattle.refusal.specs.declared.Position.the-variants.{Entry, Place, Node}
-use Rattle.sequential.specs.Petri.{PetriNet, Enabled, fire}
+use Rattle.sequential.specs.Petri.{PetriNet, HoldsTaken, HasRoom, fire}
 use Rattle.sequential.specs.Words.{nodeCount, entryCount, entryKey, entryValue, arcKeys, keyLimit, countAt, marking, graph, arcNode, arcTransition}
 use Rattle.sequential.specs.Schedule.{Offers, Await, OneChoiceSet, ToAwait}
 
@@ -51,20 +51,23 @@ module _ (N : PetriNet) (sheet : List ℕ) where
 
   -- ---- the graph
 
-  -- §6.5 and §6.6 of the arc of an entry
-  abbrev pub ArcEnabled : ℕ → Type 0
-  ArcEnabled i = entryKey sheet i < arcKeys N sheet → Enabled N (marking N sheet (arcNode N sheet i)) (arcTransition N sheet i)
+  -- §6.5, in its two halves, and §6.6 of the arc of an entry
+  abbrev pub ArcHolds : ℕ → Type 0
+  ArcHolds i = entryKey sheet i < arcKeys N sheet → HoldsTaken N (marking N sheet (arcNode N sheet i)) (arcTransition N sheet i)
+
+  abbrev pub ArcHasRoom : ℕ → Type 0
+  ArcHasRoom i = entryKey sheet i < arcKeys N sheet → HasRoom N (marking N sheet (arcNode N sheet i)) (arcTransition N sheet i)
 
   abbrev pub ArcLands : ℕ → Type 0
   ArcLands i = entryKey sheet i < arcKeys N sheet → marking N sheet (entryValue sheet i) ≡ fire N (marking N sheet (arcNode N sheet i)) (arcTransition N sheet i)
 
-  -- §7.10 to §7.17, in the order of §7.57: each line has the number of its clause. The first is §6.2
+  -- §7.10 to §7.17 and §7.27, in the order of §7.57: each line has the number of its clause. The first is §6.2
   abbrev pub graphChecks : List Check
   graphChecks =
       each (N .places) Place ((λ p. countAt N sheet 0 p ≡ N .start p) else 10 ∷ [])
       ∷ each (nodeCount sheet) Node ((λ n. (t : ℕ) × Offers N (graph N sheet) n t) else 11 ∷ OneChoiceSet N (graph N sheet) else 12 ∷ [])
       ∷ each 1 Node (Await N (graph N sheet) else 13 ∷ [])
-      ∷ each (entryCount sheet) Entry (ArcEnabled else 14 ∷ ArcLands else 15 ∷ [])
+      ∷ each (entryCount sheet) Entry (ArcHolds else 14 ∷ ArcHasRoom else 27 ∷ ArcLands else 15 ∷ [])
       ∷ each (nodeCount sheet) Node (Reachable (graph N sheet) else 16 ∷ [])
       ∷ each (nodeCount sheet) Node (ToAwait N (graph N sheet) else 17 ∷ [])
       ∷ []

@@ -30,7 +30,7 @@ pub record WordsHold (N : PetriNet) (sheet : List ℕ) : Type 0 where
   pub arcs : ArcsHold N sheet
   pub values : (i : ℕ) → i < entryCount sheet → ValuePasses sheet (arcKeys N sheet) i
 
--- 1 to 17 refuse nothing
+-- 1 to 17, 26 and 27 refuse nothing
 pub record Accepts (net sheet : List ℕ) : Type 0 where
   pub net-accepted : netReply net ≡ Accepted
   pub words : WordsHold (petriNet net) sheet

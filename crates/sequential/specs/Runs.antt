@@ -8,7 +8,8 @@ use mathlib.Core.Option.{some}
 use lib.ListN.{length, getD}
 use Rattle.automaton.specs.Automaton.{Automaton, follow, allows}
 use Rattle.automaton.specs.Reach.{Reachable}
-use Rattle.sequential.specs.Petri.{PetriNet, initial, fireAll, FiresEnabled, SameChoice}
+use Rattle.net.specs.Net.{Within}
+use Rattle.sequential.specs.Petri.{PetriNet, initial, fire, fireAll, FiresEnabled, SameChoice}
 use Rattle.sequential.specs.Schedule.{Offers, Await, ToAwait}
 
 -- place p holds at most b after every allowed list, and b after some allowed list: no lower number would do: §13.3
@@ -36,3 +37,13 @@ pub record GoesOn (N : PetriNet) (A : Automaton) (σ : List ℕ) : Type 0 where
 pub record ShortWhereAny (N : PetriNet) (A : Automaton) (n : ℕ) : Type 0 where
   pub reached : Reachable A n → (σ : List ℕ) × (length σ ≤ A .nodes - 1) × (follow A 0 σ ≡ some n)
   pub returns : ToAwait N A n → (σ : List ℕ) × (m : ℕ) × (length σ ≤ A .nodes - 1) × (follow A n σ ≡ some m) × Await N A m
+
+module _ (N : PetriNet) where
+  -- no place holds more than its capacity: §13.13
+  abbrev pub WithinCapacities : List ℕ → Type 0
+  WithinCapacities marking = (p : ℕ) → p < N .places → Within (N .capacity p) (getD marking p 0)
+
+  -- nor does one at any marking through which a list fires, before its first firing and after each
+  unfoldable pub StaysWithin : List ℕ → List ℕ → Type 0
+  StaysWithin marking [] = WithinCapacities marking
+  StaysWithin marking (t ∷ σ) = WithinCapacities marking × StaysWithin (fire N marking t) σ

@@ -1,12 +1,13 @@
 -- What the clauses of a schedule say, as tests: enabling, sources and choice sets, and what a node offers.
 -- That each decides its clause is proved in proofs/Clauses.
-use Prim.Native.Nat.{ℕ}
+use Prim.Native.Nat.{ℕ, _+_}
 use mathlib.Core.List.{List}
 use mathlib.Core.Bool.{Bool, not, _&&_, _||_, Bool·beq}
 use lib.ListN.{getD}
 use lib.Dec.{ltb, leb, eqb}
 use Rattle.scan.specs.Scan.{found, all, any, least}
 use Rattle.automaton.specs.Automaton.{Automaton}
+use Rattle.net.specs.Check.{within}
 use Rattle.sequential.specs.Petri.{PetriNet}
 
 module _ (N : PetriNet) where
@@ -15,8 +16,18 @@ module _ (N : PetriNet) where
   holdsEnough marking t p = leb (N .taken t p) (getD marking p 0)
 
   -- §4.2
+  unfoldable pub holdsTaken : List ℕ → ℕ → Bool
+  holdsTaken marking t = all (holdsEnough marking t) (N .places)
+
+  -- nothing is asked where nothing is put, and what is taken makes no room: §4.5
+  unfoldable pub roomAt : List ℕ → ℕ → ℕ → Bool
+  roomAt marking t p = eqb (N .put t p) 0 || within (N .capacity p) (getD marking p 0 + N .put t p)
+
+  unfoldable pub hasRoom : List ℕ → ℕ → Bool
+  hasRoom marking t = all (roomAt marking t) (N .places)
+
   unfoldable pub enabled : List ℕ → ℕ → Bool
-  enabled marking t = all (holdsEnough marking t) (N .places)
+  enabled marking t = holdsTaken marking t && hasRoom marking t
 
   unfoldable pub takesNothing : ℕ → ℕ → Bool
   takesNothing t p = eqb (N .taken t p) 0

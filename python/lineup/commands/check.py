@@ -31,8 +31,11 @@ def net_alone(net):
         return both.refusal(answer)
     model = net.model
     report = Report(accepted=True, places=model.places, transitions=model.transitions, sources=[model.transitions[t] for t in model.sources()])
+    report.data["capacities"] = model.capacities()
     report.say(f"{inline(net.path)}: accepted, as a net")
     report.say(f"  {plural(len(model.places), 'place')}: {', '.join(model.places)}")
+    if model.capacity:
+        report.say("  capacities: " + ", ".join(f"{name} <= {most}" for name, most in model.capacities().items()))
     report.say(f"  {plural(len(model.transitions), 'transition')}: {', '.join(model.transitions)}; sources: {model.listed(model.sources())}")
     return report.quote(answer)
 

@@ -20,8 +20,8 @@ pub fn schedule(rng: &mut Rng) -> Schedule {
     variants::varied(rng, first)
 }
 
-/// A net of any sizes with weights found by chance, of which some rows have none; there may be no
-/// source.
+/// A net of any sizes with weights and capacities found by chance, of which some rows have none;
+/// there may be no source, and places that start above their capacities.
 pub fn net(rng: &mut Rng) -> Net {
     let (places, transitions) = (rng.between(1, LINES), rng.between(1, LINES));
     let (density, idle) = (rng.below(101), rng.below(60));
@@ -30,11 +30,16 @@ pub fn net(rng: &mut Rng) -> Net {
         let mut weight = || u64::from(rng.chance(percent)) * (rng.next() % MAX_WEIGHT + 1);
         (0..places).map(|_| weight()).collect()
     };
-    Net {
-        taken: (0..transitions).map(|_| row()).collect(),
-        put: (0..transitions).map(|_| row()).collect(),
-        start: row(),
+    let taken = (0..transitions).map(|_| row()).collect();
+    let put = (0..transitions).map(|_| row()).collect();
+    let start = row();
+    let capacity = row().iter().map(|&most| (most > 0).then_some(most)).collect();
+    let mut net = Net { taken, put, start, capacity };
+    if rng.chance(60) {
+        let higher = |(most, start): (Option<u64>, &u64)| most.map(|most| most.max(*start));
+        net.capacity = net.capacity.into_iter().zip(&net.start).map(higher).collect();
     }
+    net
 }
 
 /// The words of a net and of a sheet, made from an accepted pair: as they are, with a sheet that

@@ -1,4 +1,4 @@
-//! The worked examples, §14.2 to §14.8, with their answers, and logs whose replay is told by hand.
+//! The worked examples, §14.2 to §14.8 and §14.16, with their answers, and logs whose replay is told by hand.
 
 use crate::generate::rng::Rng;
 use crate::generate::schedules::{crowded, net_words, nine_nodes, ring};
@@ -78,8 +78,41 @@ const NOT_MENDED: [(&str, &str, [u64; 3]); 16] = [
     ("1 2 3 1 2 3 2 1 1", "2 2 0 3 1 0", [25, 0, 0]),
 ];
 
+/// The first table of §14.16, of nets with capacities.
+const CAPPED: [(&str, &str, [u64; 6]); 11] = [
+    ("1 2 3 1 2 5 1 1 1", "2 3 0 3 5 1 0 1", [0, 0, 0, 2, 2, 1]),
+    ("1 2 3 1 2 5 1 2 1", "2 3 0 3 5 1 0 2", [27, 1, 0, 0, 0, 0]),
+    ("1 2 3 1 2 5 1 2 1", "2 3 0 3 5 1 0 1", [27, 1, 0, 0, 0, 0]),
+    ("1 2 4 1 2 3 5 2 1 3 3", "2 3 0 3 5 1 0 1", [14, 1, 1, 0, 0, 0]),
+    ("1 2 4 1 2 3 5 1 1 1 1", "2 3 0 3 5 1 1 1", [27, 1, 1, 0, 0, 0]),
+    ("1 2 4 1 2 3 5 1 1 1 2", "2 3 0 3 5 1 1 1", [17, 3, 1, 0, 0, 0]),
+    ("1 2 3 1 2 5 1 1 1", "3 5 0 3 5 7 8 1 0 1 1 2", [16, 3, 2, 0, 0, 0]),
+    ("1 2 4 1 2 4 5 1 1 2 1", "1 2 0 2 0 2", [26, 2, 0, 0, 0, 0]),
+    ("1 2 4 1 2 4 5 1 1 1 1", "1 2 0 2 0 1", [27, 1, 0, 0, 0, 0]),
+    ("1 3 5 1 2 3 5 7 1 1 1 1 1", "2 4 0 4 5 7 1 0 1 1", [27, 1, 2, 0, 0, 0]),
+    ("1 1 3 1 2 3 1000000000 1000000000 1000000000", "1 2 0 1 0 1000000000", [27, 1, 0, 0, 0, 0]),
+];
+
+/// The second table of §14.16: what is mended, with just enough room.
+const CAPPED_MENDED: [(&str, &str, &str, &str); 4] = [
+    ("1 2 3 1 2 5 1 1 1", "2 4 0 3 4 5 1 0 7 9", "2 3 0 3 5 1 0 1", "2 0 1 0 1"),
+    ("1 2 3 1 2 5 2 2 2", "2 2 0 3 1 0", "2 3 0 3 5 1 0 2", "1 1 2"),
+    ("1 3 5 1 2 3 4 7 1 1 1 1 2", "2 3 0 4 5 1 1 0", "2 4 0 4 5 7 1 1 0 1", "1 1 1"),
+    ("1 2 4 1 2 4 5 1 1 1 2", "2 2 0 3 1 0", "2 4 0 3 4 5 1 0 1 2", "2 0 1 1 2"),
+];
+
+/// And what is not. In the first three no counts fit, since a transition has no room; then a place
+/// starts above its capacity, in the last of a net without a source.
+const CAPPED_NOT_MENDED: [(&str, &str, [u64; 3]); 5] = [
+    ("1 2 3 1 2 5 2 2 1", "2 2 0 3 1 0", [25, 0, 0]),
+    ("1 3 5 1 2 3 4 7 1 1 1 1 1", "2 3 0 4 5 1 1 0", [25, 0, 0]),
+    ("1 2 4 1 2 4 5 1 1 1 1", "2 2 0 3 1 0", [25, 0, 0]),
+    ("1 2 4 1 2 4 5 1 1 2 1", "2 2 0 3 1 0", [26, 2, 0]),
+    ("1 1 3 0 2 3 1 2 1", "1 1 0 0", [26, 2, 0]),
+];
+
 pub fn check(tally: &mut Tally) {
-    for (net, sheet, should) in STARRED.into_iter().chain(ARBITRATED) {
+    for (net, sheet, should) in STARRED.into_iter().chain(ARBITRATED).chain(CAPPED) {
         let is = sheet_check(&text_words(net), &text_words(sheet), SCRATCH);
         tally.same(&format!("net {net}, sheet {sheet}"), is, should);
     }
@@ -156,7 +189,7 @@ fn mend(net: &[u32], sheet: &[u32], room: [usize; 2]) -> ([u64; 5], Vec<u32>, Ve
 
 /// What is mended and what is not, both in buffers of the lengths needed and in shorter ones.
 fn mendings(tally: &mut Tally) {
-    for (net, sheet, mended, list) in MENDED {
+    for (net, sheet, mended, list) in MENDED.into_iter().chain(CAPPED_MENDED) {
         let what = format!("net {net}, sheet {sheet} mended");
         let [net, sheet, mended, list] = [net, sheet, mended, list].map(text_words);
         let lengths = [mended.len(), list.len()];
@@ -167,7 +200,7 @@ fn mendings(tally: &mut Tally) {
             tally.same(&what, mend(&net, &sheet, short), ([22, 0, 0, 0, 0], out, list));
         }
     }
-    for (net, sheet, [number, kind, at]) in NOT_MENDED {
+    for (net, sheet, [number, kind, at]) in NOT_MENDED.into_iter().chain(CAPPED_NOT_MENDED) {
         let what = format!("net {net}, sheet {sheet} not mended");
         let [net, sheet] = [net, sheet].map(text_words);
         let kept = ([number, kind, at, 0, 0], vec![9; 10], vec![9; 10]);
@@ -189,6 +222,7 @@ fn one_too_many() -> (Vec<u32>, Vec<u32>) {
         taken: vec![place(0..0), place(31..32), place(0..1)],
         put: vec![place(31..32), place(0..0), place(0..1)],
         start: place(0..31),
+        capacity: vec![None; 32],
     };
     let row =
         |node: usize| (0..3).map(|t| (t == node.min(2)).then_some((node + 1) % 128)).collect();
@@ -241,8 +275,8 @@ fn output(tally: &mut Tally) {
     line("no sheet", &net, &[], "answer 6 none 0\n");
     line("tail of a net", &[&net[..], &[0]].concat(), &four, "answer 1 none 0\n");
     line("tail of a sheet", &net, &[&four[..], &[0, 0, 0]].concat(), "answer 6 none 0\n");
-    line("tail before sizes", &[0; 16_655], &four, "answer 1 none 0\n");
-    line("no tail of a longer net", &[0; 16_657], &four, "answer 2 none 0\n");
+    line("tail before sizes", &[0; 16_911], &four, "answer 1 none 0\n");
+    line("no tail of a longer net", &[0; 16_913], &four, "answer 2 none 0\n");
     line("tail before sizes", &net, &[0; 32_779], "answer 6 none 0\n");
     line("no tail of a longer sheet", &net, &[0; 32_781], "answer 7 none 0\n");
     line("net before the sheet's tail", &[0; 12], &[0], "answer 2 none 0\n");

@@ -9,10 +9,11 @@ use std::collections::BTreeMap;
 #[derive(Default)]
 pub struct Mending(BTreeMap<&'static str, usize>);
 
-/// Each of them.
-const SORTS: [&str; 10] = [
-    "same", "changed", "dropped", "added", "zero", "greatest", "starved", "unequal", "count",
-    "entries",
+/// Each of them. In the last ones before the reasons a capacity is filled, is never filled, and is
+/// below a count that was given; the last reason is that of capacities alone.
+const SORTS: [&str; 15] = [
+    "same", "changed", "dropped", "added", "zero", "greatest", "tight", "slack", "above",
+    "starved", "overfull", "unequal", "count", "entries", "capacity",
 ];
 
 impl Mending {
@@ -27,11 +28,18 @@ impl Mending {
             return;
         };
         match given.mended(&net) {
-            Ok(mended) => self.sorts(&net, &call.sheet, &given, &mended),
+            Ok(mended) => {
+                self.sorts(&net, &call.sheet, &given, &mended);
+                self.rooms(&net, &given, &mended);
+            }
             Err(Misfit::Starved) => self.add("starved"),
+            Err(Misfit::Overfull) => self.add("overfull"),
             Err(Misfit::Unequal) => self.add("unequal"),
             Err(Misfit::Count) => self.add("count"),
             Err(Misfit::Entries) => self.add("entries"),
+        }
+        if outcome.reply[0] == 25 && given.mended(&uncapped(&net)).is_ok() {
+            self.add("capacity");
         }
     }
 
@@ -63,6 +71,26 @@ impl Mending {
         }
     }
 
+    /// The same of capacities.
+    fn rooms(&mut self, net: &Net, given: &Sheet, mended: &Sheet) {
+        let room = |p: usize, count: u64| net.capacity[p].map(|most| most.checked_sub(count));
+        let left = |(node, t, _): (usize, usize, usize)| -> Vec<u64> {
+            let put = (0..net.places()).filter(|&p| net.put[t][p] > 0);
+            put.filter_map(|p| room(p, mended.counts[node][p] + net.put[t][p])?).collect()
+        };
+        let left: Vec<u64> = mended.all_arcs().into_iter().flat_map(left).collect();
+        let above = |counts: &Vec<u64>| (0..net.places()).any(|p| !net.holds_at_most(p, counts[p]));
+        for (sort, met) in [
+            ("tight", left.contains(&0)),
+            ("slack", !left.is_empty() && !left.contains(&0)),
+            ("above", given.counts.iter().any(above)),
+        ] {
+            if met {
+                self.add(sort);
+            }
+        }
+    }
+
     pub fn line(&self) -> String {
         let told = |sort: &&str| format!(" {sort} {}", self.0.get(sort).unwrap_or(&0));
         format!("mending:{}", SORTS.iter().map(told).collect::<String>())
@@ -76,4 +104,9 @@ impl Mending {
             tally.check(met >= 4, || format!("mending: {sort} was met {met} times"));
         }
     }
+}
+
+/// The net without its capacities.
+fn uncapped(net: &Net) -> Net {
+    Net { capacity: vec![None; net.places()], ..net.clone() }
 }

@@ -132,19 +132,22 @@ pub fn net_check(net: &[u32]) -> [u64; 3] {
     plain(Net::read(net).map(|_| vec![]))
 }
 
-/// What a transition takes and puts at a place, and what the place starts with: §10.2, §2.8. Of a
-/// refused net `docs/DECISIONS.md` decides: one that 1 or 2 refuses has none, one that 3 or 4
-/// refuses what is found by halving, one without a source its weights.
-pub fn weights(net: &[u32], transition: u32, place: u32) -> [u64; 3] {
+/// What a transition takes and puts at a place, what the place starts with and, as 1 more than it
+/// is, its capacity: §10.2, §2.8, §8.4. Of a refused net `docs/DECISIONS.md` decides: one that 1 or
+/// 2 refuses has none, one that 3 or 4 refuses what is found by halving, where 0 is no capacity,
+/// one that 26 or 5 refuses its weights.
+pub fn weights(net: &[u32], transition: u32, place: u32) -> [u64; 4] {
     let Ok(shape) = Shape::read(net) else {
-        return [0; 3];
+        return [0; 4];
     };
     let Some(net) = Net::spread_out(net) else {
-        return shape.halved(u64::from(transition), u64::from(place));
+        let [taken, put, start, capacity] = shape.halved(u64::from(transition), u64::from(place));
+        return [taken, put, start, if capacity == 0 { 0 } else { capacity + 1 }];
     };
     let (t, p) = (transition as usize, place as usize);
     let at = |row: Option<&Vec<u64>>| row.and_then(|row| row.get(p)).copied().unwrap_or(0);
-    [at(net.taken.get(t)), at(net.put.get(t)), at(Some(&net.start))]
+    let capacity = net.capacity.get(p).copied().flatten().map_or(0, |most| most + 1);
+    [at(net.taken.get(t)), at(net.put.get(t)), at(Some(&net.start)), capacity]
 }
 
 /// Schedule check: §10.3.

@@ -3,6 +3,9 @@
 use crate::call::{Call, Kind, Outcome};
 use std::collections::BTreeMap;
 
+/// The numbers of the refusals, and 0.
+pub const NUMBERS: std::ops::RangeInclusive<u64> = 0..=27;
+
 /// Failures told in full; the rest are only counted.
 const TOLD: usize = 10;
 
@@ -53,7 +56,7 @@ impl Table {
     pub fn print(&self) {
         let head: String = Kind::ALL.iter().map(|kind| format!("{:>8}", kind.name())).collect();
         println!("number{head}     all");
-        for number in 0..=25 {
+        for number in NUMBERS {
             let cells: String =
                 Kind::ALL.iter().map(|&kind| format!("{:>8}", self.cell(number, kind))).collect();
             println!("{number:>6}{cells}{:>8}", self.times(number));

@@ -122,8 +122,8 @@ impl Case {
         match self {
             Case::Call(call) => call.put().line(call),
             Case::Weights { net, transition, place } => {
-                let [taken, put, start] = model::weights(net, *transition, *place);
-                format!("taken {taken} put {put} start {start}")
+                let [taken, put, start, capacity] = model::weights(net, *transition, *place);
+                format!("taken {taken} put {put} start {start} capacity {capacity}")
             }
         }
     }

@@ -30,7 +30,7 @@ const EDGES: [u32; 16] = [
 
 /// One change that a clause of a schedule may forbid.
 pub fn break_clause(rng: &mut Rng, schedule: &mut Schedule) {
-    match rng.below(22) {
+    match rng.below(26) {
         0 => drop_arc(rng, schedule),
         1 => drop_all_arcs(rng, schedule),
         2 => add_arc(rng, schedule),
@@ -45,6 +45,8 @@ pub fn break_clause(rng: &mut Rng, schedule: &mut Schedule) {
         18 => put_otherwise(rng, schedule),
         19 => start_otherwise(rng, schedule),
         20 => copy_taken(rng, schedule),
+        21..=23 => too_low(rng, schedule),
+        24 => overfill(rng, schedule),
         _ => starve_sources(rng, schedule),
     }
 }
@@ -203,6 +205,29 @@ fn copy_taken(rng: &mut Rng, schedule: &mut Schedule) {
     net.taken[t] = net.taken[like].clone();
 }
 
+/// A capacity one below what is needed: where nothing is deducted for what is taken, some arc then
+/// overfills the place, or it starts too full.
+pub fn too_low(rng: &mut Rng, schedule: &mut Schedule) {
+    let tight = |&p: &usize| schedule.needed(p) > 1;
+    let places: Vec<usize> = (0..schedule.net.places()).filter(tight).collect();
+    if let Some(p) = rng.pick_any(&places) {
+        let most = schedule.needed(p).min(MAX_WEIGHT + 1) - 1;
+        let low = 1 + rng.next() % most;
+        schedule.net.capacity[p] = Some(if rng.chance(80) { most } else { low });
+    }
+}
+
+/// A place that starts above its capacity, and maybe one behind it.
+pub fn overfill(rng: &mut Rng, schedule: &mut Schedule) {
+    let net = &mut schedule.net;
+    for _ in 0..rng.between(1, 2) {
+        let p = rng.below(net.places());
+        let most = net.capacity[p].unwrap_or(1).min(MAX_WEIGHT - 1);
+        net.capacity[p] = Some(most);
+        net.start[p] = rng.pick(&[most, most + 1, most + 1, MAX_WEIGHT]);
+    }
+}
+
 fn starve_sources(rng: &mut Rng, schedule: &mut Schedule) {
     let net = &mut schedule.net;
     let p = rng.below(net.places());
@@ -297,7 +322,7 @@ fn break_value(rng: &mut Rng, words: &mut [u32], header: usize) {
 pub fn net_at_limits(rng: &mut Rng) -> Vec<u32> {
     let p = rng.pick(&[0, 1, 2, 31, 32, 32, 33]);
     let t = rng.pick(&[0, 1, 2, 31, 32, 32, 33]);
-    let end = (2 * t + 1) * p;
+    let end = (2 * t + 2) * p;
     let first = if rng.chance(70) { p.min(end) } else { 0 };
     let last = end + if rng.chance(20) { 1 } else { 0 };
     let mut words = vec![p, t, last - first];

@@ -1,4 +1,5 @@
-//! Sheets for mending: right arcs with stale counts, and arcs that no counts fit.
+//! Sheets for mending: right arcs with stale counts, and arcs that no counts fit, over nets with
+//! capacities of every kind.
 
 use super::damage;
 use super::rng::Rng;
@@ -8,13 +9,16 @@ use crate::model::MAX_WEIGHT;
 /// The words of a net and of a sheet whose counts are not to be trusted, and whose arcs mostly are.
 pub fn words(rng: &mut Rng, schedule: &Schedule) -> (Vec<u32>, Vec<u32>) {
     let mut schedule = schedule.clone();
-    match rng.below(20) {
-        0..=6 => {}
+    match rng.below(24) {
+        0..=4 => {}
+        5..=6 => schedule = schedule.capped(rng),
         7..=8 => starve(rng, &mut schedule),
-        9..=10 => damage::retarget(rng, &mut schedule),
-        11..=12 => lift_to_limit(rng, &mut schedule),
-        13 => schedule = too_crowded(rng),
-        14..=16 => (0..rng.between(1, 2)).for_each(|_| damage::break_clause(rng, &mut schedule)),
+        9..=11 => damage::retarget(rng, &mut schedule),
+        12..=13 => lift_to_limit(rng, &mut schedule),
+        14 => schedule = too_crowded(rng),
+        15..=16 => damage::too_low(rng, &mut schedule),
+        17 => damage::overfill(rng, &mut schedule),
+        18..=20 => (0..rng.between(1, 2)).for_each(|_| damage::break_clause(rng, &mut schedule)),
         _ => {
             let (mut net, mut sheet) = (schedule.words().0, counted(rng, &schedule));
             if rng.chance(30) {
@@ -75,13 +79,15 @@ fn starve(rng: &mut Rng, schedule: &mut Schedule) {
     }
 }
 
-/// A place starts with so much that its greatest count is the limit, or one more.
+/// A place starts with so much that its greatest count is the limit, or one more; if it has a capacity,
+/// that is the limit or none then.
 fn lift_to_limit(rng: &mut Rng, schedule: &mut Schedule) {
     let Schedule { net, sheet } = schedule;
     let greatest = |p: usize| sheet.counts.iter().map(|counts| counts[p]).max().unwrap_or(0);
     let moving = |&p: &usize| greatest(p) > net.start[p];
     let places: Vec<usize> = (0..net.places()).filter(moving).collect();
     if let Some(p) = rng.pick_any(&places) {
+        net.capacity[p] = net.capacity[p].map(|_| MAX_WEIGHT).filter(|_| rng.chance(70));
         net.start[p] += MAX_WEIGHT - greatest(p) + rng.below(2) as u64;
     }
 }

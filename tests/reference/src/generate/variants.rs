@@ -8,14 +8,15 @@ use crate::model::{Net, Sheet, LINES, MAX_ENTRIES, MAX_NODES, MAX_WEIGHT};
 /// Up to four of the changes below, in any order.
 pub fn varied(rng: &mut Rng, mut schedule: Schedule) -> Schedule {
     for _ in 0..rng.below(5) {
-        schedule = match rng.below(8) {
+        schedule = match rng.below(10) {
             0 => schedule.unrolled(rng),
             1 => schedule.renumbered(rng),
             2 => schedule.scaled(rng),
             3 => schedule.lifted(rng),
             4 => schedule.padded(rng),
             5 => schedule.shuffled(rng),
-            6 => schedule.unrolled(rng).renumbered(rng),
+            6..=7 => schedule.capped(rng),
+            8 => schedule.unrolled(rng).renumbered(rng),
             _ => schedule.padded(rng).scaled(rng).shuffled(rng),
         };
     }
@@ -87,11 +88,39 @@ impl Schedule {
         scaled
     }
 
-    /// Everything that belongs to a place: weights, start and counts.
+    /// Everything that belongs to a place: weights, start, capacity and counts.
     fn column(&mut self, p: usize) -> impl Iterator<Item = &mut u64> {
-        let Net { taken, put, start } = &mut self.net;
+        let Net { taken, put, start, capacity } = &mut self.net;
         let rows = taken.iter_mut().chain(put).chain([start]).chain(&mut self.sheet.counts);
-        rows.map(move |row| &mut row[p])
+        rows.map(move |row| &mut row[p]).chain(capacity[p].as_mut())
+    }
+
+    /// The most that a place has to have room for: where it starts, and before each firing of an
+    /// arc that puts something there, with what is put.
+    pub fn needed(&self, p: usize) -> u64 {
+        let Schedule { net, sheet } = self;
+        let put = |(node, t, _): (usize, usize, usize)| match net.put[t][p] {
+            0 => 0,
+            put => sheet.counts[node][p] + put,
+        };
+        sheet.all_arcs().into_iter().map(put).chain([net.start[p]]).max().unwrap_or(0)
+    }
+
+    /// Other capacities: none, just enough, more than enough, or the limit.
+    pub fn capped(&self, rng: &mut Rng) -> Schedule {
+        let mut capped = self.clone();
+        let percent = rng.pick(&[0, 30, 70, 100]);
+        for p in 0..self.net.places() {
+            let needed = self.needed(p).max(1);
+            let most = match rng.below(4) {
+                0..=1 => needed,
+                2 => needed + rng.next() % 3,
+                _ => MAX_WEIGHT,
+            };
+            let fits = needed <= most && most <= MAX_WEIGHT && rng.chance(percent);
+            capped.net.capacity[p] = fits.then_some(most);
+        }
+        capped
     }
 
     /// The number of entries of the sheet's words.
@@ -108,6 +137,8 @@ impl Schedule {
         let more = if rng.chance(50) { most } else { rng.next() % (most + 1) };
         let mut lifted = self.clone();
         lifted.net.start[p] += more;
+        let raised = lifted.net.capacity[p].map(|most| most + more);
+        lifted.net.capacity[p] = raised.filter(|&most| most <= MAX_WEIGHT);
         lifted.sheet.counts.iter_mut().for_each(|counts| counts[p] += more);
         if lifted.entries() > MAX_ENTRIES as usize {
             return self.clone();
@@ -117,7 +148,7 @@ impl Schedule {
 
     /// A further place that always holds `tokens`; some choice sets take some and put them back.
     pub fn add_place(&mut self, rng: &mut Rng, tokens: u64) {
-        let Net { taken, put, start } = &mut self.net;
+        let Net { taken, put, start, capacity } = &mut self.net;
         let before = taken.clone();
         for t in 0..before.len() {
             let is_source = before[t].iter().all(|&weight| weight == 0);
@@ -129,6 +160,9 @@ impl Schedule {
             taken[t].push(weight);
             put[t].push(weight);
         }
+        let most = tokens + taken.iter().map(|row| row[start.len()]).max().unwrap_or(0);
+        let fits = (1..=MAX_WEIGHT).contains(&most) && rng.chance(30);
+        capacity.push(fits.then_some(most));
         start.push(tokens);
         self.sheet.counts.iter_mut().for_each(|counts| counts.push(tokens));
     }
@@ -136,7 +170,7 @@ impl Schedule {
     /// A further transition that no node offers and that takes otherwise than all others; some put
     /// back what they take.
     fn add_transition(&mut self, rng: &mut Rng) {
-        let Net { taken, put, start } = &mut self.net;
+        let Net { taken, put, start, .. } = &mut self.net;
         let mut row = vec![0; start.len()];
         let most = if rng.chance(50) { 2 } else { MAX_WEIGHT };
         while taken.contains(&row) {
@@ -197,6 +231,7 @@ impl Schedule {
             taken: weights(&self.net.taken),
             put: weights(&self.net.put),
             start: by_place(&self.net.start),
+            capacity: places.iter().map(|&p| self.net.capacity[p]).collect(),
         };
         let by_transition =
             |row: &Vec<Option<usize>>| transitions.iter().map(|&t| row[t]).collect();

@@ -2,7 +2,7 @@
 
 use super::{
     refuse,
-    Position::{Entry, Nothing},
+    Position::{Entry, Nothing, Place},
     Refusal, LINES, MAX_WEIGHT,
 };
 
@@ -15,6 +15,8 @@ pub struct Net {
     pub put: Vec<Vec<u64>>,
     /// `start[p]`: what place p starts with.
     pub start: Vec<u64>,
+    /// `capacity[p]`: what place p can hold, nothing where that is any number.
+    pub capacity: Vec<Option<u64>>,
 }
 
 /// Whether keys rise and stay below an end: §2.3, §3.4.
@@ -47,7 +49,7 @@ impl Shape<'_> {
         }
         let [places, transitions, k] = [words[0], words[1], words[2]].map(u64::from);
         let fits = |lines: u64| (1..=LINES as u64).contains(&lines);
-        if !fits(places) || !fits(transitions) || k > (2 * transitions + 1) * places {
+        if !fits(places) || !fits(transitions) || k > (2 * transitions + 2) * places {
             return refuse(2, Nothing);
         }
         if words.len() as u64 != 3 + 2 * k {
@@ -59,18 +61,18 @@ impl Shape<'_> {
 
     /// The keys lie below this.
     fn end(&self) -> u64 {
-        (2 * self.transitions + 1) * self.places
+        (2 * self.transitions + 2) * self.places
     }
 
-    /// What a transition takes and puts at a place, and what the place starts with, each found by
-    /// halving, whether the keys rise or not.
-    pub fn halved(&self, transition: u64, place: u64) -> [u64; 3] {
+    /// What a transition takes and puts at a place, what the place starts with and its capacity,
+    /// each found by halving, whether the keys rise or not.
+    pub fn halved(&self, transition: u64, place: u64) -> [u64; 4] {
         let (t, end) = (transition, self.transitions);
         let at = |there_is: bool, row: u64| match there_is && place < self.places {
             true => self.halved_at(row * self.places + place),
             false => 0,
         };
-        [at(t < end, t), at(t < end, end + t), at(true, 2 * end)]
+        [at(t < end, t), at(t < end, end + t), at(true, 2 * end), at(true, 2 * end + 1)]
     }
 
     /// Halves the entries, with the middle rounded down and upwards past a key below the one asked
@@ -96,13 +98,16 @@ impl Net {
     /// The net's checks in their order: §7.55.
     pub fn read(words: &[u32]) -> Result<Net, Refusal> {
         let net = Net::entries(words)?;
+        if let Some(p) = (0..net.places()).find(|&p| !net.holds_at_most(p, net.start[p])) {
+            return refuse(26, Place(p));
+        }
         if net.sources().is_empty() {
             return refuse(5, Nothing);
         }
         Ok(net)
     }
 
-    /// A net's weights, with a source or without.
+    /// A net's weights, with a source or without, and whatever the places start with.
     pub fn spread_out(words: &[u32]) -> Option<Net> {
         Net::entries(words).ok()
     }
@@ -123,8 +128,8 @@ impl Net {
         Ok(Net::from_table(&table, shape.places as usize, shape.transitions as usize))
     }
 
-    /// The keys are rows of P places: what each transition takes, what each puts, the start; what
-    /// has no key is 0 (§2.8).
+    /// The keys are rows of P places: what each transition takes, what each puts, the start, the
+    /// capacities; a weight without a key is 0 (§2.8), a place without one has no capacity (§2.10).
     fn from_table(table: &[Option<u64>], p: usize, t: usize) -> Net {
         let row = |r: usize| -> Vec<u64> {
             table[r * p..(r + 1) * p].iter().map(|weight| weight.unwrap_or(0)).collect()
@@ -133,6 +138,7 @@ impl Net {
             taken: (0..t).map(row).collect(),
             put: (t..2 * t).map(row).collect(),
             start: row(2 * t),
+            capacity: table[(2 * t + 1) * p..].to_vec(),
         }
     }
 
@@ -144,12 +150,27 @@ impl Net {
         self.taken.len()
     }
 
-    /// §4.2
-    pub fn enabled(&self, marking: &[u64], t: usize) -> bool {
+    /// Whether a count is within the capacity of a place: §2.10.
+    pub fn holds_at_most(&self, p: usize, count: u64) -> bool {
+        self.capacity[p].map_or(true, |most| count <= most)
+    }
+
+    /// Every place holds what t takes: §4.2.
+    pub fn has_taken(&self, marking: &[u64], t: usize) -> bool {
         (0..self.places()).all(|p| marking[p] >= self.taken[t][p])
     }
 
-    /// §4.3, for an enabled t.
+    /// Every place into which t puts has room for it, before anything is taken: §4.5.
+    pub fn has_room(&self, marking: &[u64], t: usize) -> bool {
+        let fits = |p: usize, put: u64| put == 0 || self.holds_at_most(p, marking[p] + put);
+        (0..self.places()).all(|p| fits(p, self.put[t][p]))
+    }
+
+    pub fn enabled(&self, marking: &[u64], t: usize) -> bool {
+        self.has_taken(marking, t) && self.has_room(marking, t)
+    }
+
+    /// §4.3, where what t takes is there.
     pub fn fire(&self, marking: &[u64], t: usize) -> Vec<u64> {
         (0..self.places()).map(|p| marking[p] - self.taken[t][p] + self.put[t][p]).collect()
     }

@@ -40,6 +40,11 @@ impl Words {
         self.at(2 * self.transitions() * self.places() + p)
     }
 
+    /// The capacity of place p, nothing where the key is absent.
+    pub fn capacity(&self, p: u64) -> Option<u64> {
+        self.values.get(&((2 * self.transitions() + 1) * self.places() + p)).copied()
+    }
+
     pub fn all_taken(&self, t: u64) -> Vec<u64> {
         (0..self.places()).map(|p| self.taken(t, p)).collect()
     }
