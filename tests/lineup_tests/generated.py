@@ -18,7 +18,7 @@ def build():
 
 
 def lines(command, seed, count):
-    """The operation and the numbers of each part of generated cases."""
+    """The operation and the numbers of each part of generated cases; a call of the small panel is as the other."""
     build()
     done = subprocess.run([REFERENCE, command, str(seed), str(count)], capture_output=True, text=True, check=True)
     for line in done.stdout.splitlines():
@@ -27,7 +27,7 @@ def lines(command, seed, count):
         for part in rest.split(" | "):
             name, _, told = part.partition(" ")
             parts[name] = [int(word) for word in told.rpartition(":")[2].split()] if ":" in told else told
-        yield operation, parts
+        yield str(int(operation) % 100), parts
 
 
 def net_source(found, path="generated/net.txt"):

@@ -3,6 +3,9 @@ ghost use Prim.Native.Nat.{_≤_};
 ghost use lib.ListN.{length};
 use super::cases;
 use super::print;
+use mended::MendAnswer;
+use replay::ReplayAnswer;
+use schedule::Fired;
 use schedule::Walker;
 
 // The word at an index, 0 past the end.
@@ -44,17 +47,16 @@ fn walker(words: &[u32]) -> Walker {
     }
 }
 
-fn single_firing(net: &[u32], sheet: &[u32], from: Walker, t: u32, scratch: &mut [u32]) {
-    let fired = from.fire(net, sheet, t, scratch);
+fn fired(fired: Fired) {
     let answer = fired.answer;
     let next = fired.next;
     print::fire_answer(answer);
     print::walker(next);
 }
 
-// Makes the call of an operation and prints its answer. The words besides net and sheet are a record, a walker and the transition that
+// Makes a call with the larger scratch and prints its answer. The words besides net and sheet are a record, a walker and the transition that
 // it is to fire, or a transition and a place.
-fn call(
+fn larger_call(
     operation: u32,
     net: &[u32],
     sheet: &[u32],
@@ -67,11 +69,45 @@ fn call(
         2 => print::check_answer(schedule::check(net, sheet, scratch)),
         3 => print::verdict(schedule::place_bounds(net, sheet, out, scratch)),
         4 => fresh_walker(net),
-        5 => single_firing(net, sheet, walker(words), at(words, 33), scratch),
+        5 => fired(walker(words).fire(net, sheet, at(words, 33), scratch)),
         6 => print::run_answer(schedule::run(net, sheet, words, out, scratch)),
         7 => print::form_answer(minimize::minimal_form(net, sheet, out, scratch)),
         _ => weights(net, at(words, 0), at(words, 1)),
     }
+}
+
+// The same for a call of the small panel.
+fn panel_call(
+    operation: u32,
+    net: &[u32],
+    sheet: &[u32],
+    words: &[u32],
+    out: &mut [u32],
+    scratch: &mut [u32],
+) {
+    match operation {
+        102 => print::check_answer(panel::check(net, sheet, scratch)),
+        103 => print::verdict(panel::place_bounds(net, sheet, out, scratch)),
+        105 => fired(panel::fire(walker(words), net, sheet, at(words, 33), scratch)),
+        106 => print::run_answer(panel::run(net, sheet, words, out, scratch)),
+        _ => print::form_answer(panel::minimal_form(net, sheet, out, scratch)),
+    }
+}
+
+// Makes the call of an operation and prints its answer.
+fn call(
+    operation: u32,
+    net: &[u32],
+    sheet: &[u32],
+    words: &[u32],
+    out: &mut [u32],
+    scratch: &mut [u32],
+) {
+    if cases::on_panel(operation) {
+        panel_call(operation, net, sheet, words, out, scratch);
+        return;
+    }
+    larger_call(operation, net, sheet, words, out, scratch);
 }
 
 fn left_out(operation: u32, words: &[u32]) {
@@ -118,8 +154,25 @@ fn lending(operation: u32, net: &[u32], sheet: &[u32], words: &[u32], outs: usiz
     );
 }
 
+// The panel's replay or the other.
+fn replay_call(
+    operation: u32,
+    net: &[u32],
+    sheet: &[u32],
+    log: &[u32],
+    taken: &mut [u64],
+    put: &mut [u64],
+    scratch: &mut [u32],
+) -> ReplayAnswer {
+    if cases::on_panel(operation) {
+        return panel::replay(net, sheet, log, taken, put, scratch);
+    }
+    replay::replay(net, sheet, log, taken, put, scratch)
+}
+
 // The line of a replay, with the buffers lent to it.
 fn replayed(
+    operation: u32,
     net: &[u32],
     sheet: &[u32],
     log: &[u32],
@@ -127,7 +180,7 @@ fn replayed(
     put: &mut [u64],
     scratch: &mut [u32],
 ) {
-    print::replay_answer(replay::replay(net, sheet, log, taken, put, scratch));
+    print::replay_answer(replay_call(operation, net, sheet, log, taken, put, scratch));
     print::numbers(taken, 9);
     print::numbers(put, 9);
     print::scratch(scratch, 7);
@@ -136,6 +189,7 @@ fn replayed(
 
 // The line of a replay. Both output buffers hold 9 before the call, and scratch 7, in the lengths lent.
 fn lending_two(
+    operation: u32,
     net: &[u32],
     sheet: &[u32],
     log: &[u32],
@@ -151,6 +205,7 @@ fn lending_two(
     let mut put = [9u64; 9000];
     let mut scratch = [7u32; 9000];
     replayed(
+        operation,
         net,
         sheet,
         log,
@@ -160,9 +215,31 @@ fn lending_two(
     );
 }
 
+// The panel's mending or the other.
+fn mend_call(
+    operation: u32,
+    net: &[u32],
+    sheet: &[u32],
+    out: &mut [u32],
+    list: &mut [u32],
+    scratch: &mut [u32],
+) -> MendAnswer {
+    if cases::on_panel(operation) {
+        return panel::mend(net, sheet, out, list, scratch);
+    }
+    mend::mend(net, sheet, out, list, scratch)
+}
+
 // The line of a mending, with the buffers lent to it.
-fn mending(net: &[u32], sheet: &[u32], out: &mut [u32], list: &mut [u32], scratch: &mut [u32]) {
-    print::mend_answer(mend::mend(net, sheet, out, list, scratch));
+fn mending(
+    operation: u32,
+    net: &[u32],
+    sheet: &[u32],
+    out: &mut [u32],
+    list: &mut [u32],
+    scratch: &mut [u32],
+) {
+    print::mend_answer(mend_call(operation, net, sheet, out, list, scratch));
     print::out(out, 9);
     print::out(list, 9);
     print::scratch(scratch, 7);
@@ -170,7 +247,14 @@ fn mending(net: &[u32], sheet: &[u32], out: &mut [u32], list: &mut [u32], scratc
 }
 
 // The line of a mending. Both output buffers hold 9 before the call, and scratch 7, in the lengths lent.
-fn lending_list(net: &[u32], sheet: &[u32], outs: usize, lists: usize, scratches: usize)
+fn lending_list(
+    operation: u32,
+    net: &[u32],
+    sheet: &[u32],
+    outs: usize,
+    lists: usize,
+    scratches: usize,
+)
     requires { ⌜ outs ≤ 9000 ⌝ }
     requires { ⌜ lists ≤ 9000 ⌝ }
     requires { ⌜ scratches ≤ 9000 ⌝ }
@@ -179,6 +263,7 @@ fn lending_list(net: &[u32], sheet: &[u32], outs: usize, lists: usize, scratches
     let mut list = [9u32; 9000];
     let mut scratch = [7u32; 9000];
     mending(
+        operation,
         net,
         sheet,
         &mut out[..outs],
@@ -202,10 +287,10 @@ fn lent(
     requires { ⌜ scratches ≤ 9000 ⌝ }
 {
     if cases::replays(operation) {
-        lending_two(net, sheet, words, outs, seconds, scratches);
+        lending_two(operation, net, sheet, words, outs, seconds, scratches);
     } else {
         if cases::mends(operation) {
-            lending_list(net, sheet, outs, seconds, scratches);
+            lending_list(operation, net, sheet, outs, seconds, scratches);
         } else {
             lending(operation, net, sheet, words, outs, scratches);
         }

@@ -30,9 +30,22 @@ struct Buffers {
     rest: Text,
 }
 
+// Whether a number stands for a call of the small panel, which is that of the same call with the larger scratch, plus 100.
+pub(crate) fn on_panel(operation: u32) -> bool {
+    100 < operation
+}
+
+// The operation's number without those 100.
+fn kind(operation: u32) -> u32 {
+    if 100 < operation {
+        return operation - 100;
+    }
+    operation
+}
+
 // Whether an operation reads a sheet, and borrows scratch.
 pub(crate) fn reads_sheet(operation: u32) -> bool {
-    match operation {
+    match kind(operation) {
         1 | 4 | 8 => false,
         _ => true,
     }
@@ -40,7 +53,7 @@ pub(crate) fn reads_sheet(operation: u32) -> bool {
 
 // Whether an operation has one output buffer, which is of words.
 pub(crate) fn writes_out(operation: u32) -> bool {
-    match operation {
+    match kind(operation) {
         3 | 6 | 7 => true,
         _ => false,
     }
@@ -48,12 +61,12 @@ pub(crate) fn writes_out(operation: u32) -> bool {
 
 // Whether an operation is the replay, which has two output buffers, of numbers of 64 bits.
 pub(crate) fn replays(operation: u32) -> bool {
-    operation == 9
+    kind(operation) == 9
 }
 
 // Whether an operation is mending, which has two output buffers, of words.
 pub(crate) fn mends(operation: u32) -> bool {
-    operation == 10
+    kind(operation) == 10
 }
 
 // Whether an operation has a second output buffer.
@@ -77,12 +90,12 @@ fn has_record(operation: u32) -> bool {
     if replays(operation) {
         return true;
     }
-    operation == 6
+    kind(operation) == 6
 }
 
 // How many words a case has besides net, sheet and record or log: a node, 32 counts and a transition, or a transition and a place.
 fn further_words(operation: u32) -> u32 {
-    match operation {
+    match kind(operation) {
         5 => 34,
         8 => 2,
         _ => 0,
@@ -167,12 +180,23 @@ fn answered(operation: u32, buffer: &mut [u8], from: Text, into: &mut [u32]) -> 
     Next { more: true, rest }
 }
 
+// Whether a number stands for an operation; the panel has those that borrow scratch.
+fn stands(operation: u32) -> bool {
+    if 10 < kind(operation) {
+        return false;
+    }
+    if on_panel(operation) {
+        return reads_sheet(operation);
+    }
+    true
+}
+
 // Whether a number stands for no operation: 0 ends the cases, and so does the end of the input, which is read as 0.
 fn ends(operation: u32) -> bool {
     if operation == 0 {
         return true;
     }
-    if operation > 10 {
+    if !stands(operation) {
         print::text(b"no such call\n");
         return true;
     }

@@ -8,5 +8,6 @@ pub mod Replay
 pub mod Entries
 pub mod Mend
 pub mod Capacities
+pub mod Panel
 pub mod Examples
 pub mod Nine

@@ -49,10 +49,13 @@ module _ (net log : List ℕ) where
   unfolding putRow
   put-long = tabulate-length _ (petriNet net .places)
 
+  -- so both fit where the places do
+  pub rows-fit : (taken put : List ℕ) → ((petriNet net .places ≤ length taken) × (petriNet net .places ≤ length put))
+      ↔ ((length (takenRow (petriNet net) log) ≤ length taken) × (length (putRow (petriNet net) log) ≤ length put))
+  rows-fit taken put = (λ (t, u). (omega (arith, t, taken-long), omega (arith, u, put-long)), λ (t, u). (omega (arith, t, taken-long), omega (arith, u, put-long)))
+
 every : (net sheet log taken put : List ℕ) → EveryReplay net sheet log taken put
-every net sheet log taken put =
-    every-call-two (replay-law net sheet log) refl
-    (λ p. (λ (t, u). (omega (arith, t, taken-long net log), omega (arith, u, put-long net log)), λ (t, u). (omega (arith, t, taken-long net log), omega (arith, u, put-long net log))))
+every net sheet log taken put = every-call-two (replay-law net sheet log) refl (λ p. rows-fit net log taken put)
 
 -- ---- what is not read
 

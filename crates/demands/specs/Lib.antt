@@ -7,4 +7,5 @@ pub mod Replay
 pub mod Entries
 pub mod Mend
 pub mod Capacities
+pub mod Panel
 pub mod Examples

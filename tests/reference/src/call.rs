@@ -1,6 +1,6 @@
 //! A call with everything it lends, and what it leaves behind.
 
-use crate::model::{self, Walker, FORM, LINES, LIST, SCRATCH};
+use crate::model::{self, Walker, FORM, LINES, LIST, PANEL, SCRATCH};
 
 #[derive(Clone, Copy, PartialEq, Eq, PartialOrd, Ord)]
 pub enum Kind {
@@ -101,6 +101,8 @@ impl Kind {
 #[derive(Clone)]
 pub struct Call {
     pub kind: Kind,
+    /// Whether it is the small panel's: request #107, §10.20.
+    pub panel: bool,
     pub net: Vec<u32>,
     pub sheet: Vec<u32>,
     pub record: Vec<u32>,
@@ -128,6 +130,7 @@ impl Call {
     pub fn new(kind: Kind, net: &[u32], sheet: &[u32]) -> Call {
         Call {
             kind,
+            panel: false,
             net: net.to_vec(),
             sheet: sheet.to_vec(),
             record: Vec::new(),
@@ -140,8 +143,33 @@ impl Call {
         }
     }
 
-    /// What the model leaves behind.
+    /// The operation's number in a case: the panel's calls have 100 more.
+    pub fn operation(&self) -> u32 {
+        self.kind.operation() + 100 * u32::from(self.panel)
+    }
+
+    /// The words of scratch below which it is refused by 21.
+    pub fn limit(&self) -> usize {
+        if self.panel {
+            PANEL
+        } else {
+            SCRATCH
+        }
+    }
+
+    /// What the model leaves behind. On the panel that is what the call leaves with a larger scratch,
+    /// but for the scratch: §10.20.
     pub fn put(&self) -> Outcome {
+        if !self.panel {
+            return self.put_larger();
+        }
+        let (mut scratch, passes) = (self.scratch.clone(), self.scratch.len() >= PANEL);
+        let larger = vec![0; if passes { SCRATCH } else { 0 }];
+        scratch.iter_mut().take(if passes { PANEL } else { 0 }).for_each(|word| *word = 0);
+        Outcome { scratch, ..Call { scratch: larger, ..self.clone() }.put_larger() }
+    }
+
+    fn put_larger(&self) -> Outcome {
         let Call { net, sheet, record, transition, .. } = self;
         let Call { mut walker, mut out, mut list, mut sums, mut scratch, .. } = self.clone();
         let reply = match self.kind {

@@ -9,7 +9,7 @@ pub mod stale;
 pub mod variants;
 
 use crate::call::{Call, Kind};
-use crate::model::{Net, Walker, FORM, LINES, MAX_WEIGHT, SCRATCH};
+use crate::model::{Net, Walker, FORM, LINES, MAX_WEIGHT, PANEL, SCRATCH};
 use crate::text::Case;
 use rng::Rng;
 use schedules::{net_words, Schedule};
@@ -158,7 +158,11 @@ pub fn call(rng: &mut Rng) -> Call {
         [call.out, call.list] = lengths.map(|needed| roomy(rng, needed));
     }
     call.sums = [0, 1].map(|_| sums(rng, schedule.net.places()));
-    call.scratch = scratch(rng);
+    call.scratch = scratch(rng, SCRATCH);
+    if kind.reads_sheet() && rng.chance(25) {
+        call.panel = true;
+        call.scratch = scratch(rng, PANEL);
+    }
     call
 }
 
@@ -252,13 +256,15 @@ fn lent(rng: &mut Rng, needed: usize) -> usize {
     }
 }
 
-/// Scratch of 8,192 words, or one less, or others, never cleared.
-fn scratch(rng: &mut Rng) -> Vec<u32> {
+/// Scratch of as many words as are asked, or one less, or one more, or others, never cleared.
+fn scratch(rng: &mut Rng, asked: usize) -> Vec<u32> {
     let length = match rng.below(20) {
-        0 => SCRATCH - 1,
-        1 => rng.below(SCRATCH),
-        2..=4 => SCRATCH + 8,
-        _ => SCRATCH,
+        0 => asked - 1,
+        1 => rng.below(asked),
+        2 => asked + 1,
+        3..=4 => asked + 8,
+        5 => SCRATCH,
+        _ => asked,
     };
     rng.words(length)
 }

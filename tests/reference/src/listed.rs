@@ -1,5 +1,6 @@
 //! The worked examples, §14.2 to §14.8 and §14.16, with their answers, and logs whose replay is told by hand.
 
+use crate::call::{Call, Kind};
 use crate::generate::rng::Rng;
 use crate::generate::schedules::{crowded, net_words, nine_nodes, ring};
 use crate::model::{self, Net, Sheet, FORM, LIST, SCRATCH};
@@ -252,6 +253,18 @@ fn limits(tally: &mut Tally) {
     tally.same("weight past the limit", weight(1_000_000_001), [4, 1, 0, 0, 0, 0]);
     let lent = |scratch: usize| sheet_check(&[1, 1, 0], &lone, scratch)[0];
     tally.same("scratch of 8,192 and 8,191", [lent(8_192), lent(8_191)], [0, 21]);
+    for kind in [Kind::SheetCheck, Kind::PlaceBounds, Kind::Run, Kind::ShortForm, Kind::Mend] {
+        let panel = |scratch: usize| {
+            let call = Call::new(kind, &[1, 1, 0], &lone);
+            let outcome = Call { panel: true, scratch: vec![7; scratch], ..call }.put();
+            let cleared = outcome.scratch.iter().take_while(|&&word| word == 0).count();
+            (outcome.reply[0], cleared, outcome.scratch.iter().filter(|&&word| word == 7).count())
+        };
+        tally.same("scratch of 1,023 on the panel", panel(1_023), (21, 0, 1_023));
+        tally.same("scratch of 1,024 on the panel", panel(1_024), (0, 1_024, 0));
+        tally.same("scratch of 1,025 on the panel", panel(1_025), (0, 1_024, 1));
+        tally.same("scratch of 8,192 on the panel", panel(8_192), (0, 1_024, 7_168));
+    }
 }
 
 /// One node with an arc to itself for each of t sources.

@@ -9,6 +9,7 @@ mod generate;
 mod listed;
 mod mending;
 mod model;
+mod panel;
 mod program;
 mod second;
 mod selftest;

@@ -20,6 +20,8 @@ pub const MAX_WEIGHT: u64 = 1_000_000_000;
 pub const MAX_FIRINGS: u64 = 4_096;
 /// Words of scratch below which a call is refused by 21: §1.6.
 pub const SCRATCH: usize = 8_192;
+/// The same for the small panel: §1.12.
+pub const PANEL: usize = 1_024;
 /// Words that every short form and every mended sheet fits in: §11.7.
 pub const FORM: usize = 8_194;
 /// Words that every list of changes fits in, one change for each of 32 places at 128 nodes: §10.16.

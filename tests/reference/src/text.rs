@@ -15,6 +15,8 @@
 //! | 9 replay | net, sheet, log, taken, put, scratch |
 //! | 10 mending | net, sheet, out, list, scratch |
 //!
+//! A call of the small panel has its operation's number plus 100; operations without scratch have none.
+//!
 //! Net, sheet, record and log are their length and their words; out, list, taken, put and scratch the
 //! length lent: these hold 9 before the call, and scratch 7. Numbers are decimal and parted by
 //! anything that is no digit; `#` starts a comment that ends with the line. 0 for an operation, or the
@@ -33,6 +35,8 @@ pub enum Case {
 }
 
 const WEIGHTS: u32 = 8;
+/// What the numbers of the panel's calls have more.
+const PANEL: u32 = 100;
 
 // ---- Reading ----
 
@@ -77,10 +81,14 @@ impl Case {
             let (transition, place) = (from.next(), from.next());
             return Some(Case::Weights { net, transition, place });
         }
-        let kind = Kind::ALL.into_iter().find(|kind| kind.operation() == operation)?;
+        let (panel, number) = (operation > PANEL, operation % PANEL);
+        let kind = Kind::ALL.into_iter().find(|kind| kind.operation() == number)?;
+        if operation > 2 * PANEL || panel && !kind.reads_sheet() {
+            return None;
+        }
         let net = from.words();
         let sheet = if kind.reads_sheet() { from.words() } else { Vec::new() };
-        let mut call = Call::new(kind, &net, &sheet);
+        let mut call = Call { panel, ..Call::new(kind, &net, &sheet) };
         if kind.has_record() {
             call.record = from.words();
         }
@@ -131,7 +139,7 @@ impl Case {
 
 impl Call {
     pub fn text(&self) -> String {
-        let mut text = format!("{} net {}", self.kind.operation(), counted(&self.net));
+        let mut text = format!("{} net {}", self.operation(), counted(&self.net));
         if self.kind.reads_sheet() {
             text += &format!(" | sheet {}", counted(&self.sheet));
         }

@@ -1,0 +1,150 @@
+-- What is promised of the calls for the small panel (§13.16): each does what the other call does, from less scratch. proofs/Panel has a term for the record.
+use Prim.Native.Nat.{ℕ, _+_, _*_, _≤_, _<_}
+use mathlib.Core.Path.{_≡_}
+use mathlib.Core.Logic.{_↔_, _⊎_, inl, inr}
+use mathlib.Core.List.{List, [], _∷_, _++_}
+use lib.ListN.{length, getD, take}
+use Rattle.automaton.specs.Automaton.{SameLists}
+use Rattle.refusal.specs.Limits.{scratchLimit, mostEntries}
+use Rattle.refusal.specs.Refusal.{plainOf}
+use Rattle.refusal.specs.Checks.{Check, once}
+use Rattle.net.specs.Checks.{netChecks}
+use Rattle.sequential.specs.Petri.{petriNet}
+use Rattle.sequential.specs.Checks.{sheetChecks}
+use Rattle.judge.specs.Answer.{plainCheck}
+use Rattle.judge.specs.declared.CheckAnswer.{CheckAnswer}
+use Rattle.call.specs.Demands.{number, own, callChecks, EveryCall}
+use Rattle.schedule.specs.Calls.{CheckDone, BoundsDone, FireDone, RunDone}
+use Rattle.schedule.specs.Plain.{plainFire, plainRun}
+use Rattle.schedule.specs.Walker.{walkerChecks, runChecks}
+use Rattle.schedule.specs.declared.Walker.{Walker}
+use Rattle.replay.specs.Checks.{replayChecks}
+use Rattle.replay.specs.Calls.{ReplayDone}
+use Rattle.replay.specs.Plain.{plainReplay}
+use Rattle.minimal.specs.Form.{plainForm, FormDone}
+use Rattle.minimal.specs.declared.FormAnswer.{FormAnswer}
+use Rattle.mended.specs.Checks.{mendChecks}
+use Rattle.mended.specs.Call.{plainMend, MendDone}
+use Rattle.panel.specs.Calls.{panelLimit, PanelCheckDone, PanelBoundsDone, PanelFireDone, PanelRunDone, PanelFormDone, PanelReplayDone, PanelMendDone}
+use Rattle.demands.specs.Terms.{said, Accepted}
+use Rattle.demands.specs.Demand3.{Form, size}
+
+-- ---- the same from less scratch
+
+-- A panel's call and the other, by their postconditions: of scratch before, the answer, what the call may change, and scratch after. From scratch that
+-- passes in both, the answer is one and so is what is left.
+abbrev pub SameOnPanel : {Answer Left : Type 0} → (List ℕ → Answer → Left → List ℕ → Type 0) → (List ℕ → Answer → Left → List ℕ → Type 0) → Type 0
+SameOnPanel {Answer} {Left} Panel Other = (s t s′ t′ : List ℕ) (a b : Answer) (left right : Left) → panelLimit ≤ length s → scratchLimit ≤ length t
+    → Panel s a left s′ → Other t b right t′ → (a ≡ b) × (left ≡ right)
+
+-- ---- each by its checks
+
+-- all that a panel's call checks, but for mending: 1,024 words of scratch, and then what the other call checks
+abbrev pub panelChecks : List ℕ → List ℕ → List Check → List ℕ → List Check
+panelChecks net sheet besides scratch = callChecks panelLimit scratch ((netChecks net ++ sheetChecks (petriNet net) sheet) ++ besides)
+
+-- all that the panel's mending checks, which has an order of its own (§7.62); room for both results comes last
+abbrev pub panelMendChecks : List ℕ → List ℕ → Type 0 → List ℕ → List Check
+panelMendChecks net sheet Room scratch = callChecks panelLimit scratch ((netChecks net ++ mendChecks (petriNet net) sheet) ++ (once Room 22 ∷ []))
+
+-- ---- demand 3
+
+-- some call of the panel's schedule check answered 0
+pub record PanelAccepted (net sheet : List ℕ) : Type 0 where
+  pub scratch : List ℕ
+  pub scratch′ : List ℕ
+  pub answer : CheckAnswer
+  pub done : PanelCheckDone net sheet scratch answer scratch′
+  pub zero : number (plainCheck answer) ≡ 0
+
+-- every call of the panel's schedule check that is lent scratch enough answers 0
+abbrev pub AlwaysPanelAccepted : List ℕ → List ℕ → Type 0
+AlwaysPanelAccepted net sheet = (scratch scratch′ : List ℕ) (answer : CheckAnswer) → panelLimit ≤ length scratch
+    → PanelCheckDone net sheet scratch answer scratch′ → number (plainCheck answer) ≡ 0
+
+-- a call of the panel's minimal form that answered 0
+pub record PanelForm (net sheet : List ℕ) : Type 0 where
+  pub out : List ℕ
+  pub scratch : List ℕ
+  pub answer : FormAnswer
+  pub out′ : List ℕ
+  pub scratch′ : List ℕ
+  pub done : PanelFormDone net sheet out scratch answer out′ scratch′
+  pub zero : number (plainForm answer) ≡ 0
+
+-- a call of either kind that answered 0, the panel's or the other: of the check, and of the minimal form
+abbrev pub EitherAccepted : List ℕ → List ℕ → Type 0
+EitherAccepted net sheet = PanelAccepted net sheet ⊎ Accepted net sheet
+
+abbrev pub EitherForm : List ℕ → List ℕ → Type 0
+EitherForm net sheet = PanelForm net sheet ⊎ Form net sheet
+
+-- the length that it answered, what its buffer held afterwards, and so many words of that: §11.7
+module _ {net sheet : List ℕ} where
+  abbrev pub eitherSize : EitherForm net sheet → ℕ
+  eitherSize (inl c) = own (plainForm (c .answer)) 0
+  eitherSize (inr c) = size c
+
+  abbrev pub eitherOut : EitherForm net sheet → List ℕ
+  eitherOut (inl c) = c .out′
+  eitherOut (inr c) = c .out′
+
+  abbrev pub eitherMade : EitherForm net sheet → List ℕ
+  eitherMade c = take (eitherSize c) (eitherOut c)
+
+-- equal in length and word for word: §11.8
+pub record EitherSameWords {net x y : List ℕ} (a : EitherForm net x) (b : EitherForm net y) : Type 0 where
+  pub lengths : eitherSize a ≡ eitherSize b
+  pub words : (i : ℕ) → i < eitherSize a → getD (eitherOut a) i 0 ≡ getD (eitherOut b) i 0
+
+-- the larger scratch gives this answer and leaves these words in the same buffer, so that what demand 3 says of the one call holds of the other
+pub record AsOther {net sheet : List ℕ} (c : PanelForm net sheet) : Type 0 where
+  pub other : Form net sheet
+  pub out : other .out ≡ c .out
+  pub answer : other .answer ≡ c .answer
+  pub out′ : other .out′ ≡ c .out′
+
+-- ---- all of it
+
+pub record PanelDemand : Type 0 where
+  -- the same reply, walker and output buffers as from the larger scratch, whatever is handed in and whatever the buffers held
+  pub check : (net sheet : List ℕ) → SameOnPanel {Left = Unit} (λ s a left s′. PanelCheckDone net sheet s a s′) (λ s a left s′. CheckDone net sheet s a s′)
+  pub place-bounds : (net sheet out : List ℕ) → SameOnPanel (PanelBoundsDone net sheet out) (BoundsDone net sheet out)
+  pub fire : (net sheet : List ℕ) (w : Walker) (t : ℕ)
+      → SameOnPanel (λ s a next s′. PanelFireDone net sheet s w t a next s′) (λ s a next s′. FireDone net sheet s w t a next s′)
+  pub run : (net sheet firings out : List ℕ) → SameOnPanel (PanelRunDone net sheet firings out) (RunDone net sheet firings out)
+  pub minimal-form : (net sheet out : List ℕ) → SameOnPanel (PanelFormDone net sheet out) (FormDone net sheet out)
+  pub replay : (net sheet log taken put : List ℕ)
+      → SameOnPanel {Left = List ℕ × List ℕ} (λ s a left s′. PanelReplayDone net sheet log taken put s a (left .0) (left .1) s′)
+      (λ s a left s′. ReplayDone net sheet log taken put s a (left .0) (left .1) s′)
+  pub mend : (net sheet out list : List ℕ)
+      → SameOnPanel {Left = List ℕ × List ℕ} (λ s a left s′. PanelMendDone net sheet out list s a (left .0) (left .1) s′)
+      (λ s a left s′. MendDone net sheet out list s a (left .0) (left .1) s′)
+  -- as every call (§13.1), with 1,024 for 8,192: 21 exactly below that, and scratch cleared so far
+  pub every-check : (net sheet : List ℕ) → EveryCall {Left = Unit} panelLimit plainCheck 3 (panelChecks net sheet []) tt (λ s a left s′. PanelCheckDone net sheet s a s′)
+  pub every-bounds : (net sheet out : List ℕ)
+      → EveryCall panelLimit plainOf 0 (panelChecks net sheet (once (petriNet net .places ≤ length out) 22 ∷ [])) out (PanelBoundsDone net sheet out)
+  pub every-fire : (net sheet : List ℕ) (w : Walker) (t : ℕ)
+      → EveryCall panelLimit plainFire 1 (panelChecks net sheet (walkerChecks (petriNet net) sheet w t)) w (λ s a next s′. PanelFireDone net sheet s w t a next s′)
+  pub every-run : (net sheet firings out : List ℕ)
+      → EveryCall panelLimit plainRun 3 (panelChecks net sheet (runChecks (petriNet net) sheet firings ++ (once (petriNet net .places ≤ length out) 22 ∷ []))) out
+      (PanelRunDone net sheet firings out)
+  pub every-form : (net sheet : List ℕ) → (needed : ℕ)
+      × ((out : List ℕ) → EveryCall panelLimit plainForm 1 (panelChecks net sheet (once (needed ≤ length out) 22 ∷ [])) out (PanelFormDone net sheet out))
+  pub every-replay : (net sheet log taken put : List ℕ)
+      → EveryCall {Left = List ℕ × List ℕ} panelLimit plainReplay 3
+      (panelChecks net sheet (replayChecks (petriNet net) sheet log ++ (once ((petriNet net .places ≤ length taken) × (petriNet net .places ≤ length put)) 22 ∷ [])))
+      (taken, put) (λ s a left s′. PanelReplayDone net sheet log taken put s a (left .0) (left .1) s′)
+  pub every-mend : (net sheet : List ℕ) → (forSheet : ℕ) × (forList : ℕ)
+      × ((out list : List ℕ) → EveryCall {Left = List ℕ × List ℕ} panelLimit plainMend 2 (panelMendChecks net sheet ((forSheet ≤ length out) × (forList ≤ length list)))
+      (out, list) (λ s a left s′. PanelMendDone net sheet out list s a (left .0) (left .1) s′))
+  -- demand 3 of two calls of the panel, and of one of each kind: §11.9
+  pub accepted-alike : (net sheet : List ℕ) → PanelAccepted net sheet ↔ Accepted net sheet
+  pub equal : (net x y : List ℕ) → EitherAccepted net x → EitherAccepted net y → (a : EitherForm net x) (b : EitherForm net y)
+      → EitherSameWords a b ↔ SameLists (said net x) (said net y) 0 0
+  pub as-other : (net sheet : List ℕ) (c : PanelForm net sheet) → AsOther c
+  pub accepted : (net sheet : List ℕ) → EitherAccepted net sheet → (c : EitherForm net sheet) → AlwaysPanelAccepted net (eitherMade c)
+  pub same-lists : (net sheet : List ℕ) → EitherAccepted net sheet → (c : EitherForm net sheet) → SameLists (said net (eitherMade c)) (said net sheet) 0 0
+  -- and the panel's form is to be had: §11.7
+  pub there-is : (net sheet out scratch : List ℕ) → EitherAccepted net sheet → panelLimit ≤ length scratch → 2 + 2 * mostEntries ≤ length out
+      → (c : PanelForm net sheet) × (c .out ≡ out) × (c .scratch ≡ scratch)

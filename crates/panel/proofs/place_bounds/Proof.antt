@@ -1,0 +1,29 @@
+-- `panel::place_bounds` meets its contract.
+use mathlib.Core.Path.{sym, _∙_}
+use Rattle.call.proofs.Laws.{refused-scratch, served}
+use borrow.Author.Needs.{needs}
+use Rattle.panel.proofs.place_bounds.Statement.{statement}
+use Rattle.panel.proofs.place_bounds.Tie as tie
+
+returns : tie.Need-returns
+returns c = refused-scratch (sym (c .before .before .measured .ensures) ∙ c .enum-told .given .1) (c .enum-told .given .1)
+
+returns-2 : tie.Need-returns-2
+returns-2 c =
+    let b = c .before .before .before .before .before .before .before .before in
+    served (sym (b .before .before .measured .ensures) ∙ b .enum-told2 .given .1) (c .before .before .before .before .before .before .bounds-into .ensures)
+    (c .before .before .clear .ensures)
+
+pub place-bounds-spec : {M : Type 1} → statement M
+place-bounds-spec =
+    tie.close
+    (tie.spec
+    (λ c κs. search needs)
+    (λ c. search needs)
+    returns
+    (λ c. search needs)
+    (λ c κs. search needs)
+    (λ c κs. search needs)
+    (λ c. search needs)
+    (λ c. search needs)
+    returns-2)
