@@ -138,7 +138,8 @@ module _ {starts net sheet leaders : List ℕ} {source transitions nodes : ℕ} 
   rest e =
       let q = e ∙ s .ground .nodes-are in
       orElse-next _ _ (rw q at (s .passed))
-      ∙ ap (λ (b : Bool). when b (refusal 13 (Node 0))) (root-mark (netByRows net) (graphByRows starts net sheet) (graphByRows starts net sheet .nodes) ∙ ap (λ (l : List ℕ). eqb (getD l 0 0) 0) (sym (all-marks e)))
+      ∙ ap (λ (b : Bool). when b (refusal 13 (Node 0)))
+      (root-mark (netByRows net) (graphByRows starts net sheet) (graphByRows starts net sheet .nodes) ∙ ap (λ (l : List ℕ). eqb (getD l 0 0) 0) (sym (all-marks e)))
 
   pub busy-root : (a : NodesAnswer) → n ≡ nodes → getD awaits 0 0 ≡ 0 → a ≡ nodesRefused (refusal 13 (Node 0)) → a ≡ nodesReply starts net sheet
   unfolding nodesReply when

@@ -1,6 +1,9 @@
+-- what the rows tell
 pub mod Rows
 pub mod Choices
+-- what a node offers, and all nodes
 pub mod Offer
 pub mod Answer
+-- what that says of the schedule
 pub mod Right
 pub mod Demands

@@ -1,7 +1,9 @@
+-- the three demands
 pub mod Checked
 pub mod Demand1
 pub mod Demand2
 pub mod Demand3
+-- what is promised beside them, request by request
 pub mod Further
 pub mod BesideRun
 pub mod Replay
@@ -9,5 +11,6 @@ pub mod Entries
 pub mod Mend
 pub mod Capacities
 pub mod Panel
+-- worked examples
 pub mod Examples
 pub mod Nine

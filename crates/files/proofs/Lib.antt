@@ -1,7 +1,10 @@
+-- what is read
 pub mod Decoding
 pub mod Replies
+-- what is printed, and that it has room
 pub mod Longest
 pub mod Printing
 pub mod Whole
+-- worked examples, and the promises
 pub mod Examples
 pub mod Demands

@@ -1,7 +1,10 @@
+-- words that can be read
 pub mod Readable
+-- a node's rows and arcs
 pub mod Starts
 pub mod HasRow
 pub mod Rows
 pub mod LookUp
 pub mod ArcCount
+-- the promises
 pub mod Demands

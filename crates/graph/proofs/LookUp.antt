@@ -53,7 +53,8 @@ module _ {starts : List ℕ} (q : starts ≡ page) (net sheet : List ℕ) (r : A
         | yes l ↦
             let m : n < 128 = omega arith in
             byTest (ltb t (transitionCount net))
-            (λ e. rw (lt-ltb n (nodeCount sheet) l, e, has-row net sheet n r l, arcs-start-is q net n m (s .some-transition) (s .few-transitions)) (look-up sheet 2 (entryCount sheet) _ (words-rise _ sheet w) (words-fit _ sheet w)))
+            (λ e. rw (lt-ltb n (nodeCount sheet) l, e, has-row net sheet n r l, arcs-start-is q net n m (s .some-transition) (s .few-transitions))
+            (look-up sheet 2 (entryCount sheet) _ (words-rise _ sheet w) (words-fit _ sheet w)))
             (λ e. rw (lt-ltb n (nodeCount sheet) l, e))
         | no l ↦
             let h : hasRow net sheet n ≡ false = not-true→false _ (λ h. let k = has-row-out net sheet n h .node in omega arith) in

@@ -1,7 +1,11 @@
+-- the nodes in the order in which they are found
 pub mod Searches
+-- a place's counts along it
 pub mod Reading
 pub mod Filling
+-- a node's row again, and what is written
 pub mod Climbing
 pub mod Writes
+-- the call
 pub mod Measuring
 pub mod Done

@@ -1,7 +1,10 @@
+-- classes
 pub mod Agree
 pub mod Leaders
+-- numbers
 pub mod SearchState
 pub mod SearchArcs
 pub mod SearchOrder
+-- words
 pub mod NewNodes
 pub mod Writing

@@ -1,9 +1,12 @@
+-- the words
 pub mod Words
 pub mod Entries
+-- the tests and the clauses that they decide
 pub mod Choices
 pub mod FreeChoice
 pub mod Clauses
 pub mod Faults
+-- what follows of an accepted schedule
 pub mod Accepted
 pub mod Runs
 pub mod Capacities
@@ -11,4 +14,5 @@ pub mod Published
 pub mod Paths
 pub mod Numbers
 pub mod Bounds
+-- words past the longest
 pub mod Cut

@@ -27,13 +27,17 @@ returns-2 c =
     let l = c .before .before .before .before .before .before in
     let (m, s) = l .loop .inv in
     refused-at s _ _ (c .before .before .before .before .before .loop-test .taken)
-    (rw (c .before .enum-told2 .given .1) at (row-tells (s .ground) _ _ _ (c .before .before .before .before .arc-entries .ensures) (c .before .before .before .offered .ensures))) (c .refused2 .ensures)
+    (rw (c .before .enum-told2 .given .1) at (row-tells (s .ground) _ _ _ (c .before .before .before .before .arc-entries .ensures) (c .before .before .before .offered .ensures)))
+    (c .refused2 .ensures)
 
 loop-again : tie.Need-loop-again Inv-loop μ-loop
 loop-again c =
     let o = c .before .before .before .before in
-    let (m, s) = o .before .before .before .loop .inv in
-    (omega arith, passes-at s _ _ (o .before .before .loop-test .taken) (rw (c .before .before .offer .given .1) at (row-tells (s .ground) _ _ _ (o .before .arc-entries .ensures) (o .offered .ensures))) (c .mark-if .ensures))
+    let (m, s) = o .before .before .before .loop .inv in (
+      omega arith,
+      passes-at s _ _ (o .before .before .loop-test .taken)
+          (rw (c .before .before .offer .given .1) at (row-tells (s .ground) _ _ _ (o .before .arc-entries .ensures) (o .offered .ensures))) (c .mark-if .ensures),
+    )
 
 returns-3 : tie.Need-returns-3 Inv-loop μ-loop
 returns-3 c = busy-root (c .before .before .before .loop .inv .1) _ (omega arith) (c .before .if1 .taken) (c .refused3 .ensures)
@@ -44,29 +48,7 @@ returns-4 c = all-pass (c .before .before .loop .inv .1) (omega arith) (omega ar
 pub nodes-spec : {M : Type 1} → statement M
 nodes-spec =
     tie.close
-    (tie.spec
-    Inv-loop
-    μ-loop
-    (λ c κs. search needs)
-    (λ c κs. search needs)
-    (λ c κs. search needs)
-    loop-holds
-    (λ c. search needs)
-    (λ c κs. search needs)
-    (λ c κs. search needs)
-    (λ c. search needs)
-    (λ c κs. search needs)
-    returns
-    (λ c. search needs)
-    (λ c κs. search needs)
-    returns-2
-    (λ c. search needs)
-    (λ c κs. search needs)
-    (λ c. search needs)
-    (λ c. search needs)
-    (λ c. search needs)
-    loop-again
-    (λ c. search needs)
-    (λ c κs. search needs)
-    returns-3
-    returns-4)
+    (tie.spec Inv-loop μ-loop (λ c κs. search needs) (λ c κs. search needs) (λ c κs. search needs) loop-holds (λ c. search needs)
+    (λ c κs. search needs) (λ c κs. search needs) (λ c. search needs) (λ c κs. search needs) returns (λ c. search needs) (λ c κs. search needs)
+    returns-2 (λ c. search needs) (λ c κs. search needs) (λ c. search needs) (λ c. search needs) (λ c. search needs) loop-again (λ c. search needs)
+    (λ c κs. search needs) returns-3 returns-4)

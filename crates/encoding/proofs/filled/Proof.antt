@@ -37,5 +37,5 @@ returns c = let e : c .before .loop .c ≡ 32 = omega arith in rw e at (c .befor
 pub filled-spec : {M : Type 1} → statement M
 filled-spec =
     tie.close
-    (tie.spec Inv-loop μ-loop loop-holds (λ c. search needs) (λ c. search needs) (λ c. omega arith) add-entries (λ c. omega arith) loop-again (λ c. omega arith)
-    loop-again-2 returns)
+    (tie.spec Inv-loop μ-loop loop-holds (λ c. search needs) (λ c. search needs) (λ c. omega arith) add-entries (λ c. omega arith) loop-again (λ c.
+    omega arith) loop-again-2 returns)

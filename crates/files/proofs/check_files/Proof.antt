@@ -25,14 +25,5 @@ returns c =
 pub check-files-spec : {M : Type 1} → statement M
 check-files-spec =
     tie.close
-    (tie.spec
-    (λ c κs. search needs)
-    (λ c κs. search needs)
-    slice-reshare-prefix-check-read
-    slice-aggregate-check-read
-    slice-reshare-prefix-check-read-2
-    slice-aggregate-check-read-2
-    (λ c κs. search needs)
-    (λ c. search needs)
-    (λ c. search needs)
-    returns)
+    (tie.spec (λ c κs. search needs) (λ c κs. search needs) slice-reshare-prefix-check-read slice-aggregate-check-read
+    slice-reshare-prefix-check-read-2 slice-aggregate-check-read-2 (λ c κs. search needs) (λ c. search needs) (λ c. search needs) returns)

@@ -20,12 +20,4 @@ returns-4 c = (c .check2) .ensures ∙ no-tail _ _ _ _ ((c .before .before .if1)
 pub check-read-spec : {M : Type 1} → statement M
 check-read-spec =
     tie.close
-    (tie.spec
-    returns
-    (λ c κs. search needs)
-    (λ c. search needs)
-    returns-2
-    (λ c. search needs)
-    returns-3
-    (λ c κs. search needs)
-    returns-4)
+    (tie.spec returns (λ c κs. search needs) (λ c. search needs) returns-2 (λ c. search needs) returns-3 (λ c κs. search needs) returns-4)

@@ -56,22 +56,6 @@ returns-2 c =
 pub print-accepted-spec : {M : Type 1} → statement M
 print-accepted-spec =
     tie.close
-    (tie.spec
-    (λ c κs. search needs)
-    (λ c. search needs)
-    (λ c κs. search needs)
-    (λ c. search needs)
-    (λ c κs. search needs)
-    (λ c κs. search needs)
-    (λ c. search needs)
-    array-share-prefix-bounds
-    slice-aggregate-accepted-lines
-    slice-reshare-prefix-accepted-lines
-    slice-aggregate-accepted-lines-2
-    (λ c κs. search needs)
-    (λ c. search needs)
-    (λ c. search needs)
-    returns
-    (λ c. search needs)
-    (λ c. search needs)
-    returns-2)
+    (tie.spec (λ c κs. search needs) (λ c. search needs) (λ c κs. search needs) (λ c. search needs) (λ c κs. search needs) (λ c κs. search needs)
+    (λ c. search needs) array-share-prefix-bounds slice-aggregate-accepted-lines slice-reshare-prefix-accepted-lines slice-aggregate-accepted-lines-2
+    (λ c κs. search needs) (λ c. search needs) (λ c. search needs) returns (λ c. search needs) (λ c. search needs) returns-2)

@@ -35,22 +35,6 @@ returns-2 c =
 pub print-files-spec : {M : Type 1} → statement M
 print-files-spec =
     tie.close
-    (tie.spec
-    (λ c κs. search needs)
-    (λ c. search needs)
-    (λ c κs. search needs)
-    (λ c. search needs)
-    slice-reshare-prefix-print-accepted
-    slice-aggregate-print-accepted
-    slice-reshare-prefix-print-accepted-2
-    slice-aggregate-print-accepted-2
-    print-accepted-requires
-    (λ c. search needs)
-    (λ c. search needs)
-    (λ c. search needs)
-    returns
-    (λ c. search needs)
-    (λ c. search needs)
-    (λ c. search needs)
-    (λ c. search needs)
-    returns-2)
+    (tie.spec (λ c κs. search needs) (λ c. search needs) (λ c κs. search needs) (λ c. search needs) slice-reshare-prefix-print-accepted
+    slice-aggregate-print-accepted slice-reshare-prefix-print-accepted-2 slice-aggregate-print-accepted-2 print-accepted-requires (λ c. search needs)
+    (λ c. search needs) (λ c. search needs) returns (λ c. search needs) (λ c. search needs) (λ c. search needs) (λ c. search needs) returns-2)

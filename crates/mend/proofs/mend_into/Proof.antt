@@ -65,25 +65,6 @@ returns-4 c =
 pub mend-into-spec : {M : Type 1} → statement M
 mend-into-spec =
     tie.close
-    (tie.spec
-    measured-requires
-    (λ c. search needs)
-    returns
-    (λ c. search needs)
-    mul-t18
-    add-t19
-    mul-output-fault
-    add-output-fault
-    (λ c κs. search needs)
-    (λ c. search needs)
-    returns-2
-    (λ c. search needs)
-    (λ c κs. search needs)
-    (λ c. search needs)
-    returns-3
-    (λ c. search needs)
-    write-sheet-requires
-    write-list-requires
-    (λ c. search needs)
-    (λ c. search needs)
-    returns-4)
+    (tie.spec measured-requires (λ c. search needs) returns (λ c. search needs) mul-t18 add-t19 mul-output-fault add-output-fault
+    (λ c κs. search needs) (λ c. search needs) returns-2 (λ c. search needs) (λ c κs. search needs) (λ c. search needs) returns-3 (λ c. search needs)
+    write-sheet-requires write-list-requires (λ c. search needs) (λ c. search needs) returns-4)

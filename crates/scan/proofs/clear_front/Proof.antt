@@ -38,14 +38,7 @@ returns-2 c =
 pub clear-front-spec : {M : Type 1} → statement M
 clear-front-spec =
     tie.close
-    (tie.spec
-    Inv-loop
-    μ-loop
-    loop-holds
-    (λ c. search needs)
-    returns
-    (λ c. search needs)
-    (λ c. search needs)
+    (tie.spec Inv-loop μ-loop loop-holds (λ c. search needs) returns (λ c. search needs) (λ c. search needs)
     (λ c. omega arith)
     (λ c. omega arith)
     loop-again

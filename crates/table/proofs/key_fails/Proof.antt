@@ -16,7 +16,8 @@ returns-2 c = rw (← (c .before .before .key-at .ensures), lt-leb _ _ (c .befor
 
 returns-3 : tie.Need-returns-3
 unfolding keyFails
-returns-3 c = rw (← (c .before .before .before .key-at .ensures), lt-leb _ _ (c .before .before .if1 .left), lt-ltb 0 (c .before .before .before .before .before .args .i) (omega arith), ← (c .key-at2 .ensures))
+returns-3 c =
+    rw (← (c .before .before .before .key-at .ensures), lt-leb _ _ (c .before .before .if1 .left), lt-ltb 0 (c .before .before .before .before .before .args .i) (omega arith), ← (c .key-at2 .ensures))
 
 pub key-fails-spec : {M : Type 1} → statement M
 key-fails-spec = tie.close (tie.spec (λ c κs. search needs) returns returns-2 (λ c. search needs) (λ c κs. search needs) returns-3)

@@ -8,7 +8,9 @@ use Rattle.text.proofs.accepted_lines.Tie as tie
 returns : tie.Need-returns
 unfolding acceptedLines
 returns c =
-    both-put (c .before .before .before .before .before .before .before .before .before .before .before .before .before .before .answer-line .ensures) (both-put (c .before .before .before .before .before .before .before .before .before .before .counts-line .ensures) (both-put (c .before .before .before .before .before .before .bound-lines .ensures) (c .before .before .form-line .ensures)))
+    both-put (c .before .before .before .before .before .before .before .before .before .before .before .before .before .before .answer-line .ensures)
+    (both-put (c .before .before .before .before .before .before .before .before .before .before .counts-line .ensures)
+    (both-put (c .before .before .before .before .before .before .bound-lines .ensures) (c .before .before .form-line .ensures)))
 
 pub accepted-lines-spec : {M : Type 1} → statement M
 accepted-lines-spec =

@@ -9,17 +9,11 @@ returns : tie.Need-returns
 unfolding field answerLine
 returns c =
     both-put (c .before .before .before .before .before .before .before .before .before .before .before .before .before .before .before .field .ensures)
-    (both-put (c .before .before .before .before .before .before .before .before .before .before .before .kind-name .ensures) (both-put (c .before .before .before .before .before .before .field2 .ensures) (c .before .before .byte .ensures)))
+    (both-put (c .before .before .before .before .before .before .before .before .before .before .before .kind-name .ensures)
+    (both-put (c .before .before .before .before .before .before .field2 .ensures) (c .before .before .byte .ensures)))
 
 pub answer-line-spec : {M : Type 1} → statement M
 answer-line-spec =
     tie.close
-    (tie.spec
-    (λ c. search needs)
-    (λ c κs. search needs)
-    (λ c κs. search needs)
-    (λ c. search needs)
-    (λ c κs. search needs)
-    (λ c κs. search needs)
-    (λ c. search needs)
-    returns)
+    (tie.spec (λ c. search needs) (λ c κs. search needs) (λ c κs. search needs) (λ c. search needs) (λ c κs. search needs) (λ c κs. search needs)
+    (λ c. search needs) returns)

@@ -7,16 +7,12 @@ use Rattle.text.proofs.bound_line.Tie as tie
 
 returns : tie.Need-returns
 unfolding field boundLine
-returns c = both-put (c .before .before .before .before .before .before .before .before .before .before .before .field .ensures) (both-put (c .before .before .before .before .before .before .field2 .ensures) (c .before .before .byte .ensures))
+returns c =
+    both-put (c .before .before .before .before .before .before .before .before .before .before .before .field .ensures)
+    (both-put (c .before .before .before .before .before .before .field2 .ensures) (c .before .before .byte .ensures))
 
 pub bound-line-spec : {M : Type 1} → statement M
 bound-line-spec =
     tie.close
-    (tie.spec
-    (λ c. search needs)
-    (λ c κs. search needs)
-    (λ c. search needs)
-    (λ c κs. search needs)
-    (λ c κs. search needs)
-    (λ c. search needs)
+    (tie.spec (λ c. search needs) (λ c κs. search needs) (λ c. search needs) (λ c κs. search needs) (λ c κs. search needs) (λ c. search needs)
     returns)

@@ -9,18 +9,11 @@ returns : tie.Need-returns
 unfolding field countsLine
 returns c =
     both-put (c .before .before .before .before .before .before .before .before .before .before .before .before .before .before .before .before .field .ensures)
-    (both-put (c .before .before .before .before .before .before .before .before .before .before .before .field2 .ensures) (both-put (c .before .before .before .before .before .before .field3 .ensures) (c .before .before .byte .ensures)))
+    (both-put (c .before .before .before .before .before .before .before .before .before .before .before .field2 .ensures)
+    (both-put (c .before .before .before .before .before .before .field3 .ensures) (c .before .before .byte .ensures)))
 
 pub counts-line-spec : {M : Type 1} → statement M
 counts-line-spec =
     tie.close
-    (tie.spec
-    (λ c. search needs)
-    (λ c κs. search needs)
-    (λ c. search needs)
-    (λ c κs. search needs)
-    (λ c. search needs)
-    (λ c κs. search needs)
-    (λ c κs. search needs)
-    (λ c. search needs)
-    returns)
+    (tie.spec (λ c. search needs) (λ c κs. search needs) (λ c. search needs) (λ c κs. search needs) (λ c. search needs) (λ c κs. search needs)
+    (λ c κs. search needs) (λ c. search needs) returns)

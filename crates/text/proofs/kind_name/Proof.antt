@@ -18,29 +18,13 @@ returns-4 : tie.Need-returns-4
 returns-4 c = rw (c .before .before .before .before .before .match .keys4) (c .before .before .bytes4 .ensures)
 
 returns-5 : tie.Need-returns-5
-returns-5 c = rw (record-name (c .before .before .before .before .before .before .before .args .kind) (omega (arith, c .before .before .before .before .before .match .rest))) (c .before .before .bytes5 .ensures)
+returns-5 c =
+    rw (record-name (c .before .before .before .before .before .before .before .args .kind) (omega (arith, c .before .before .before .before .before .match .rest)))
+    (c .before .before .bytes5 .ensures)
 
 pub kind-name-spec : {M : Type 1} → statement M
 kind-name-spec =
     tie.close
-    (tie.spec
-    (λ c. search needs)
-    (λ c κs. search needs)
-    (λ c. search needs)
-    (λ c κs. search needs)
-    (λ c. search needs)
-    (λ c κs. search needs)
-    (λ c. search needs)
-    (λ c κs. search needs)
-    (λ c. search needs)
-    (λ c κs. search needs)
-    (λ c. search needs)
-    returns
-    (λ c. search needs)
-    returns-2
-    (λ c. search needs)
-    returns-3
-    (λ c. search needs)
-    returns-4
-    (λ c. search needs)
-    returns-5)
+    (tie.spec (λ c. search needs) (λ c κs. search needs) (λ c. search needs) (λ c κs. search needs) (λ c. search needs) (λ c κs. search needs)
+    (λ c. search needs) (λ c κs. search needs) (λ c. search needs) (λ c κs. search needs) (λ c. search needs) returns (λ c. search needs) returns-2
+    (λ c. search needs) returns-3 (λ c. search needs) returns-4 (λ c. search needs) returns-5)

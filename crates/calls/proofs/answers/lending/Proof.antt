@@ -14,10 +14,5 @@ slice-aggregate-in-buffers-2 c = simp length-take (omega arith)
 pub lending-spec : {M : Type 1} → statement M
 lending-spec =
     tie.close
-    (tie.spec
-    (λ c. search needs)
-    slice-aggregate-in-buffers
-    (λ c. search needs)
-    slice-aggregate-in-buffers-2
-    (λ c κs. search needs)
+    (tie.spec (λ c. search needs) slice-aggregate-in-buffers (λ c. search needs) slice-aggregate-in-buffers-2 (λ c κs. search needs)
     (λ c. search needs))

@@ -17,12 +17,4 @@ scratch-fits c = simp length-take (omega arith)
 pub lending-list-spec : {M : Type 1} → statement M
 lending-list-spec =
     tie.close
-    (tie.spec
-    (λ c. search needs)
-    out-fits
-    (λ c. search needs)
-    list-fits
-    (λ c. search needs)
-    scratch-fits
-    (λ c κs. search needs)
-    (λ c. search needs))
+    (tie.spec (λ c. search needs) out-fits (λ c. search needs) list-fits (λ c. search needs) scratch-fits (λ c κs. search needs) (λ c. search needs))

@@ -17,12 +17,4 @@ scratch-fits c = simp length-take (omega arith)
 pub lending-two-spec : {M : Type 1} → statement M
 lending-two-spec =
     tie.close
-    (tie.spec
-    (λ c. search needs)
-    taken-fits
-    (λ c. search needs)
-    put-fits
-    (λ c. search needs)
-    scratch-fits
-    (λ c κs. search needs)
-    (λ c. search needs))
+    (tie.spec (λ c. search needs) taken-fits (λ c. search needs) put-fits (λ c. search needs) scratch-fits (λ c κs. search needs) (λ c. search needs))

@@ -11,10 +11,4 @@ lies-inside c = simp length-take (omega arith)
 pub room-spec : {M : Type 1} → statement M
 room-spec =
     tie.close
-    (tie.spec
-    (λ c. search needs)
-    (λ c. search needs)
-    (λ c. search needs)
-    lies-inside
-    (λ c κs. search needs)
-    (λ c. search needs))
+    (tie.spec (λ c. search needs) (λ c. search needs) (λ c. search needs) lies-inside (λ c κs. search needs) (λ c. search needs))

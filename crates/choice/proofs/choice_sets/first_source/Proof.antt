@@ -52,11 +52,7 @@ returns-2 c =
 pub first-source-spec : {M : Type 1} → statement M
 first-source-spec =
     tie.close
-    (tie.spec
-    Inv-loop
-    μ-loop
-    (λ c κs. search needs)
-    (λ c κs. search needs)
+    (tie.spec Inv-loop μ-loop (λ c κs. search needs) (λ c κs. search needs)
     (λ c. omega (arith, c .transitions .ensures))
     loop-holds
     (λ c κs. search needs)

@@ -47,13 +47,7 @@ returns-2 c = let e : (c .before .loop .u) ≡ (c .before .before .before .befor
 pub least-alike-spec : {M : Type 1} → statement M
 least-alike-spec =
     tie.close
-    (tie.spec
-    Inv-loop
-    μ-loop
-    (λ c κs. search needs)
-    (λ c κs. search needs)
-    loop-holds
-    (λ c κs. search needs)
+    (tie.spec Inv-loop μ-loop (λ c κs. search needs) (λ c κs. search needs) loop-holds (λ c κs. search needs)
     (λ c κs. omega (arith, c .before .before .before .places .ensures))
     returns
     (λ c. search needs)

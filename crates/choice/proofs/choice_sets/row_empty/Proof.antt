@@ -34,14 +34,4 @@ returns-2 c = let e : (c .before .loop .p) ≡ (c .before .before .args .places)
 pub row-empty-spec : {M : Type 1} → statement M
 row-empty-spec =
     tie.close
-    (tie.spec
-    Inv-loop
-    μ-loop
-    loop-holds
-    (λ c. search needs)
-    (λ c. search needs)
-    returns
-    (λ c. search needs)
-    (λ c. search needs)
-    loop-again
-    returns-2)
+    (tie.spec Inv-loop μ-loop loop-holds (λ c. search needs) (λ c. search needs) returns (λ c. search needs) (λ c. search needs) loop-again returns-2)

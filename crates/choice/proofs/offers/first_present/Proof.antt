@@ -35,14 +35,4 @@ returns-2 c = let e : (c .before .loop .t) ≡ (c .before .before .args .transit
 pub first-present-spec : {M : Type 1} → statement M
 first-present-spec =
     tie.close
-    (tie.spec
-    Inv-loop
-    μ-loop
-    loop-holds
-    (λ c. search needs)
-    (λ c. search needs)
-    returns
-    (λ c. search needs)
-    (λ c. search needs)
-    loop-again
-    returns-2)
+    (tie.spec Inv-loop μ-loop loop-holds (λ c. search needs) (λ c. search needs) returns (λ c. search needs) (λ c. search needs) loop-again returns-2)

@@ -40,5 +40,5 @@ returns-4 c = rw (le-ltb _ _ (c .before .before .before .before .before .if1 .le
 pub shape-fault-spec : {M : Type 1} → statement M
 shape-fault-spec =
     tie.close
-    (tie.spec (λ c κs. search needs) returns (λ c. search needs) (λ c. search needs) (λ c κs. search needs) (λ c κs. search needs) returns-2 cast-if3 mul-if3
-    add-if3 (λ c κs. search needs) returns-3 returns-4)
+    (tie.spec (λ c κs. search needs) returns (λ c. search needs) (λ c. search needs) (λ c κs. search needs) (λ c κs. search needs) returns-2 cast-if3
+    mul-if3 add-if3 (λ c κs. search needs) returns-3 returns-4)

@@ -29,20 +29,6 @@ returns c = let p = c .before .before .before .before .before .before .pre in ar
 pub arc-at-spec : {M : Type 1} → statement M
 arc-at-spec =
     tie.close
-    (tie.spec
-    (λ c κs. search needs)
-    (λ c. search needs)
-    (λ c. search needs)
-    (λ c. search needs)
-    (λ c. search needs)
-    (λ c. search needs)
-    (λ c. search needs)
-    cast-t9
-    (λ c. search needs)
-    cast-t10
-    (λ c. search needs)
-    (λ c. search needs)
-    (λ c. search needs)
-    (λ c. search needs)
-    cast-t18
+    (tie.spec (λ c κs. search needs) (λ c. search needs) (λ c. search needs) (λ c. search needs) (λ c. search needs) (λ c. search needs)
+    (λ c. search needs) cast-t9 (λ c. search needs) cast-t10 (λ c. search needs) (λ c. search needs) (λ c. search needs) (λ c. search needs) cast-t18
     returns)

@@ -77,21 +77,6 @@ returns-4 c =
 pub measured-spec : {M : Type 1} → statement M
 measured-spec =
     tie.close
-    (tie.spec
-    (λ c κs. search needs)
-    (λ c. search needs)
-    (λ c κs. search needs)
-    returns
-    (λ c. search needs)
-    search-requires
-    all-fit-requires
-    (λ c κs. search needs)
-    returns-2
-    (λ c κs. search needs)
-    counted-requires
-    add-entries
-    (λ c. search needs)
-    (λ c κs. search needs)
-    returns-3
-    counted-requires-2
-    returns-4)
+    (tie.spec (λ c κs. search needs) (λ c. search needs) (λ c κs. search needs) returns (λ c. search needs) search-requires all-fit-requires
+    (λ c κs. search needs) returns-2 (λ c κs. search needs) counted-requires add-entries (λ c. search needs) (λ c κs. search needs) returns-3
+    counted-requires-2 returns-4)

@@ -10,7 +10,4 @@ returns c = c .refused .ensures ∙ c .before .refuse .ensures
 pub no-counts-spec : {M : Type 1} → statement M
 no-counts-spec =
     tie.close
-    (tie.spec
-    (λ c κs. search needs)
-    (λ c κs. search needs)
-    returns)
+    (tie.spec (λ c κs. search needs) (λ c κs. search needs) returns)

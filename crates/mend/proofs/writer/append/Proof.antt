@@ -50,16 +50,7 @@ returns c = let w = c .before .loop in let e : w .c ≡ c .before .before .befor
 pub append-spec : {M : Type 1} → statement M
 append-spec =
     tie.close
-    (tie.spec
-    Inv-loop
-    μ-loop
-    loop-holds
-    (λ c. search needs)
-    (λ c. search needs)
-    cast-key
-    add-key
-    (λ c. search needs)
-    word-requires
+    (tie.spec Inv-loop μ-loop loop-holds (λ c. search needs) (λ c. search needs) cast-key add-key (λ c. search needs) word-requires
     (λ c κs. search needs)
     (λ c. omega arith)
     loop-again

@@ -15,8 +15,4 @@ returns-2 c = rw (c .if1 .left)
 pub cells-of-spec : {M : Type 1} → statement M
 cells-of-spec =
     tie.close
-    (tie.spec
-    (λ c κs. search needs)
-    changed-cells-requires
-    returns
-    returns-2)
+    (tie.spec (λ c κs. search needs) changed-cells-requires returns returns-2)

@@ -16,7 +16,4 @@ returns-2 c = rw (ne-eqb _ _ (c .if1 .left))
 pub changed-cell-spec : {M : Type 1} → statement M
 changed-cell-spec =
     tie.close
-    (tie.spec
-    returns
-    (λ c. search needs)
-    returns-2)
+    (tie.spec returns (λ c. search needs) returns-2)

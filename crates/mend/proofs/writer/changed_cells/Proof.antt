@@ -37,18 +37,8 @@ returns c = let w = c .before .loop in tabulate-is _ 0 32 _ (w .inv .2) (λ x l.
 pub changed-cells-spec : {M : Type 1} → statement M
 changed-cells-spec =
     tie.close
-    (tie.spec
-    Inv-loop
-    μ-loop
-    loop-holds
-    (λ c. search needs)
-    (λ c. search needs)
-    (λ c. search needs)
-    (λ c. search needs)
-    changed-cell-requires
-    (λ c. search needs)
-    (λ c. search needs)
-    (λ c. search needs)
+    (tie.spec Inv-loop μ-loop loop-holds (λ c. search needs) (λ c. search needs) (λ c. search needs) (λ c. search needs) changed-cell-requires
+    (λ c. search needs) (λ c. search needs) (λ c. search needs)
     (λ c. omega arith)
     loop-again
     returns)

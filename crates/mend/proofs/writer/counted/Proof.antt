@@ -107,21 +107,8 @@ returns c =
 pub counted-spec : {M : Type 1} → statement M
 counted-spec =
     tie.close
-    (tie.spec
-    Inv-loop
-    μ-loop
-    shared-slice-read-nodes
-    cast-nodes
-    (λ c κs. search needs)
-    cast-places
-    (λ c κs. search needs)
-    loop-holds
-    row-of-requires
-    cast-cells-of
-    cells-of-requires
-    filled-requires
-    add-entries
-    add-n
+    (tie.spec Inv-loop μ-loop shared-slice-read-nodes cast-nodes (λ c κs. search needs) cast-places (λ c κs. search needs) loop-holds row-of-requires
+    cast-cells-of cells-of-requires filled-requires add-entries add-n
     (λ c. omega arith)
     loop-again
     returns)

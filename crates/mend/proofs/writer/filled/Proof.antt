@@ -37,14 +37,7 @@ returns c = let e : c .before .loop .c ≡ c .before .before .args .width = omeg
 pub filled-spec : {M : Type 1} → statement M
 filled-spec =
     tie.close
-    (tie.spec
-    Inv-loop
-    μ-loop
-    loop-holds
-    (λ c. search needs)
-    (λ c. search needs)
-    (λ c. search needs)
-    add-entries
+    (tie.spec Inv-loop μ-loop loop-holds (λ c. search needs) (λ c. search needs) (λ c. search needs) add-entries
     (λ c. omega arith)
     loop-again
     (λ c. omega arith)

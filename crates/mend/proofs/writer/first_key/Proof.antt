@@ -49,12 +49,4 @@ returns-2 c =
 pub first-key-spec : {M : Type 1} → statement M
 first-key-spec =
     tie.close
-    (tie.spec
-    (λ c κs. search needs)
-    mul-row
-    returns
-    (λ c. search needs)
-    (λ c κs. search needs)
-    mul-result
-    add-result
-    returns-2)
+    (tie.spec (λ c κs. search needs) mul-row returns (λ c. search needs) (λ c κs. search needs) mul-result add-result returns-2)

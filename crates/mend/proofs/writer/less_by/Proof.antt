@@ -15,6 +15,4 @@ returns-2 c = (rw (c .if1 .left), omega arith)
 pub less-by-spec : {M : Type 1} → statement M
 less-by-spec =
     tie.close
-    (tie.spec
-    returns
-    returns-2)
+    (tie.spec returns returns-2)

@@ -15,7 +15,4 @@ returns-2 c = rw (c .if1 .left)
 pub word-spec : {M : Type 1} → statement M
 word-spec =
     tie.close
-    (tie.spec
-    (λ c. search needs)
-    returns
-    returns-2)
+    (tie.spec (λ c. search needs) returns returns-2)

@@ -20,9 +20,4 @@ returns c =
 pub write-half-spec : {M : Type 1} → statement M
 write-half-spec =
     tie.close
-    (tie.spec
-    (λ c κs. search needs)
-    copy-requires
-    (λ c κs. search needs)
-    (λ c. search needs)
-    returns)
+    (tie.spec (λ c κs. search needs) copy-requires (λ c κs. search needs) (λ c. search needs) returns)

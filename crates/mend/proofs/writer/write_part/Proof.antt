@@ -89,23 +89,8 @@ returns c =
 pub write-part-spec : {M : Type 1} → statement M
 write-part-spec =
     tie.close
-    (tie.spec
-    Inv-loop
-    μ-loop
-    shared-slice-read-nodes
-    cast-nodes
-    (λ c κs. search needs)
-    cast-places
-    (λ c κs. search needs)
-    (λ c κs. search needs)
-    loop-holds
-    row-of-requires
-    cast-cells-of
-    cells-of-requires
-    cast-first-key
-    first-key-requires
-    append-requires
-    add-n
+    (tie.spec Inv-loop μ-loop shared-slice-read-nodes cast-nodes (λ c κs. search needs) cast-places (λ c κs. search needs) (λ c κs. search needs)
+    loop-holds row-of-requires cast-cells-of cells-of-requires cast-first-key first-key-requires append-requires add-n
     (λ c. omega arith)
     loop-again
     same-length

@@ -52,5 +52,5 @@ returns-2 c =
 pub classes-spec : {M : Type 1} → statement M
 classes-spec =
     tie.close
-    (tie.spec Inv-loop μ-loop (λ c. search needs) (λ c. search needs) (λ c κs. search needs) (λ c κs. search needs) round-requires loop-holds round-requires-2
-    (λ c κs. search needs) returns (λ c. search needs) (λ c. search needs) loop-again returns-2)
+    (tie.spec Inv-loop μ-loop (λ c. search needs) (λ c. search needs) (λ c κs. search needs) (λ c κs. search needs) round-requires loop-holds
+    round-requires-2 (λ c κs. search needs) returns (λ c. search needs) (λ c. search needs) loop-again returns-2)

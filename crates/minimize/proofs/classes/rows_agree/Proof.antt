@@ -84,5 +84,5 @@ returns-3 c =
 pub rows-agree-spec : {M : Type 1} → statement M
 rows-agree-spec =
     tie.close
-    (tie.spec Inv-loop μ-loop loop-holds add-has-key has-key-requires add-has-key-2 has-key-requires-2 returns add-t values-agree-requires returns-2 add-x add-y
-    (λ c. search needs) loop-again (λ c. search needs) loop-again-2 returns-3)
+    (tie.spec Inv-loop μ-loop loop-holds add-has-key has-key-requires add-has-key-2 has-key-requires-2 returns add-t values-agree-requires returns-2
+    add-x add-y (λ c. search needs) loop-again (λ c. search needs) loop-again-2 returns-3)

@@ -11,10 +11,13 @@ write-section-requires-2 : tie.Need-write-section-requires-2
 write-section-requires-2 c κs = let d = c .before .before .before .before .before in d .before .before .before .before .before .before .before .before .before .before .before .before .pre .0
 
 write-section-requires-3 : tie.Need-write-section-requires-3
-write-section-requires-3 c κs = let d = c .before .before .before .before .before .before .before .before .before in d .before .before .before .before .before .before .before .before .before .before .before .before .pre .0
+write-section-requires-3 c κs =
+    let d = c .before .before .before .before .before .before .before .before .before in d .before .before .before .before .before .before .before .before .before .before .before .before .pre .0
 
 write-section-requires-4 : tie.Need-write-section-requires-4
-write-section-requires-4 c κs = let d = c .before .before .before .before .before .before .before .before .before .before .before .before .before in d .before .before .before .before .before .before .before .before .before .before .before .before .pre .0
+write-section-requires-4 c κs =
+    let d = c .before .before .before .before .before .before .before .before .before .before .before .before .before in
+    d .before .before .before .before .before .before .before .before .before .before .before .before .pre .0
 
 returns : tie.Need-returns
 returns c =

@@ -46,21 +46,8 @@ returns c = tabulate-is _ 0 32 _ (c .before .loop .inv .1) (λ p l. c .before .l
 pub add-row-spec : {M : Type 1} → statement M
 add-row-spec =
     tie.close
-    (tie.spec
-    Inv-loop
-    μ-loop
-    loop-holds
-    (λ c. search needs)
-    (λ c. search needs)
-    (λ c κs. search needs)
-    (λ c. search needs)
-    (λ c. search needs)
-    (λ c κs. search needs)
-    mul-next-2
-    add-next
-    (λ c. search needs)
-    (λ c. search needs)
-    (λ c. search needs)
+    (tie.spec Inv-loop μ-loop loop-holds (λ c. search needs) (λ c. search needs) (λ c κs. search needs) (λ c. search needs) (λ c. search needs)
+    (λ c κs. search needs) mul-next-2 add-next (λ c. search needs) (λ c. search needs) (λ c. search needs)
     (λ c. omega arith)
     loop-again
     returns)

@@ -47,21 +47,8 @@ returns c = counts-all (c .before .loop .inv) (omega arith)
 pub fired-times-spec : {M : Type 1} → statement M
 fired-times-spec =
     tie.close
-    (tie.spec
-    Inv-loop
-    μ-loop
-    read-n
-    cast-n
-    loop-holds
-    (λ c. search needs)
-    (λ c. search needs)
-    (λ c. search needs)
-    cast-t
-    mul-often
-    array-read-often
-    add-often
-    array-write-often
-    (λ c. search needs)
+    (tie.spec Inv-loop μ-loop read-n cast-n loop-holds (λ c. search needs) (λ c. search needs) (λ c. search needs) cast-t mul-often array-read-often
+    add-often array-write-often (λ c. search needs)
     (λ c. omega arith)
     loop-again
     returns)

@@ -36,14 +36,7 @@ returns c = let w = c .before .loop in let q : w .p ≡ c .before .before .args 
 pub total-spec : {M : Type 1} → statement M
 total-spec =
     tie.close
-    (tie.spec
-    Inv-loop
-    μ-loop
-    loop-holds
-    (λ c. search needs)
-    (λ c. search needs)
-    add-all
-    (λ c. search needs)
+    (tie.spec Inv-loop μ-loop loop-holds (λ c. search needs) (λ c. search needs) add-all (λ c. search needs)
     (λ c. omega arith)
     loop-again
     returns)

@@ -41,7 +41,8 @@ returns c =
     let (k, p) = w .before .before .before .before .pre in
     let e = arc-missing p _ _ (k .arcs) _ _ (sym (c .before .before .before .arc .ensures) ∙ (c .before .enum-told .given .1)) in
     record {
-      reply = (c .refuse .ensures) ∙ ap verdictOf (sym (first-hit _ _ _ (w .loop .inv .3) (firing-fails _ _ _ _ _ (w .loop .inv .1) e) _ (c .before .before .before .before .before .loop-test .taken)));
+      reply =
+          (c .refuse .ensures) ∙ ap verdictOf (sym (first-hit _ _ _ (w .loop .inv .3) (firing-fails _ _ _ _ _ (w .loop .inv .1) e) _ (c .before .before .before .before .before .loop-test .taken)));
       node = λ h. refused-accepted _ _ (c .refuse .ensures) h;
       entry = λ h. refused-accepted _ _ (c .refuse .ensures) h;
     }
@@ -70,20 +71,8 @@ returns-2 c = let q : (c .before .loop .i) ≡ length (c .before .before .before
 pub follow-spec : {M : Type 1} → statement M
 follow-spec =
     tie.close
-    (tie.spec
-    Inv-loop
-    μ-loop
-    loop-holds
-    (λ c. search needs)
-    (λ c. search needs)
-    (λ c κs. search needs)
-    (λ c. search needs)
-    (λ c κs. search needs)
-    returns
-    (λ c. search needs)
-    (λ c. search needs)
-    (λ c κs. search needs)
-    cast-entry
+    (tie.spec Inv-loop μ-loop loop-holds (λ c. search needs) (λ c. search needs) (λ c κs. search needs) (λ c. search needs) (λ c κs. search needs)
+    returns (λ c. search needs) (λ c. search needs) (λ c κs. search needs) cast-entry
     (λ c. omega arith)
     loop-again
     returns-2)

@@ -36,34 +36,26 @@ returns-2 c =
     let n = c .before .before .before .before .before .if1 .left in
     let h = held-at _ _ (c .before .before .before .before .before .before .before .before .before .before .pre) _ n _ (c .before .before .before .before .marking .ensures) _ l in
     c .refuse2 .ensures
-    ∙ ap verdictOf (sym (astray-at _ _ (c .before .before .before .before .before .before .before .before .before .before .args .walker) n _ (c .before .before .before .loop .inv .1) l (λ e. c .before .if2 .taken (e ∙ sym h))))
+    ∙ ap verdictOf (sym (astray-at _ _ (c .before .before .before .before .before .before .before .before .before .before .args .walker) n _ (c .before .before .before .loop .inv .1) l
+    (λ e. c .before .if2 .taken (e ∙ sym h))))
 
 loop-again : tie.Need-loop-again Inv-loop μ-loop
 loop-again c =
     let l : c .before .before .loop .p < 32 = omega arith in
-    let h = held-at _ _ (c .before .before .before .before .before .before .before .before .before .pre) _ (c .before .before .before .before .if1 .left) _ (c .before .before .before .marking .ensures) _ l in
+    let h = held-at _ _ (c .before .before .before .before .before .before .before .before .before .pre) _ (c .before .before .before .before .if1 .left)
+    _ (c .before .before .before .marking .ensures) _ l in
     (omega arith, first-more _ _ (c .before .before .loop .inv .1) (count-right _ _ _ _ (c .if2 .left ∙ h)))
 
 returns-3 : tie.Need-returns-3 Inv-loop μ-loop
-returns-3 c = let e : (c .before .loop .p) ≡ 32 = omega arith in ap verdictOf (sym (walker-right _ _ (c .before .before .before .before .before .before .before .before .args .walker) (c .before .before .before .if1 .left) (rw e at (c .before .loop .inv .1))))
+returns-3 c =
+    let e : (c .before .loop .p) ≡ 32 = omega arith in
+    ap verdictOf (sym (walker-right _ _ (c .before .before .before .before .before .before .before .before .args .walker) (c .before .before .before .if1 .left) (rw e at (c .before .loop .inv .1))))
 
 pub walker-fault-spec : {M : Type 1} → statement M
 walker-fault-spec =
     tie.close
-    (tie.spec
-    Inv-loop
-    μ-loop
-    shared-slice-read-if1
-    (λ c κs. search needs)
-    returns
-    (λ c κs. search needs)
-    loop-holds
-    (λ c. search needs)
-    (λ c. search needs)
-    (λ c. search needs)
-    (λ c. search needs)
-    (λ c κs. search needs)
-    returns-2
+    (tie.spec Inv-loop μ-loop shared-slice-read-if1 (λ c κs. search needs) returns (λ c κs. search needs) loop-holds (λ c. search needs)
+    (λ c. search needs) (λ c. search needs) (λ c. search needs) (λ c κs. search needs) returns-2
     (λ c. omega arith)
     (λ c. omega arith)
     loop-again
