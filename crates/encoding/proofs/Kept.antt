@@ -25,7 +25,7 @@ use Rattle.graph.proofs.Rows.{arcs-right, marking-right}
 use Rattle.encoding.specs.Encoding.{held}
 use Rattle.encoding.specs.Rows.{arcCode, RowOf}
 use Rattle.encoding.specs.declared.Row.{Row}
-use Rattle.encoding.specs.declared.Section.the-variants.{Targets, Counts}
+use Rattle.encoding.specs.declared.Section.the-variants.{Numbers, Counts}
 use Rattle.encoding.specs.Kept.{numberIn, Kept, arcCell, arcCellAt, arcCells}
 
 -- ---- one cell, as the code makes it
@@ -107,7 +107,7 @@ module _ {net sheet : List ℕ} (r : ArcsReadable net sheet) {M : Automaton} {no
   arc-past : (t : ℕ) → N .transitions ≤ t → M .arc i t ≡ none
   arc-past t h = k .arcs i t l ∙ ap (Option·map (numberIn numbers)) (graph-closed N sheet (r .sizes .some-transition) (r .holds) .bounded n t h)
 
-  pub arc-row : {starts : List ℕ} → starts ≡ page → {row : Row} → row .first ≡ i * N .transitions → row .cells ≡ arcCells starts net sheet numbers (getD nodes i 0) → RowOf N M Targets i row
+  pub arc-row : {starts : List ℕ} → starts ≡ page → {row : Row} → row .first ≡ i * N .transitions → row .cells ≡ arcCells starts net sheet numbers (getD nodes i 0) → RowOf N M Numbers i row
   arc-row e f c = record {
     first = f;
     entry = λ t h. rw c (arc-at e t (omega (arith, r .sizes .few-transitions)));

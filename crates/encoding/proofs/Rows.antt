@@ -19,7 +19,7 @@ use Rattle.encoding.specs.Encoding.{listOf, gather, gatherRows, keyOfArc
 use Rattle.encoding.specs.Rows.{wordOf, filledAt, columnWord, rowWords, Appended, widthOf, cellOf, arcCode, entryTold, firstKey, RowOf, sectionTo, sectionOf}
 use Rattle.encoding.specs.declared.Row.{Row}
 use Rattle.encoding.specs.declared.Section.{Section}
-use Rattle.encoding.specs.declared.Section.the-variants.{ArcKeys, CountKeys, Targets, Counts}
+use Rattle.encoding.specs.declared.Section.the-variants.{ArcKeys, CountKeys, Numbers, Counts}
 use Rattle.encoding.proofs.Gather.{finds, gather-more, gather-length, rows-none, rows-more}
 use Rattle.encoding.proofs.Encoding.{found-when}
 
@@ -99,7 +99,7 @@ module _ (N : PetriNet) (A : Automaton) where
   unfolding keyOfArc keyOfCount valueOfCount
   column-is ArcKeys n c x e = rw (e, code-found (A .arc n c)) refl
   column-is CountKeys n c x e = rw e refl
-  column-is Targets n c x e = rw e (code-when (A .arc n c))
+  column-is Numbers n c x e = rw e (code-when (A .arc n c))
   column-is Counts n c x e = rw e refl
 
   module _ {section : Section} {n : ℕ} {row : Row} (r : RowOf N A section n row) (narrow : widthOf N A section ≤ 32) where
@@ -113,6 +113,14 @@ module _ (N : PetriNet) (A : Automaton) where
     pub row-count : count (filledAt (row .cells)) 32 ≡ length (gather (cellOf N A section n) (widthOf N A section))
     unfolding rowWords
     row-count = sym (filled-count section (row .first) (row .cells) 32) ∙ ap length row-words
+
+  -- the rows of both sections of arcs are one, and those of both of counts
+  module _ {n : ℕ} {row : Row} where
+    pub arc-keys-row : RowOf N A Numbers n row → RowOf N A ArcKeys n row
+    arc-keys-row r = record { first = r .first; entry = r .entry; past = r .past }
+
+    pub count-keys-row : RowOf N A Counts n row → RowOf N A CountKeys n row
+    count-keys-row r = record { first = r .first; entry = r .entry; past = r .past }
 
   -- ---- row by row
 
@@ -135,7 +143,7 @@ module _ (N : PetriNet) (A : Automaton) where
   -- ---- all of them
 
   pub encode-sections : encode N A
-      ≡ A .nodes ∷ length (keys N A) ∷ ((sectionOf N A ArcKeys ++ sectionOf N A CountKeys) ++ (sectionOf N A Targets ++ sectionOf N A Counts))
+      ≡ A .nodes ∷ length (keys N A) ∷ ((sectionOf N A ArcKeys ++ sectionOf N A CountKeys) ++ (sectionOf N A Numbers ++ sectionOf N A Counts))
   unfolding encode keys values sectionOf sectionTo
   encode-sections = refl
 

@@ -13,15 +13,16 @@ use Rattle.sequential.specs.Petri.{PetriNet}
 use Rattle.encoding.specs.Encoding.{gather, gatherRows, keyOfArc, held, keyOfCount, valueOfCount}
 use Rattle.encoding.specs.declared.Row.{Row}
 use Rattle.encoding.specs.declared.Section.{Section}
-use Rattle.encoding.specs.declared.Section.the-variants.{ArcKeys, CountKeys, Targets, Counts}
+use Rattle.encoding.specs.declared.Section.the-variants.{ArcKeys, CountKeys, Numbers, Counts}
 
 -- ---- one row
 
--- the word of an entry: its key (§3.4), the node that the arc leads to (§3.5), what the place holds (§3.6)
+-- the word of an entry: its key (§3.4); the number that its cell has 1 more than, of an arc the node that it leads to (§3.5), of a change the
+-- new count (§10.16); what the place holds (§3.6)
 abbrev pub wordOf : Section → ℕ → ℕ → ℕ
 wordOf ArcKeys key cell = key
 wordOf CountKeys key cell = key
-wordOf Targets key cell = cell - 1
+wordOf Numbers key cell = cell - 1
 wordOf Counts key cell = cell
 
 -- column c has an entry
@@ -51,27 +52,27 @@ module _ (N : PetriNet) (A : Automaton) where
   abbrev pub widthOf : Section → ℕ
   widthOf ArcKeys = N .transitions
   widthOf CountKeys = N .places
-  widthOf Targets = N .transitions
+  widthOf Numbers = N .transitions
   widthOf Counts = N .places
 
   -- the key of node n's first column: §3.5, §3.6
   abbrev pub firstKey : Section → ℕ → ℕ
   firstKey ArcKeys n = n * N .transitions
   firstKey CountKeys n = A .nodes * N .transitions + n * N .places
-  firstKey Targets n = n * N .transitions
+  firstKey Numbers n = n * N .transitions
   firstKey Counts n = A .nodes * N .transitions + n * N .places
 
   -- node n's entry at column c, and the word that it has
   abbrev pub entryTold : Section → ℕ → ℕ → ℕ
   entryTold ArcKeys n c = arcCode (A .arc n c)
   entryTold CountKeys n c = held N A n c
-  entryTold Targets n c = arcCode (A .arc n c)
+  entryTold Numbers n c = arcCode (A .arc n c)
   entryTold Counts n c = held N A n c
 
   abbrev pub cellOf : Section → ℕ → ℕ → Option ℕ
   cellOf ArcKeys n c = keyOfArc N A n c
   cellOf CountKeys n c = keyOfCount N A n c
-  cellOf Targets n c = A .arc n c
+  cellOf Numbers n c = A .arc n c
   cellOf Counts n c = valueOfCount N A n c
 
   -- a row has node n's entries

@@ -6,16 +6,18 @@ ghost use Rattle.scan.specs.Scan.{count};
 ghost use Rattle.encoding.specs.Rows.{wordOf, filledAt, rowWords, Appended};
 ghost use Rattle.encoding.specs.Kept.{arcCell, arcCells};
 
-// The sections of the words in their order, after V and K: the keys of arcs and of counts, the targets of the arcs, the counts.
+// The sections of the words in their order, after V and K: the keys of arcs and of counts, the nodes that the arcs lead to, the counts.
+// `Numbers` is for words that may be 0 and are told by cells as 1 more: of arcs the node that they lead to, of a list of changes the new count.
 pub enum Section {
     ArcKeys,
     CountKeys,
-    Targets,
+    Numbers,
     Counts,
 }
 
-// The entries of a node, its arcs or its counts: the key of the first column, and at each column 1 plus the node that the arc leads to or
-// what the place holds, 0 where there is no entry. No key of a schedule is above 8,191, so that a u16 has the first.
+// The entries of a node, its arcs, its counts or what changes of these: the key of the first column, and at each column 1 plus the node that
+// the arc leads to, what the place holds, or 1 plus what it holds from now on, 0 where there is no entry. No key of a schedule is above 8,191,
+// so that a u16 has the first.
 pub struct Row {
     pub first: u16,
     pub cells: [u32; 32],
@@ -29,7 +31,7 @@ fn word(section: Section, key: u32, cell: u32) -> u32
     match section {
         Section::ArcKeys => key,
         Section::CountKeys => key,
-        Section::Targets => cell - 1,
+        Section::Numbers => cell - 1,
         Section::Counts => cell,
     }
 }

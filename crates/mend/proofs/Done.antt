@@ -1,7 +1,7 @@
 -- The paths of the call's code that come after what is measured: a buffer is too short, or both are written.
 use Prim.Native.Nat.{ℕ, _+_, _*_}
 use native.Mathlib.Omega.{arith}
-use mathlib.Core.Path.{_≡_, refl, sym, _∙_}
+use mathlib.Core.Path.{_≡_, refl, sym, ap, _∙_}
 use mathlib.Core.List.{List}
 use lib.ListN.{length, length-append}
 use Rattle.scan.specs.Placed.{placed}
@@ -21,8 +21,8 @@ use Rattle.mended.specs.Changes.{changedKeys, changedCounts, changeList, change
 use Rattle.mended.specs.Call.{MendWritten}
 use Rattle.mended.specs.declared.MendAnswer.the-variants.{Written, Refused}
 use Rattle.mended.proofs.Changes.{paired}
-use Rattle.mend.specs.Writing.{cellOf, partTo}
 use Rattle.mend.specs.Measure.{Ready, Measured}
+use Rattle.mend.proofs.Writes.{change-keys}
 use Rattle.mend.proofs.Measuring.{entries-are}
 
 module _ (net sheet out list : List ℕ) {v : Verdict} {finder : List ℕ} {entries changes : ℕ} (m : Measured net sheet v finder entries changes) (a : v ≡ verdict.Accepted) where
@@ -36,8 +36,16 @@ module _ (net sheet out list : List ℕ) {v : Verdict} {finder : List ℕ} {entr
       omega (arith, encoded-length (petriNet net) M, encoded-entries (petriNet net) M, entries-are net sheet (ready .readable), ready .entries-are)
 
   list-long : length (changeWords net sheet) ≡ 1 + 2 * changes
-  unfolding changeWords changeList changedKeys changedCounts partTo cellOf
-  list-long = let p = paired (petriNet net) sheet in omega (arith, length-append (changedKeys (petriNet net) sheet) (changedCounts (petriNet net) sheet), p, ready .changes-are)
+  unfolding changeWords changeList
+  list-long =
+      let p = paired (petriNet net) sheet in
+      omega (
+        arith,
+        length-append (changedKeys (petriNet net) sheet) (changedCounts (petriNet net) sheet),
+        p,
+        ready .changes-are,
+        ap length (change-keys net sheet (ready .readable)),
+      )
 
   sheet-room : {w u : Verdict} {n : ℕ} → n ≡ 2 + 2 * entries → w ≡ roomFault (length out) n → w ≡ u → roomFault (length out) (length (mendedWords net sheet)) ≡ u
   sheet-room e h k = rw (sheet-long, ← e) (sym h ∙ k)

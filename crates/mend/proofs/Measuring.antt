@@ -50,8 +50,9 @@ use Rattle.mended.proofs.Exact.{arcs-fault}
 use Rattle.mended.proofs.Copied.{mended-copied}
 use Rattle.mended.proofs.Copied as whole
 use Rattle.mend.specs.Places.{AllFit}
-use Rattle.mend.specs.Writing.{cellOf, partTo, entriesOf}
+use Rattle.mend.specs.Writing.{entriesOf}
 use Rattle.mend.specs.Measure.{arcsVerdict, Ready, Measured}
+use Rattle.mend.proofs.Writes.{count-keys}
 
 -- ---- 11 to 13, 16 and 17, as they are asked
 
@@ -155,12 +156,13 @@ module _ (net sheet : List ℕ) (r : ArcsReadable net sheet) where
   closed : Closed A
   closed = graph-closed M sheet (r .sizes .some-transition) (r .holds)
 
-  pub entries-are : length (keys M (mendedGraph M A)) ≡ entriesOf M sheet
-  unfolding entriesOf partTo cellOf
+  pub entries-are : length (keys M (mendedGraph M A)) ≡ entriesOf net sheet
+  unfolding entriesOf
   entries-are =
-      sym (encoded-entries M (mendedGraph M A)) ∙ ap (λ (x : List ℕ). getD x 1 0) (mended-copied M sheet (r .sizes .some-transition) (r .holds)) ∙ unfold whole.copied in refl
+      sym (encoded-entries M (mendedGraph M A)) ∙ ap (λ (x : List ℕ). getD x 1 0) (mended-copied M sheet (r .sizes .some-transition) (r .holds))
+      ∙ unfold whole.copied in (rw (count-keys net sheet r) refl)
 
-  pub places-fit : AllFit (petriNet net) sheet → entriesOf (petriNet net) sheet ≤ mostEntries → countsFit (petriNet net) (graph (petriNet net) sheet) ≡ true
+  pub places-fit : AllFit (petriNet net) sheet → entriesOf net sheet ≤ mostEntries → countsFit (petriNet net) (graph (petriNet net) sheet) ≡ true
   unfolding countsFit nodeFits withinLimit
   places-fit fit few =
       and-both _ _ (all-in (nodeFits M A) (A .nodes) (λ n l. and-both _ _ (all-in (withinLimit M A n) (M .places) (λ p k. le-leb _ _ (fit p k .most n l)))
@@ -183,7 +185,7 @@ module _ (net sheet : List ℕ) (r : ArcsReadable net sheet) where
     most = λ n l. worked-most M A closed refl h n p l k;
   }
 
-  pub fits-entries : countsFit (petriNet net) (graph (petriNet net) sheet) ≡ true → entriesOf (petriNet net) sheet ≤ mostEntries
+  pub fits-entries : countsFit (petriNet net) (graph (petriNet net) sheet) ≡ true → entriesOf net sheet ≤ mostEntries
   fits-entries h = rw entries-are at (few-entries M A closed refl h)
 
 -- ---- what is measured
@@ -199,7 +201,7 @@ module _ (net sheet : List ℕ) (a : arcsVerdict net sheet ≡ Accepted) where
   pub place-measured : {finder : List ℕ} {v : Verdict} {entries changes : ℕ} → (AllFit (petriNet net) sheet → ⊥) → v ≡ Refused (refusal 25 Nothing) → Measured net sheet v finder entries changes
   place-measured n e = refused-measured (no-counts net sheet a e (not-true→false _ (λ h. n (fits-places net sheet R h)))) e
 
-  pub entries-measured : {finder : List ℕ} {v : Verdict} {entries changes : ℕ} → mostEntries < entriesOf (petriNet net) sheet → v ≡ Refused (refusal 25 Nothing)
+  pub entries-measured : {finder : List ℕ} {v : Verdict} {entries changes : ℕ} → mostEntries < entriesOf net sheet → v ≡ Refused (refusal 25 Nothing)
       → Measured net sheet v finder entries changes
   entries-measured l e = refused-measured (no-counts net sheet a e (not-true→false _ (λ h. omega (arith, l, fits-entries net sheet R h)))) e
 

@@ -2,7 +2,6 @@
 -- function cites it.
 use Prim.Native.Nat.{ℕ, _≤_}
 use mathlib.Core.Path.{_≡_}
-use mathlib.Core.Bool.{true, false}
 use mathlib.Core.List.{List}
 use lib.ListN.{length}
 use Rattle.scan.specs.Scan.{orElse, first}
@@ -14,10 +13,12 @@ use Rattle.sequential.specs.Petri.{petriNet}
 use Rattle.sequential.specs.Words.{nodeCount}
 use Rattle.sequential.specs.Check.{nodeFault, rootFault, reachFault, returnFault}
 use Rattle.graph.specs.Readable.{arcsReply, ArcsReadable}
+use Rattle.encoding.specs.declared.Section.the-variants.{CountKeys}
 use Rattle.mended.specs.Mend.{mendVerdict}
 use Rattle.mend.specs.Search.{Tree}
 use Rattle.mend.specs.Places.{AllFit}
 use Rattle.mend.specs.Writing.{partOf, entriesOf}
+use Rattle.mend.specs.declared.writer.Part.the-variants.{Changes}
 
 -- all that is asked before the counts: §7.62
 unfoldable pub arcsVerdict : List ℕ → List ℕ → Verdict
@@ -31,9 +32,9 @@ pub record Ready (net sheet finder : List ℕ) (entries changes : ℕ) : Type 0 
   pub readable : ArcsReadable net sheet
   pub tree : Tree (petriNet net) sheet finder
   pub fit : AllFit (petriNet net) sheet
-  pub entries-are : entries ≡ entriesOf (petriNet net) sheet
+  pub entries-are : entries ≡ entriesOf net sheet
   pub few-entries : entries ≤ mostEntries
-  pub changes-are : changes ≡ length (partOf (petriNet net) sheet true false)
+  pub changes-are : changes ≡ length (partOf net sheet Changes CountKeys)
   pub few-changes : changes ≤ mostEntries
 
 pub record Measured (net sheet : List ℕ) (verdict : Verdict) (finder : List ℕ) (entries changes : ℕ) : Type 0 where

@@ -7,6 +7,7 @@ ghost use Rattle.mend.specs.Measure.{arcsVerdict, Measured};
 use super::places;
 use super::search;
 use super::writer;
+use super::writer::Part;
 use refusal::Limits;
 use refusal::Position;
 use refusal::Refusal;
@@ -69,11 +70,11 @@ pub(crate) fn measured(net: &[u32], sheet: &[u32], page: &[u16; 4096]) -> Measur
     }
     let finder = nodes.finder;
     let arcs = graph::arc_count(net, sheet);
-    let entries = arcs + writer::counted(net, sheet, finder, false);
+    let entries = arcs + writer::counted(net, sheet, finder, Part::Counts);
     if (Limits::ENTRIES as usize) < entries {
         return no_counts();
     }
-    let changes = writer::counted(net, sheet, finder, true);
+    let changes = writer::counted(net, sheet, finder, Part::Changes);
     Measure {
         verdict: Verdict::Accepted,
         finder,

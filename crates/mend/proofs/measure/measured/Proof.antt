@@ -3,7 +3,6 @@ use Prim.Native.Nat.{_+_}
 use mathlib.Core.Path.{_≡_, sym, _∙_}
 use borrow.Author.Tests.{not-true, not-false}
 use Rattle.graph.proofs.ArcCount.{arcs-within, arc-count-right}
-use Rattle.sequential.specs.Petri.{petriNet}
 use Rattle.mend.specs.Writing.{entriesOf}
 use Rattle.mend.proofs.Searches.{found-tree}
 use Rattle.mend.proofs.Measuring.{before-readable, before-reached, before-refused, refused-measured, place-measured, entries-measured, all-measured}
@@ -13,7 +12,7 @@ use Rattle.mend.proofs.measure.measured.Statement.{statement}
 use Rattle.mend.proofs.measure.measured.Tie as tie
 
 are : (c : tie.After-counted) → let s = c .before .before .before .before .before .before .before .before .before .before .before .args in
-    c .before .arc-count .result + c .counted .result ≡ entriesOf (petriNet (s .net .now)) (s .sheet .now)
+    c .before .arc-count .result + c .counted .result ≡ entriesOf (s .net .now) (s .sheet .now)
 unfolding entriesOf
 are c =
     let r = before-readable _ _ (sym (c .before .before .before .before .before .before .before .before .checked .ensures) ∙ c .before .before .before .before .before .before .enum-told2 .given .1) in

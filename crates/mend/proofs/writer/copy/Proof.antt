@@ -2,8 +2,10 @@
 use Prim.Native.Nat.{_-_, _≤_}
 use mathlib.Core.Path.{_≡_}
 use Rattle.scan.specs.Scan.{tabulate}
-use Rattle.mend.specs.Writing.{Appended, copied}
-use Rattle.mend.proofs.Writes.{appended-none, appended-length, appended-copy}
+use Rattle.encoding.specs.Rows.{Appended}
+use Rattle.encoding.proofs.Rows.{appended-none, appended-length}
+use Rattle.mend.specs.Writing.{copied}
+use Rattle.mend.proofs.Writes.{copied-more}
 use borrow.Author.Needs.{needs}
 use native.Mathlib.Omega.{arith}
 use Rattle.mend.proofs.writer.copy.Statement.{statement}
@@ -20,10 +22,10 @@ unfolding tabulate
 loop-holds c = (omega arith, appended-none _ _)
 
 loop-again : tie.Need-loop-again Inv-loop μ-loop
-loop-again c = let w = c .before .before .before .before .before .before .loop in (omega arith, appended-copy _ _ _ _ _ (w .inv .1) (c .before .before .put .ensures))
+loop-again c = let w = c .before .before .before .before .before .before .loop in (omega arith, copied-more _ _ _ (w .inv .1) (c .before .before .put .ensures))
 
 same-length : tie.Need-same-length Inv-loop μ-loop
-same-length c = appended-length _ _ (c .before .loop .inv .1)
+same-length c = appended-length (c .before .loop .inv .1)
 
 returns : tie.Need-returns Inv-loop μ-loop
 returns c = let w = c .before .loop in let e : w .i ≡ c .before .before .before .before .args .n = omega arith in rw e at (w .inv .1)

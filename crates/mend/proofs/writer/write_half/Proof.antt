@@ -1,7 +1,7 @@
 -- `mend::writer::write_half` meets its contract.
 use Rattle.graph.proofs.ArcCount.{arcs-within, arc-count-right}
+use Rattle.encoding.proofs.Rows.{appended-more}
 use Rattle.mend.specs.Writing.{halfOf}
-use Rattle.mend.proofs.Writes.{appended-more}
 use borrow.Author.Needs.{needs}
 use native.Mathlib.Omega.{arith}
 use Rattle.mend.proofs.writer.write_half.Statement.{statement}
@@ -15,7 +15,7 @@ unfolding halfOf
 returns c =
     let p = c .before .before .before .before .before .before .before .before .before .before .before .before .pre in
     rw (← arc-count-right _ _ (p .0), ← c .before .before .before .before .before .before .before .before .arc-count .ensures)
-    (appended-more _ _ (c .before .before .before .before .before .before .copy .ensures) (c .before .before .write-part .ensures))
+    (appended-more (c .before .before .before .before .before .before .copy .ensures) (c .before .before .write-part .ensures))
 
 pub write-half-spec : {M : Type 1} → statement M
 write-half-spec =

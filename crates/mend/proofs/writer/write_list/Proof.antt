@@ -1,5 +1,6 @@
 -- `mend::writer::write_list` meets its contract: how many changes there are, then their keys, then the new counts.
-use Rattle.mend.proofs.Writes.{appended-more, list-words, written-from}
+use Rattle.encoding.proofs.Rows.{appended-more}
+use Rattle.mend.proofs.Writes.{list-words, written-from}
 use borrow.Author.Needs.{needs}
 use Rattle.mend.proofs.writer.write_list.Statement.{statement}
 use Rattle.mend.proofs.writer.write_list.Tie as tie
@@ -8,7 +9,7 @@ returns : tie.Need-returns
 returns c =
     let p = c .before .before .before .before .before .before .before .before .before .before .before .before .before .before .before .pre in
     let a = rw (p .1 .1 .1 .0) at (c .before .before .before .before .before .before .before .before .before .before .put .ensures) in
-    written-from (appended-more _ _ (appended-more _ _ a (c .before .before .before .before .before .before .write-part .ensures)) (c .before .before .write-part2 .ensures)) (list-words _ _ (p .0))
+    written-from (appended-more (appended-more a (c .before .before .before .before .before .before .write-part .ensures)) (c .before .before .write-part2 .ensures)) (list-words _ _ (p .0))
 
 pub write-list-spec : {M : Type 1} → statement M
 write-list-spec =

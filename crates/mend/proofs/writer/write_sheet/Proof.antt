@@ -1,5 +1,6 @@
 -- `mend::writer::write_sheet` meets its contract: the two sizes, then the keys, then the values.
-use Rattle.mend.proofs.Writes.{appended-more, sheet-words, written-from}
+use Rattle.encoding.proofs.Rows.{appended-more}
+use Rattle.mend.proofs.Writes.{sheet-words, written-from}
 use borrow.Author.Needs.{needs}
 use native.Mathlib.Omega.{arith}
 use Rattle.mend.proofs.writer.write_sheet.Statement.{statement}
@@ -17,8 +18,8 @@ returns : tie.Need-returns
 returns c =
     let p = c .before .before .before .before .before .before .before .before .before .before .before .before .before .before .before .before .before .before .before .before .before .pre in
     let a = rw (p .1 .1 .1 .0) at (c .before .before .before .before .before .before .before .before .before .before .put2 .ensures) in
-    written-from (appended-more _ _
-    (appended-more _ _ (appended-more _ _ (c .before .before .before .before .before .before .before .before .before .before .before .before .before .before .put .ensures) a)
+    written-from (appended-more
+    (appended-more (appended-more (c .before .before .before .before .before .before .before .before .before .before .before .before .before .before .put .ensures) a)
     (c .before .before .before .before .before .before .write-half .ensures)) (c .before .before .write-half2 .ensures)) (sheet-words _ _ (p .0))
 
 pub write-sheet-spec : {M : Type 1} → statement M

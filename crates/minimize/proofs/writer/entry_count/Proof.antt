@@ -9,8 +9,9 @@ use Rattle.sequential.specs.Petri.{petriNet}
 use Rattle.sequential.specs.Words.{graph}
 use Rattle.encoding.specs.Rows.{sectionTo}
 use Rattle.encoding.specs.declared.Section.the-variants.{ArcKeys, CountKeys}
+use Rattle.encoding.proofs.Rows.{arc-keys-row, count-keys-row}
 use Rattle.minimize.specs.Tables.{NewNodes}
-use Rattle.minimize.proofs.Writing.{arc-keys, count-keys, rows-count, entries-none, entries-all}
+use Rattle.minimize.proofs.Writing.{rows-count, entries-none, entries-all}
 use Rattle.minimize.proofs.writer.entry_count.Statement.{statement}
 use Rattle.minimize.proofs.writer.entry_count.Tie as tie
 
@@ -36,10 +37,9 @@ count-row-requires c κs = (c .before .before .before .before .loop .inv .0, c .
 
 loop-again : tie.Need-loop-again Inv-loop μ-loop
 loop-again c =
-    let l = c .before .before .before .before .before .before .if1 .taken in
     let (h, low, is, most) = c .before .before .before .before .before .before .before .before .loop .inv in
-    let a = rows-count h ArcKeys _ _ (arc-keys h l (c .before .before .before .before .before .arc-row .ensures)) (c .before .filled .ensures) in
-    let b = rows-count h CountKeys _ _ (count-keys h l (c .before .before .before .count-row .ensures)) (c .filled2 .ensures) in
+    let a = rows-count h ArcKeys _ _ (arc-keys-row _ _ (c .before .before .before .before .before .arc-row .ensures)) (c .before .filled .ensures) in
+    let b = rows-count h CountKeys _ _ (count-keys-row _ _ (c .before .before .before .count-row .ensures)) (c .filled2 .ensures) in
     (h, omega arith, omega (arith, a .0, b .0), omega (arith, a .1, b .1))
 
 add-entries : tie.Need-add-entries Inv-loop μ-loop

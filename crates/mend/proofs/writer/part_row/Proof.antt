@@ -1,0 +1,40 @@
+-- `mend::writer::part_row` meets its contract.
+use mathlib.Core.Path.{refl}
+use lib.ListN.{getD}
+use Rattle.graph.proofs.Starts.{counts-start-low}
+use Rattle.mend.proofs.Climbing.{row-few}
+use borrow.Author.Needs.{needs}
+use native.Mathlib.Omega.{arith}
+use Rattle.mend.proofs.writer.part_row.Statement.{statement}
+use Rattle.mend.proofs.writer.part_row.Tie as tie
+
+cast-t13 : tie.Need-cast-t13
+cast-t13 c =
+    let a = c .before .before .before .before .before .before .args in
+    omega (arith, c .counts-start .ensures, counts-start-low (a .net .now) (getD (a .sheet .now) 0 0) (a .n))
+
+changed-cells-requires : tie.Need-changed-cells-requires
+changed-cells-requires c κs =
+    let (r, (fit, (l, e))) = c .before .before .before .before .before .before .pre in
+    λ p k. rw e (row-few _ _ r fit _ p l k)
+
+cast-t14 : tie.Need-cast-t14
+cast-t14 c =
+    let a = c .before .before .before .before .before .before .before .args in
+    omega (arith, c .before .before .counts-start2 .ensures, counts-start-low (a .net .now) 0 (a .n))
+
+returns : tie.Need-returns
+returns c =
+    let (r, (fit, (l, e))) = c .before .before .before .before .before .before .pre in
+    rw (c .before .before .enum-told .given .1, c .counts-start .ensures, e) refl
+
+returns-2 : tie.Need-returns-2
+returns-2 c =
+    let (r, (fit, (l, e))) = c .before .before .before .before .before .before .before .pre in
+    rw (c .before .before .before .enum-told2 .given .1, c .before .before .counts-start2 .ensures, c .changed-cells .ensures, c .before .marking .ensures, e) refl
+
+pub part-row-spec : {M : Type 1} → statement M
+part-row-spec =
+    tie.close
+    (tie.spec (λ c. search needs) (λ c. search needs) (λ c κs. search needs) cast-t13 (λ c. search needs) (λ c κs. search needs) (λ c κs. search needs)
+    changed-cells-requires cast-t14 returns returns-2)
