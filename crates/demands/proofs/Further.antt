@@ -55,7 +55,8 @@ use Rattle.encoding.proofs.Recoded.{encode-decode, decoded-encodable}
 use Rattle.minimal.proofs.Minimal.{form-no-longer, form-twice, form-fewest}
 use Rattle.demands.specs.Terms.{said}
 use Rattle.demands.specs.Demand3.{made}
-use Rattle.demands.specs.Further.{FreshPasses, PathsShorten, ChoicePartition, PublishedChoiceSets, NeverStuck, Firings, none-fired, one-fired, Folds, RunFolds, OneEncoding, FormNoLonger, FormTwice, FormFewest}
+use Rattle.demands.specs.Further.{FreshPasses, PathsShorten, ChoicePartition, PublishedChoiceSets, NeverStuck, OneEncoding, FormNoLonger, FormTwice, FormFewest}
+use Rattle.demands.specs.Further.{Firings, none-fired, one-fired, Folds, RunFolds}
 use Rattle.demands.proofs.Checked.{accepted-reply, some-scratch, enough-scratch}
 use Rattle.demands.proofs.Demand3.{made-form, size-form}
 

@@ -1,5 +1,7 @@
 -- the nodes in the order in which they are found
 pub mod Searches
+pub mod ArcRows
+pub mod SearchTables
 -- a place's counts along it
 pub mod Reading
 pub mod Filling

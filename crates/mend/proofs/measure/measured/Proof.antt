@@ -4,7 +4,7 @@ use mathlib.Core.Path.{_≡_, sym, _∙_}
 use borrow.Author.Tests.{not-true, not-false}
 use Rattle.graph.proofs.ArcCount.{arcs-within, arc-count-right}
 use Rattle.mend.specs.Writing.{entriesOf}
-use Rattle.mend.proofs.Searches.{found-tree}
+use Rattle.mend.proofs.SearchTables.{found-tree}
 use Rattle.mend.proofs.Measuring.{before-readable, before-reached, before-refused, refused-measured, place-measured, entries-measured, all-measured}
 use borrow.Author.Needs.{needs}
 use native.Mathlib.Omega.{arith}
