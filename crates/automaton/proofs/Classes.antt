@@ -1,58 +1,28 @@
 -- The rounds by tables of leaders: each round needs only the table before it, and a round that changes no leader is the last.
-use Prim.Native.Nat.{ℕ, zero, suc, _<_}
-use native.Mathlib.Omega.{arith}
-use mathlib.Core.Path.{_≡_, refl, sym, _∙_}
-use mathlib.Core.Logic.{_↔_}
-use mathlib.Core.Bool.{true, _&&_}
-use lib.ListN.{length, getD}
+use Rattle.scan.proofs.Basics.{ℕ, zero, suc, _<_, arith, _≡_, refl, sym, _∙_, _&&_, getD}
+use mathlib.Core.Logic.{Iff·rfl}
 use Rattle.scan.specs.Scan.{all}
-use Rattle.scan.proofs.Tests.{iff→eq, and-left, and-right, and-both}
-use Rattle.scan.proofs.Every.{all-ext, all-in, all-out}
-use Rattle.scan.proofs.Tabulate.{tabulate-length, tabulate-at}
+use Rattle.scan.proofs.Every.{all-ext}
+use Rattle.scan.proofs.Tabulate.{tabulate-at}
 use Rattle.automaton.specs.Automaton.{Automaton, Closed}
 use Rattle.automaton.specs.Equivalence.{agree, sameIn, same, leaderBy, leader, sameClass, refined, classes}
-use Rattle.automaton.proofs.Targets.{Targets, Holds, targets-map, equalArcs-ext, equalArcs-in, equalArcs-out}
-use Rattle.automaton.proofs.Leader.{leader-ext, leader-test, leader-of-equivalent, equivalent-by-leader}
+use Rattle.scan.proofs.Decide.{and↔, equal↔}
+use Rattle.automaton.proofs.Targets.{equalArcs-ext}
+use Rattle.automaton.proofs.Leader.{leader-ext, leader-test}
 use Rattle.automaton.proofs.Refinement.{leaders→stable, stable-is-last}
-use Rattle.automaton.proofs.Same.{sameIn-label, sameIn-arcs, sameIn-suc, sameIn-down, sameIn-equivalence}
+use Rattle.automaton.proofs.Same.{sameIn-label, sameIn-suc↔, arcs↔, sameIn-down, sameIn-equivalence}
 use Rattle.automaton.proofs.Equivalence.{sameIn-falling}
-
-abbrev pub OneLeader : Automaton → ℕ → ℕ → ℕ → Type 0
-OneLeader A k n m = leader A k n ≡ leader A k m
 
 module _ (A : Automaton) where
   pub same-leader : (k n m : ℕ) → sameClass (leader A k) n m ≡ sameIn A k n m
   unfolding leader sameClass
   same-leader k n m = leader-test (sameIn A k) (sameIn-equivalence A k) n m
 
-  pub leader↔sameIn : (k n m : ℕ) → (leader A k n ≡ leader A k m) ↔ (sameIn A k n m ≡ true)
-  unfolding leader
-  leader↔sameIn k n m = (
-    equivalent-by-leader (sameIn A k) (sameIn-equivalence A k) n m,
-    leader-of-equivalent (sameIn A k) (sameIn-equivalence A k) n m,
-  )
-
   -- a round is: not told apart before, and neither are the targets
   pub sameIn-round : (k n m : ℕ) → sameIn A (suc k) n m ≡ (sameIn A k n m && all (agree A (sameIn A k) n m) (A .transitions))
   sameIn-round k n m =
-      iff→eq (sameIn A (suc k) n m) (sameIn A k n m && all (agree A (sameIn A k) n m) (A .transitions))
-      (λ e. and-both (sameIn A k n m) (all (agree A (sameIn A k) n m) (A .transitions)) (sameIn-down A k n m e)
-      (all-in (agree A (sameIn A k) n m) (A .transitions) (λ t l. unfold agree in (equalArcs-in (sameIn A k) (A .arc n t) (A .arc m t) (sameIn-arcs A k n m e t l)))))
-      (λ e. sameIn-suc A k n m (sameIn-label A k n m (and-left (sameIn A k n m) (all (agree A (sameIn A k) n m) (A .transitions)) e))
-      (λ t l. equalArcs-out (sameIn A k) (A .arc n t) (A .arc m t)
-      (unfold agree in (all-out (agree A (sameIn A k) n m) (A .transitions) (and-right (sameIn A k n m) (all (agree A (sameIn A k) n m) (A .transitions)) e) t l))))
-
-  -- one leader, and the targets' leaders are equal or both missing
-  pub sameIn-suc↔leaders : (k n m : ℕ)
-      → (sameIn A (suc k) n m ≡ true) ↔ (OneLeader A k n m × ((t : ℕ) → t < A .transitions → Targets (OneLeader A k) (A .arc n t) (A .arc m t)))
-  sameIn-suc↔leaders k n m = (
-    λ e. (
-      leader↔sameIn k n m .1 (sameIn-down A k n m e),
-      λ t l. targets-map (Holds (sameIn A k)) (OneLeader A k) (λ a b. leader↔sameIn k a b .1) (A .arc n t) (A .arc m t) (sameIn-arcs A k n m e t l),
-    ),
-    λ (e, h). sameIn-suc A k n m (sameIn-label A k n m (leader↔sameIn k n m .0 e))
-        (λ t l. targets-map (OneLeader A k) (Holds (sameIn A k)) (λ a b. leader↔sameIn k a b .0) (A .arc n t) (A .arc m t) (h t l)),
-  )
+      equal↔ _ _ (sameIn-suc↔ A k n m) (and↔ _ _ Iff·rfl (arcs↔ A (sameIn A k) n m))
+      (λ (e, a). (sameIn-down A k n m (sameIn-suc↔ A k n m .1 (e, a)), a), λ (e, a). (sameIn-label A k n m e, a))
 
   module _ (c : Closed A) where
     -- ---- a table that holds the leaders of round k
@@ -84,11 +54,6 @@ module _ (A : Automaton) where
         stable-is-last (sameIn A) (A .nodes) (sameIn-falling A c) k (leaders→stable (sameIn A) (A .nodes) (sameIn-falling A c) k h) n m ln lm ∙
         sym (same-leader k n m)
 
-    -- or as many rounds as there are nodes
-    pub leaders-enough : (n m : ℕ) → same A n m ≡ sameClass (leader A (A .nodes)) n m
-    unfolding same
-    leaders-enough n m = sym (same-leader (A .nodes) n m)
-
     -- ---- the tables, each from the one before it
 
     pub classes-at : (k n : ℕ) → n < A .nodes → getD (classes A k) n 0 ≡ leader A k n
@@ -96,8 +61,3 @@ module _ (A : Automaton) where
     classes-at zero n l = tabulate-at (leaderBy (sameIn A 0)) 0 (A .nodes) n l ∙ unfold leader in refl
     classes-at (suc k) n l =
         tabulate-at (leaderBy (refined A (λ i. getD (classes A k) i 0))) 0 (A .nodes) n l ∙ refined-leader k (λ i. getD (classes A k) i 0) (classes-at k) n l
-
-    pub classes-length : (k : ℕ) → length (classes A k) ≡ A .nodes
-    unfolding classes
-    classes-length zero = tabulate-length (leaderBy (sameIn A 0)) (A .nodes)
-    classes-length (suc k) = tabulate-length (leaderBy (refined A (λ i. getD (classes A k) i 0))) (A .nodes)

@@ -1,15 +1,9 @@
 -- Minimal automata are smallest: representatives are different nodes, and an automaton with no more nodes than its minimal one is that up to its numbers.
-use Prim.Native.Nat.{ℕ, suc, _≤_, _<_}
-use native.Mathlib.Omega.{arith}
-use mathlib.Core.Path.{_≡_, sym, ap, _∙_, subst}
-use mathlib.Core.Logic.{⊎-elim}
-use mathlib.Core.Bool.{Bool, false, cond}
-use mathlib.Core.List.{List}
-use lib.Dec.{eqb, ltb}
-use borrow.Author.Tests.{eqb-true, eq-eqb, lt-ltb, le-ltb}
+use Rattle.scan.proofs.Basics.{ℕ, _-_, _≤_, _<_, arith, _≡_, sym, ap, subst, _∙_, _⊎_, inl, inr, ⊎-elim, Bool, false, eqb, List}
+use Prim.Native.Nat.{min}
+use Rattle.scan.proofs.Tests.{eqb-true, eqb-false, byTest, byLess}
 use Rattle.scan.specs.Scan.{any, sum}
-use Rattle.scan.proofs.Tests.{byTest, true-false, lt-suc-cases}
-use Rattle.scan.proofs.Every.{any-in, any-out}
+use Rattle.scan.proofs.Every.{any-out, any-before}
 use Rattle.scan.proofs.Count.{pigeonhole}
 use Rattle.scan.proofs.Sum.{sum-distinct}
 use Rattle.automaton.specs.Automaton.{Automaton, Closed}
@@ -21,37 +15,31 @@ use Rattle.automaton.proofs.Minimal.{equivalent→minimal-equal}
 
 -- N different numbers below N are all of them
 pub distinct-all : (f : ℕ → ℕ) (N : ℕ) → ((i : ℕ) → i < N → f i < N) → ((i j : ℕ) → i < j → j < N → f i ≡ f j → ⊥) → (v : ℕ) → v < N → (i : ℕ) × (i < N) × (f i ≡ v)
-distinct-all f N h d v l =
-    byTest (any hits N) (λ e. let (i, li, q) = any-out hits N e in (i, li, eqb-true (f i) v q)) (λ e. absurd (one-more e))
+distinct-all f N h d v l = byTest (any hits N) (λ e. let (i, li, q) = any-out hits N e in (i, li, eqb-true (f i) v q)) (λ e. absurd (missed e))
   where
     hits : ℕ → Bool
     hits i = eqb (f i) v
 
-    -- f, and v behind it
-    g : ℕ → ℕ
-    g i = cond (ltb i N) (f i) v
+    -- the numbers but v, counted through
+    gap : (x y : ℕ) → (x < v) ⊎ (v < x) → (y < v) ⊎ (v < y) → x - min 1 (x - v) ≡ y - min 1 (y - v) → x ≡ y
+    gap x y (inl a) (inl b) q = omega arith
+    gap x y (inl a) (inr b) q = omega arith
+    gap x y (inr a) (inl b) q = omega arith
+    gap x y (inr a) (inr b) q = omega arith
 
-    old : (i : ℕ) → i < N → g i ≡ f i
-    old i li = rw (lt-ltb i N li)
-
-    new : g N ≡ v
-    new = rw (le-ltb N N (omega arith))
-
-    one-more : any hits N ≡ false → ⊥
-    one-more e =
-        let over : suc N ≤ N = pigeonhole g (suc N) N
-        (λ i li. ⊎-elim (λ (q : i ≡ N). rw (q, new) l) (λ (m : i < N). rw (old i m) (h i m)) (lt-suc-cases li))
-        (λ i j ij lj q. ⊎-elim
-        (λ (x : j ≡ N). true-false (any hits N) (any-in hits N i (omega arith) (eq-eqb (f i) v (sym (old i (omega arith)) ∙ q ∙ ap g x ∙ new))) e)
-        (λ (m : j < N). d i j ij m (sym (old i (omega arith)) ∙ q ∙ old j m)) (lt-suc-cases lj)) in
+    missed : any hits N ≡ false → ⊥
+    missed e =
+        let other : (i : ℕ) → i < N → (f i < v) ⊎ (v < f i)
+        = λ i li. byLess (f i) v inl (λ k. inr (omega (arith, eqb-false (f i) v (any-before hits N e i li)))) in
+        let over : N ≤ N - 1 = pigeonhole (λ i. f i - min 1 (f i - v)) N (N - 1) (λ i li. ⊎-elim (λ k. omega arith) (λ k. omega (arith, h i li)) (other i li))
+        (λ i j ij lj q. d i j ij lj (gap (f i) (f j) (other i (omega arith)) (other j lj) q)) in
         omega arith
 
 module _ (fire : List ℕ → ℕ → List ℕ) (A : Automaton) (c : Closed A) (f : Fires fire A) where
-  pub representative-injective : (i j : ℕ) → i < (minimal A) .nodes → j < (minimal A) .nodes → representative A i ≡ representative A j → i ≡ j
-  representative-injective i j li lj e = sym (number-representative fire A c f i li) ∙ ap (number A) e ∙ number-representative fire A c f j lj
-
   distinct : (i j : ℕ) → i < j → j < (minimal A) .nodes → representative A i ≡ representative A j → ⊥
-  distinct i j ij lj e = let q : i ≡ j = representative-injective i j (omega arith) lj e in omega arith
+  distinct i j ij lj e =
+      let q : i ≡ j = sym (number-representative fire A c f i (omega arith)) ∙ ap (number A) e ∙ number-representative fire A c f j lj in
+      omega arith
 
   -- what is counted at every node comes to no more over the classes
   pub minimal-sum : (d : ℕ → ℕ) → sum (λ i. d (representative A i)) ((minimal A) .nodes) ≤ sum d (A .nodes)

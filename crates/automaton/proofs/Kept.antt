@@ -1,16 +1,13 @@
 -- What a quotient keeps: where lists lead, the lists allowed, reduced nodes, arcs that land and fire, ways to a goal.
-use Prim.Native.Nat.{ℕ, _<_}
-use mathlib.Core.Path.{_≡_, refl, sym, ap, _∙_}
-use mathlib.Core.Bool.{Bool, true}
-use mathlib.Core.List.{List, [], _∷_}
-use mathlib.Core.Option.{Option, none, some, Option·map, map-eq-some-iff}
+use Rattle.scan.proofs.Basics.{ℕ, _<_, _≡_, refl, sym, ap, _∙_, Option, none, some, Option·map, List, [], _∷_}
+use mathlib.Core.Option.{map-eq-some-iff}
 use Rattle.scan.specs.Scan.{found}
 use Rattle.automaton.specs.Automaton.{Automaton, Closed, follow, allows, SameLists}
-use Rattle.automaton.specs.Reach.{Reachable, Leads}
+use Rattle.automaton.specs.Reach.{Reachable}
 use Rattle.automaton.specs.Equivalence.{Equivalent, Fires}
 use Rattle.automaton.specs.Quotient.{Quotient, Reduced}
 use Rattle.automaton.proofs.Automaton.{arc-cases, follow-arc, follow-no-arc}
-use Rattle.automaton.proofs.Reach.{reachable-node, root-reachable, arc-reachable, follow-reachable}
+use Rattle.automaton.proofs.Reach.{reachable-node, root-reachable, arc-reachable}
 use Rattle.automaton.proofs.Equivalence.{equivalent-sym, equivalent-trans}
 
 found-map : (f : ℕ → ℕ) (o : Option ℕ) → found (Option·map f o) ≡ found o
@@ -65,9 +62,3 @@ module _ (A M : Automaton) (f : ℕ → ℕ) (Q : Quotient A M f) where
         ap (M .label) (sym q) ∙ Q .labels m (arc-reachable A n t m r a) ∙ F .fires n t m (reachable-node A c n r) a ∙
         ap (λ (x : List ℕ). fire x t) (sym (Q .labels n r) ∙ ap (M .label) p);
   }
-
-  -- a way to a goal stays one
-  pub quotient-leads : (goal goal′ : ℕ → Bool) → ((n : ℕ) → Reachable A n → goal n ≡ true → goal′ (f n) ≡ true)
-      → (n : ℕ) → Reachable A n → Leads A goal n → Leads M goal′ (f n)
-  unfolding Leads
-  quotient-leads goal goal′ h n r (σ, m, e, g) = (σ, f m, quotient-follow σ n r ∙ ap (Option·map f) e, h m (follow-reachable A σ n m r e) g)

@@ -1,13 +1,10 @@
 -- A class is known by its least member: two numbers are equivalent exactly when their leaders are equal.
-use Prim.Native.Nat.{ℕ, _≤_, _<_}
-use native.Mathlib.Omega.{arith}
-use mathlib.Core.Path.{_≡_}
-use mathlib.Core.Bool.{Bool, true}
-use lib.Dec.{eqb, ltb}
-use borrow.Author.Tests.{eqb-true, eq-eqb, ltb-true, ltb-false}
-use Rattle.scan.proofs.Tests.{byTest, iff→eq}
+use Rattle.scan.proofs.Basics.{ℕ, _≤_, _<_, arith, _≡_, Bool, true}
+use mathlib.Core.Logic.{Iff·rfl}
+use Rattle.scan.proofs.Tests.{byLess}
 use Rattle.scan.proofs.Least.{least-le, least-hit, least-of, least-ext}
 use Rattle.automaton.specs.Equivalence.{inClass, leaderBy, sameClass}
+use Rattle.scan.proofs.Decide.{eqb↔, equal↔}
 
 pub record IsEquivalence (r : ℕ → ℕ → Bool) : Type 0 where
   pub reflexive : (n : ℕ) → r n n ≡ true
@@ -30,8 +27,8 @@ module _ (r : ℕ → ℕ → Bool) (E : IsEquivalence r) where
   pub leader-member : (n : ℕ) → r (leaderBy r n) n ≡ true
   unfolding leaderBy inClass
   leader-member n =
-      byTest (ltb (leaderBy r n) n) (λ q. least-hit (inClass r n) n (ltb-true (leaderBy r n) n q))
-      (λ q. let e : leaderBy r n ≡ n = omega (arith, leader-le r n, ltb-false (leaderBy r n) n q) in rw e (E .reflexive n))
+      byLess (leaderBy r n) n (least-hit (inClass r n) n)
+      (λ l. let e : leaderBy r n ≡ n = omega (arith, leader-le r n) in rw e (E .reflexive n))
 
   pub leader-of-equivalent : (n m : ℕ) → r n m ≡ true → leaderBy r n ≡ leaderBy r m
   leader-of-equivalent n m e = omega (
@@ -45,9 +42,4 @@ module _ (r : ℕ → ℕ → Bool) (E : IsEquivalence r) where
 
   pub leader-test : (n m : ℕ) → sameClass (leaderBy r) n m ≡ r n m
   unfolding sameClass
-  leader-test n m =
-      iff→eq (eqb (leaderBy r n) (leaderBy r m)) (r n m) (λ e. equivalent-by-leader n m (eqb-true (leaderBy r n) (leaderBy r m) e))
-      (λ e. eq-eqb (leaderBy r n) (leaderBy r m) (leader-of-equivalent n m e))
-
-  pub leader-of-leader : (n : ℕ) → leaderBy r (leaderBy r n) ≡ leaderBy r n
-  leader-of-leader n = leader-of-equivalent (leaderBy r n) n (leader-member n)
+  leader-test n m = equal↔ _ _ (eqb↔ _ _) Iff·rfl (equivalent-by-leader n m, leader-of-equivalent n m)

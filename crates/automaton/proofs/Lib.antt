@@ -1,3 +1,5 @@
+-- the order of numbers
+pub mod Before
 -- lists, what they lead to, and ways to a goal
 pub mod Automaton
 pub mod Rounds
@@ -11,7 +13,6 @@ pub mod Same
 pub mod Equivalence
 pub mod Classes
 -- breadth-first numbers, and that they leave one automaton
-pub mod Before
 pub mod BreadthFirst
 pub mod Unique
 -- the search that finds them

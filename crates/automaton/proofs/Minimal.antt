@@ -1,20 +1,12 @@
 -- The minimal automaton allows what the automaton allows, is canonical and its own minimal automaton, and two are equal exactly where the roots are equivalent.
-use Prim.Native.Nat.{ℕ, _≤_, _<_}
-use mathlib.Core.Path.{_≡_, sym, ap, _∙_, subst}
-use mathlib.Core.Logic.{_↔_}
-use mathlib.Core.List.{List}
-use mathlib.Core.Option.{none, Option·map}
-use lib.Dec.{ltb}
-use borrow.Author.Tests.{ltb-true, ltb-false}
-use Rattle.scan.proofs.Tests.{byTest}
+use Rattle.scan.proofs.Basics.{ℕ, _≤_, _≡_, sym, ap, subst, _∙_, _↔_, none, Option·map, List}
+use Rattle.scan.proofs.Tests.{byLess}
 use Rattle.automaton.specs.Automaton.{Automaton, Closed, SameLists}
-use Rattle.automaton.specs.Reach.{Reachable}
 use Rattle.automaton.specs.Equivalence.{Equivalent, Fires, same}
 use Rattle.automaton.specs.BreadthFirst.{BreadthFirst}
 use Rattle.automaton.specs.Quotient.{merged, minimalBy, minimal, number, representative, Quotient, Confined, Canonical}
 use Rattle.automaton.proofs.Reach.{root-reachable}
 use Rattle.automaton.proofs.Equivalence.{equivalent-sym, equivalent-trans, same-equivalence}
-use Rattle.automaton.proofs.BreadthFirst.{breadth-first-reachable}
 use Rattle.automaton.proofs.Unique.{unique, unique-nodes}
 use Rattle.automaton.proofs.Search.{order-short}
 use Rattle.automaton.proofs.Quotient.{minimal-transitions, minimal-arc, minimal-confined, minimal-breadth-first, quotient}
@@ -29,10 +21,8 @@ module _ (fire : List ℕ → ℕ → List ℕ) (A : Automaton) (c : Closed A) (
     root = rw (Q .root) at (Q .node 0 (root-reachable A));
     lands = quotient-lands A (minimal A) (number A) Q;
     bounded = λ i t l.
-        byTest (ltb i ((minimal A) .nodes))
-        (λ q. minimal-arc A i t (ltb-true i ((minimal A) .nodes) q) ∙
-        ap (Option·map (number A)) (c .bounded (representative A i) t (rw (minimal-transitions A) at l)))
-        (λ q. minimal-confined A .arcs i t (ltb-false i ((minimal A) .nodes) q));
+        byLess i ((minimal A) .nodes) (λ k. minimal-arc A i t k ∙ ap (Option·map (number A)) (c .bounded (representative A i) t (rw (minimal-transitions A) at l)))
+        (minimal-confined A .arcs i t);
   }
 
   pub minimal-canonical : Canonical fire (minimal A)
@@ -46,9 +36,6 @@ module _ (fire : List ℕ → ℕ → List ℕ) (A : Automaton) (c : Closed A) (
 
   pub minimal-equivalent : Equivalent (minimal A) A 0 0
   minimal-equivalent = quotient-root A (minimal A) (number A) Q
-
-  pub minimal-reachable : (i : ℕ) → i < (minimal A) .nodes → Reachable (minimal A) i
-  minimal-reachable = breadth-first-reachable (minimal A) (minimal-breadth-first fire A c f)
 
   pub minimal-size : (minimal A) .nodes ≤ A .nodes
   unfolding minimal minimalBy merged
@@ -96,10 +83,6 @@ module _ (fire : List ℕ → ℕ → List ℕ) (A B : Automaton) (cA : Closed A
   minimal-equal→equivalent e =
       equivalent-trans A (minimal A) B 0 0 0 (equivalent-sym (minimal A) A 0 0 (minimal-equivalent fire A cA fA))
       (subst (λ (M : Automaton). Equivalent M B 0 0) (sym e) (minimal-equivalent fire B cB fB))
-
-  -- two are equal exactly where the roots have equal labels and allow the same lists
-  pub minimal-equal↔equivalent : A .transitions ≡ B .transitions → (minimal A ≡ minimal B) ↔ Equivalent A B 0 0
-  minimal-equal↔equivalent T = (minimal-equal→equivalent, equivalent→minimal-equal T)
 
   -- with equal labels at the roots: exactly where every list is allowed by both or by neither
   pub minimal-equal↔lists : A .transitions ≡ B .transitions → A .label 0 ≡ B .label 0 → (minimal A ≡ minimal B) ↔ SameLists A B 0 0

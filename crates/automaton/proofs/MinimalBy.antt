@@ -1,18 +1,10 @@
 -- Any test that agrees with `same` on the nodes makes the same minimal automaton: the table of leaders of the last round does.
-use Prim.Native.Nat.{ℕ, zero, suc, _<_}
-use native.Mathlib.Omega.{arith}
-use mathlib.Core.Path.{_≡_, refl, sym, ap, _∙_}
-use mathlib.Core.Bool.{Bool, cond}
-use mathlib.Core.List.{List, []}
-use mathlib.Core.Option.{none, Option·map}
-use lib.Dec.{ltb}
-use lib.ListN.{length, getD}
-use borrow.Author.Tests.{ltb-true}
-use Rattle.scan.proofs.Tests.{byTest}
+use Rattle.scan.proofs.Basics.{ℕ, zero, suc, _<_, arith, _≡_, refl, sym, ap, _∙_, Bool, cond, ltb, List, length, getD}
+use Rattle.scan.proofs.Tests.{ltb-true, byTest}
 use Rattle.scan.proofs.Least.{least-ext}
 use Rattle.automaton.specs.Automaton.{Automaton, Closed}
 use Rattle.scan.specs.Scan.{foundOr}
-use Rattle.automaton.specs.Equivalence.{sameIn, same, leaderBy, leader, sameClass, refined}
+use Rattle.automaton.specs.Equivalence.{same, leaderBy, leader, sameClass, refined}
 use Rattle.automaton.specs.BreadthFirst.{classAt, indexOf, enter, expand, explored, order}
 use Rattle.automaton.specs.Quotient.{merged, minimalBy, minimal}
 use Rattle.automaton.proofs.Automaton.{arc-cases}
@@ -20,12 +12,12 @@ use Rattle.automaton.proofs.Classes.{same-leader, class-same, refined-l
 use Rattle.automaton.proofs.Index.{enter-cases, snoc-all}
 
 -- every element is a node
-Nodes : Automaton → List ℕ → Type 0
+abbrev Nodes : Automaton → List ℕ → Type 0
 Nodes A xs = (k : ℕ) → k < length xs → getD xs k 0 < A .nodes
 
 module _ (A : Automaton) (c : Closed A) (r s : ℕ → ℕ → Bool) (agree : (n m : ℕ) → n < A .nodes → m < A .nodes → r n m ≡ s n m) where
   index-agrees : (xs : List ℕ) (m : ℕ) → Nodes A xs → m < A .nodes → indexOf r xs m ≡ indexOf s xs m
-  unfolding indexOf classAt Nodes
+  unfolding indexOf classAt
   index-agrees xs m h l = least-ext (classAt r xs m) (classAt s xs m) (length xs) (λ i li. agree (getD xs i 0) m (h i li) l)
 
   enter-agrees : (xs : List ℕ) (m : ℕ) → Nodes A xs → m < A .nodes → enter r xs m ≡ enter s xs m
@@ -33,7 +25,7 @@ module _ (A : Automaton) (c : Closed A) (r s : ℕ → ℕ → Bool) (agree : (n
   enter-agrees xs m h l = rw (index-agrees xs m h l)
 
   enter-nodes : (xs : List ℕ) (m : ℕ) → Nodes A xs → m < A .nodes → Nodes A (enter s xs m)
-  enter-nodes xs m h l = enter-cases s xs m (Nodes A) (λ _. h) (λ _. unfold Nodes in (snoc-all xs m (λ k n. n < A .nodes) h l))
+  enter-nodes xs m h l = enter-cases s xs m (Nodes A) (λ _. h) (λ _. snoc-all xs m (λ k n. n < A .nodes) h l)
 
   record Step (ys zs : List ℕ) : Type 0 where
     equal : ys ≡ zs
@@ -53,7 +45,7 @@ module _ (A : Automaton) (c : Closed A) (r s : ℕ → ℕ → Bool) (agree : (n
 
   explored-agrees : (i : ℕ) → Step (explored r A i) (explored s A i)
   unfolding explored
-  explored-agrees zero = record { equal = refl; nodes = unfold Nodes in (λ k l. let z : k ≡ 0 = omega arith in rw z (c .root)) }
+  explored-agrees zero = record { equal = refl; nodes = λ k l. let z : k ≡ 0 = omega arith in rw z (c .root) }
   explored-agrees (suc i) = step (explored r A i) (explored s A i) (explored-agrees i)
     where
       step : (xs ys : List ℕ) → Step xs ys
@@ -61,7 +53,7 @@ module _ (A : Automaton) (c : Closed A) (r s : ℕ → ℕ → Bool) (agree : (n
       step xs ys S =
           rw (S .equal)
           (byTest (ltb i (length ys))
-          (λ q. rw q (expand-agrees (getD ys i 0) ys (unfold Nodes in (S .nodes i (ltb-true i (length ys) q))) (S .nodes) (A .transitions)))
+          (λ q. rw q (expand-agrees (getD ys i 0) ys (S .nodes i (ltb-true i (length ys) q)) (S .nodes) (A .transitions)))
           (λ q. rw q (record { equal = refl; nodes = S .nodes })))
 
   pub order-agrees : order r A ≡ order s A
@@ -69,16 +61,10 @@ module _ (A : Automaton) (c : Closed A) (r s : ℕ → ℕ → Bool) (agree : (n
   order-agrees = explored-agrees (A .nodes) .equal
 
   merged-agrees : (xs : List ℕ) → Nodes A xs → merged r A xs ≡ merged s A xs
-  unfolding merged Nodes
-  merged-agrees xs h = λ i. record {
-    nodes = length xs;
-    transitions = A .transitions;
-    arc = λ n t. arcs n t i;
-    label = λ n. cond (ltb n (length xs)) (A .label (getD xs n 0)) [];
-  }
+  unfolding merged
+  merged-agrees xs h = λ i. record { nodes = length xs; transitions = A .transitions; arc = λ n t. arcs n t i; label = (merged s A xs) .label }
     where
-      arcs : (n t : ℕ)
-          → cond (ltb n (length xs)) (Option·map (indexOf r xs) (A .arc (getD xs n 0) t)) none ≡ cond (ltb n (length xs)) (Option·map (indexOf s xs) (A .arc (getD xs n 0) t)) none
+      arcs : (n t : ℕ) → (merged r A xs) .arc n t ≡ (merged s A xs) .arc n t
       arcs n t =
           byTest (ltb n (length xs))
           (λ q. rw q (arc-cases (A .arc (getD xs n 0) t) (λ a. rw a)
@@ -89,23 +75,15 @@ module _ (A : Automaton) (c : Closed A) (r s : ℕ → ℕ → Bool) (agree : (n
   unfolding minimalBy order
   minimalBy-agrees = ap (merged r A) (explored-agrees (A .nodes) .equal) ∙ merged-agrees (order s A) (explored-agrees (A .nodes) .nodes)
 
-pub minimalBy-minimal : (A : Automaton) → Closed A → (r : ℕ → ℕ → Bool) → ((n m : ℕ) → n < A .nodes → m < A .nodes → r n m ≡ same A n m) → minimalBy r A ≡ minimal A
-unfolding minimal
-minimalBy-minimal A c r h = minimalBy-agrees A c r (same A) h
-
 -- ---- by a table that holds the leaders of round k
 
 module _ (A : Automaton) (c : Closed A) (k : ℕ) (class : ℕ → ℕ) (is : (n : ℕ) → n < A .nodes → class n ≡ leader A k n) where
   -- a round more changes nothing
   pub minimalBy-stable : ((n : ℕ) → n < A .nodes → leaderBy (refined A class) n ≡ class n) → minimalBy (sameClass class) A ≡ minimal A
+  unfolding minimal
   minimalBy-stable h =
-      minimalBy-minimal A c (sameClass class)
+      minimalBy-agrees A c (sameClass class) (same A)
       (λ n m ln lm. class-same A c k class is n m ln lm ∙ sym (same-leader A k n m) ∙ sym (leaders-last A c k unchanged n m ln lm))
     where
       unchanged : (n : ℕ) → n < A .nodes → leader A (suc k) n ≡ leader A k n
       unchanged n l = sym (refined-leader A c k class is n l) ∙ h n l ∙ is n l
-
-  -- or as many rounds as there are nodes were made
-  pub minimalBy-rounds : k ≡ A .nodes → minimalBy (sameClass class) A ≡ minimal A
-  unfolding same
-  minimalBy-rounds e = minimalBy-minimal A c (sameClass class) (λ n m ln lm. class-same A c k class is n m ln lm ∙ ap (λ (j : ℕ). sameIn A j n m) e)

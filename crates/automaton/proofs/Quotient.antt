@@ -1,22 +1,16 @@
 -- The minimal automaton is the quotient of the reached nodes by equivalence, and its numbers are breadth first.
-use Prim.Native.Nat.{ℕ, _<_}
-use native.Mathlib.Omega.{arith}
-use mathlib.Core.Path.{_≡_, refl, sym, _∙_}
-use mathlib.Core.Bool.{Bool, true}
-use mathlib.Core.List.{List}
-use mathlib.Core.Option.{some, Option·map, map-eq-some-iff}
-use lib.Dec.{ltb}
-use lib.ListN.{length}
-use borrow.Author.Tests.{ltb-true, lt-ltb, le-ltb}
+use Rattle.scan.proofs.Basics.{ℕ, _<_, arith, _≡_, refl, sym, _∙_, some, Option·map, List, length}
+use mathlib.Core.Option.{map-eq-some-iff}
+use Rattle.scan.proofs.Tests.{lt-ltb, le-ltb}
 use Rattle.automaton.specs.Automaton.{Automaton, Closed}
 use Rattle.automaton.specs.Reach.{Reachable}
 use Rattle.automaton.specs.Equivalence.{Equivalent, Fires, same}
 use Rattle.automaton.specs.BreadthFirst.{BreadthFirst, order}
 use Rattle.automaton.specs.Quotient.{merged, minimalBy, minimal, number, representative, Quotient, Confined}
-use Rattle.automaton.proofs.Reach.{reachable-node, closed-reachable}
+use Rattle.automaton.proofs.Reach.{reachable-node, reachable-keeps}
 use Rattle.automaton.proofs.Targets.{targets-cases, targets-right}
 use Rattle.automaton.proofs.Leader.{IsEquivalence}
-use Rattle.automaton.proofs.Equivalence.{equivalent-sym, equivalent-trans, equivalent-targets, same-equivalence, same→equivalent, equivalent→same}
+use Rattle.automaton.proofs.Equivalence.{equivalent-sym, equivalent-trans, equivalent-targets, same-equivalence, same↔equivalent}
 use Rattle.automaton.proofs.BreadthFirst.{Numbered, numbered→breadth-first}
 use Rattle.automaton.proofs.Before.{before-parent}
 use Rattle.automaton.proofs.Index.{Met, index-met, index-hit, index-of-element, index-of-equivalent}
@@ -71,14 +65,14 @@ module _ (fire : List ℕ → ℕ → List ℕ) (A : Automaton) (c : Closed A) (
 
   pub number-equivalent : (n m : ℕ) → n < A .nodes → m < A .nodes → Equivalent A A n m → number A n ≡ number A m
   unfolding number
-  number-equivalent n m ln lm e = index-of-equivalent (same A) (order (same A) A) E n m (equivalent→same A c fire f n m ln lm e)
+  number-equivalent n m ln lm e = index-of-equivalent (same A) (order (same A) A) E n m (same↔equivalent A c fire f n m ln lm .1 e)
 
   -- a node whose class the search met is equivalent to that class's representative
   met-equivalent : (n : ℕ) → n < A .nodes → number A n < (minimal A) .nodes → Equivalent A A n (representative A (number A n))
   unfolding number minimal minimalBy merged
   met-equivalent n ln l =
       equivalent-sym A A (representative A (number A n)) n
-      (same→equivalent A c (representative A (number A n)) n (order-found .node (number A n) l) ln (index-hit (same A) (order (same A) A) n l))
+      (same↔equivalent A c fire f (representative A (number A n)) n (order-found .node (number A n) l) ln .0 (index-hit (same A) (order (same A) A) n l))
 
   pub number-root : number A 0 ≡ 0
   number-root = rw (order-found .root) at (number-representative 0 (unfold minimal minimalBy merged in (order-found .nonempty)))
@@ -98,16 +92,7 @@ module _ (fire : List ℕ → ℕ → List ℕ) (A : Automaton) (c : Closed A) (
       rw (number-equivalent m b (c .lands n t m ln a) (c .lands (representative A i) t b li ab) x) (target-met i t b l ab)
 
   pub number-node : (n : ℕ) → Reachable A n → number A n < (minimal A) .nodes
-  number-node n r = ltb-true (number A n) ((minimal A) .nodes) (closed-reachable A c met root step n r)
-    where
-      met : ℕ → Bool
-      met n = ltb (number A n) ((minimal A) .nodes)
-
-      root : met 0 ≡ true
-      root = lt-ltb (number A 0) ((minimal A) .nodes) (rw number-root (unfold minimal minimalBy merged in (order-found .nonempty)))
-
-      step : (n t m : ℕ) → n < A .nodes → met n ≡ true → A .arc n t ≡ some m → met m ≡ true
-      step n t m l h a = lt-ltb (number A m) ((minimal A) .nodes) (met-step n t m l (ltb-true (number A n) ((minimal A) .nodes) h) a)
+  number-node = reachable-keeps A c (λ n. number A n < (minimal A) .nodes) (rw number-root (unfold minimal minimalBy merged in (order-found .nonempty))) met-step
 
   -- ---- the quotient
 
@@ -150,9 +135,9 @@ module _ (fire : List ℕ → ℕ → List ℕ) (A : Automaton) (c : Closed A) (
           lower = F .lower;
           arc = minimal-arc A (F .parent) (F .by) (omega (arith, F .lower)) ∙ rw (F .arc, number-representative k l);
           earlier = λ q v m b e.
-              let lq : q < (minimal A) .nodes = omega (arith, F .lower, before-parent q v (F .parent) (F .by) b) in
-              let (n, a, h) = map-eq-some-iff (number A) (A .arc (representative A q) v) .0 (sym (minimal-arc A q v lq) ∙ e) in
-              rw (← h) (number-met A k n (F .earlier q v n b a));
+              let lq : q < k = omega (arith, F .lower, before-parent q v (F .parent) (F .by) b) in
+              let (n, a, h) = map-eq-some-iff (number A) (A .arc (representative A q) v) .0 (sym (minimal-arc A q v (omega arith)) ∙ e) in
+              rw (← h) (number-met A k n (F .earlier q v n b lq a));
         },
       )
 

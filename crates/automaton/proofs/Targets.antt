@@ -1,8 +1,6 @@
 -- Two arcs whose targets are related: both missing, or both there with the relation between the targets.
-use Prim.Native.Nat.{ℕ}
-use mathlib.Core.Path.{_≡_, refl}
-use mathlib.Core.Bool.{Bool, true, false}
-use mathlib.Core.Option.{Option, none, some}
+use Rattle.scan.proofs.Basics.{ℕ, _≡_, refl, sym, Bool, true, false, Option, none, some}
+use Rattle.scan.specs.Scan.{found}
 use Rattle.scan.proofs.Tests.{true-false}
 use Rattle.scan.proofs.First.{none-some}
 use Rattle.automaton.specs.Equivalence.{equalArcs}
@@ -34,6 +32,14 @@ module _ (R : ℕ → ℕ → Type 0) where
   -- where the first is there, so is the second
   pub targets-right : (x y : Option ℕ) (a : ℕ) → Targets R x y → x ≡ some a → (b : ℕ) × (y ≡ some b) × R a b
   targets-right x y a r e = targets-cases x y r (λ p q. none-some x a p e) (λ c b p q s. let h : c ≡ a = cc in (b, q, rw (← h) s))
+
+  -- both are missing or neither is
+  pub targets-found : (x y : Option ℕ) → found x ≡ found y → ((a b : ℕ) → x ≡ some a → y ≡ some b → R a b) → Targets R x y
+  unfolding found
+  targets-found none none e h = tt
+  targets-found none (some b) e h = true-false true refl (sym e)
+  targets-found (some a) none e h = true-false true refl e
+  targets-found (some a) (some b) e h = h a b refl refl
 
   pub targets-refl : ((a : ℕ) → R a a) → (x : Option ℕ) → Targets R x x
   targets-refl h none = tt

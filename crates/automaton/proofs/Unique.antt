@@ -1,12 +1,6 @@
 -- There is one canonical automaton for each class of roots: two with equivalent roots are equal.
-use Prim.Native.Nat.{ℕ, zero, suc, _-_, _≤_, _<_}
-use native.Mathlib.Omega.{arith}
-use mathlib.Core.Path.{_≡_, sym, ap, _∙_}
-use mathlib.Core.List.{List}
-use mathlib.Core.Option.{some}
-use lib.Dec.{ltb}
-use borrow.Author.Tests.{ltb-true, ltb-false}
-use Rattle.scan.proofs.Tests.{byTest}
+use Rattle.scan.proofs.Basics.{ℕ, _-_, _≤_, _<_, arith, _≡_, sym, ap, _∙_, some, List}
+use Rattle.scan.proofs.Tests.{byLess}
 use Rattle.automaton.specs.Automaton.{Automaton}
 use Rattle.automaton.specs.Equivalence.{Equivalent}
 use Rattle.automaton.specs.BreadthFirst.{Before, Discovery}
@@ -71,11 +65,8 @@ module _ (fire : List ℕ → ℕ → List ℕ) (A B : Automaton) (cA : Canonica
       matched k z l below p u lp D m (cB .closed .lands p u m (P .node) b) b e
 
   pub paired : Equivalent A B 0 0 → (k : ℕ) → k < A .nodes → Paired k
-  paired e = lower-induction (λ k. k < A .nodes → Paired k) step
-    where
-      step : (k : ℕ) → ((j : ℕ) → j < k → j < A .nodes → Paired j) → k < A .nodes → Paired k
-      step zero h l = record { node = cB .closed .root; equivalent = e }
-      step (suc k) h l = paired-step (suc k) (omega arith) l h
+  paired e = lower-induction (λ k. k < A .nodes → Paired k) (λ k h l. byLess 0 k (λ z. paired-step k z l h)
+      (λ z. let q : k ≡ 0 = omega arith in rw q (record { node = cB .closed .root; equivalent = e })))
 
   fewer : Equivalent A B 0 0 → A .nodes ≤ B .nodes
   fewer e = let P : Paired (A .nodes - 1) = paired e (A .nodes - 1) (omega (arith, cA .closed .root)) in omega (arith, P .node, cA .closed .root)
@@ -85,28 +76,20 @@ module _ (fire : List ℕ → ℕ → List ℕ) (A B : Automaton) (cA : Canonica
   unique-nodes = omega (arith, fewer fire A B cA cB e, fewer fire B A cB cA (equivalent-sym A B 0 0 e))
 
   pub unique-arc : (i t : ℕ) → A .arc i t ≡ B .arc i t
-  unique-arc i t = byTest (ltb i (A .nodes)) (λ q. at-node (ltb-true i (A .nodes) q)) (λ q. past (ltb-false i (A .nodes) q))
+  unique-arc i t = byLess i (A .nodes) at-node (λ l. cA .confined .arcs i t l ∙ sym (cB .confined .arcs i t (omega (arith, unique-nodes))))
     where
-      one-number : i < A .nodes → (a b : ℕ) → A .arc i t ≡ some a → B .arc i t ≡ some b → Equivalent A B a b → a ≡ b
-      one-number l a b p r x =
-          let P : Paired fire A B cA cB i = paired fire A B cA cB e i l in
-          paired-number fire A B cA cB a b (cB .closed .lands i t b (P .node) r) (paired fire A B cA cB e a (cA .closed .lands i t a l p)) x
-
       at-node : i < A .nodes → A .arc i t ≡ B .arc i t
       at-node l =
           let P : Paired fire A B cA cB i = paired fire A B cA cB e i l in
           targets-cases (Equivalent A B) (A .arc i t) (B .arc i t) (equivalent-targets fire A B (cA .fires) (cB .fires) i i l (P .node) (P .equivalent) t)
           (λ p r. p ∙ sym r)
-          (λ a b p r x. p ∙ ap some (one-number l a b p r x) ∙ sym r)
-
-      past : A .nodes ≤ i → A .arc i t ≡ B .arc i t
-      past l = cA .confined .arcs i t l ∙ sym (cB .confined .arcs i t (omega (arith, unique-nodes)))
+          (λ a b p r x. p ∙
+          ap some (paired-number fire A B cA cB a b (cB .closed .lands i t b (P .node) r) (paired fire A B cA cB e a (cA .closed .lands i t a l p)) x) ∙ sym r)
 
   pub unique-label : (i : ℕ) → A .label i ≡ B .label i
-  unique-label i = byTest (ltb i (A .nodes)) (λ q. paired fire A B cA cB e i (ltb-true i (A .nodes) q) .equivalent .labels) (λ q. past (ltb-false i (A .nodes) q))
-    where
-      past : A .nodes ≤ i → A .label i ≡ B .label i
-      past l = cA .confined .labels i l ∙ sym (cB .confined .labels i (omega (arith, unique-nodes)))
+  unique-label i =
+      byLess i (A .nodes) (λ l. paired fire A B cA cB e i l .equivalent .labels)
+      (λ l. cA .confined .labels i l ∙ sym (cB .confined .labels i (omega (arith, unique-nodes))))
 
   pub unique : A .transitions ≡ B .transitions → A ≡ B
   unique T = λ i. record { nodes = unique-nodes i; transitions = T i; arc = λ n t. unique-arc n t i; label = λ n. unique-label n i }

@@ -1,9 +1,6 @@
 -- The promises of every call, each proved for any call: with no output buffer, one or two, and for one that hands back a value.
-use Prim.Native.Nat.{ℕ, _≤_}
-use mathlib.Core.Path.{_≡_, refl, sym, ap, _∙_}
-use mathlib.Core.Logic.{_↔_, Iff·rfl, Iff·trans}
-use mathlib.Core.List.{List, [], _∷_, _++_}
-use lib.ListN.{length, take}
+use Rattle.scan.proofs.Basics.{ℕ, _≤_, _≡_, refl, sym, ap, _∙_, _↔_, List, [], _∷_, _++_, length, take}
+use mathlib.Core.Logic.{Iff·rfl, Iff·trans}
 use Rattle.scan.specs.Scan.{tabulate}
 use Rattle.refusal.specs.Checks.{Check, once, AllPass}
 use Rattle.refusal.specs.declared.Refusal.{Refusal}

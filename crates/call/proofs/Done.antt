@@ -1,16 +1,10 @@
 -- What a call that is done says of its answer, its output buffers and its scratch, whatever its words are.
-use Prim.Native.Nat.{ℕ, zero, suc, _+_, _-_, _≤_, _<_}
-use native.Mathlib.Omega.{arith}
-use mathlib.Core.Path.{_≡_, refl, sym, ap, _∙_}
-use mathlib.Core.Logic.{_↔_, Iff·rfl}
-use mathlib.Core.Bool.{true}
-use mathlib.Core.List.{List, [], _∷_}
-use lib.ListN.{length, getD, take, replicate, length-append, length-drop, length-replicate, List·getD-eq-default}
+use Rattle.scan.proofs.Basics.{ℕ, zero, suc, _+_, _-_, _≤_, _<_, arith, _≡_, refl, sym, ap, _∙_, _↔_, true, ltb, List, [], _∷_, length, getD, take, replicate, length-append, length-replicate}
+use mathlib.Core.Logic.{Iff·rfl}
+use lib.ListN.{length-drop, List·getD-eq-default}
 use lib.Seq.{take-append-seam, getD-append-add, getD-drop}
-use lib.Dec.{ltb}
-use borrow.Author.Tests.{ltb-true, ltb-false}
+use Rattle.scan.proofs.Tests.{ltb-true, ltb-false, byTest}
 use Rattle.scan.specs.Scan.{tabulate}
-use Rattle.scan.proofs.Tests.{byTest}
 use Rattle.scan.proofs.Front.{cleared-whole}
 use Rattle.scan.proofs.Tabulate.{tabulate-length, tabulate-at}
 use Rattle.refusal.specs.Refusal.{told, plainOf, numberOf, positionTold}

@@ -1,14 +1,7 @@
 -- A call's verdict follows its checks: 21 first, then those of its words, 22 last. What a crate shows of its call, and how its refusals are numbered.
-use Prim.Native.Nat.{ℕ, _≤_, _<_}
-use native.Mathlib.Omega.{arith}
-use mathlib.Core.Path.{_≡_, refl, sym, ap, _∙_}
-use mathlib.Core.Logic.{_↔_, Iff·rfl, inl, ⊎-elim}
-use mathlib.Core.Bool.{true}
-use mathlib.Core.List.{List, [], _∷_, _++_}
-use lib.ListN.{length}
-use lib.Dec.{ltb}
-use borrow.Author.Tests.{ltb-true, ltb-false}
-use Rattle.scan.proofs.Tests.{byTest}
+use Rattle.scan.proofs.Basics.{ℕ, _≤_, _<_, arith, _≡_, refl, sym, ap, _∙_, inl, ⊎-elim, _↔_, true, ltb, List, [], _∷_, _++_, length}
+use mathlib.Core.Logic.{Iff·rfl}
+use Rattle.scan.proofs.Tests.{ltb-true, ltb-false, byTest}
 use Rattle.refusal.specs.Refusal.{refusal, told, numberOf}
 use Rattle.refusal.specs.Verdict.{andThen}
 use Rattle.refusal.specs.Checks.{Check, once, AllPass}

@@ -1,9 +1,5 @@
 -- The paths of a call's code, and the law for each by which it meets `CallDone` or `WordsDone`: refused by 21, served, refused by the words or by 22, answered.
-use Prim.Native.Nat.{ℕ, _≤_, _<_}
-use native.Mathlib.Omega.{arith}
-use mathlib.Core.Path.{_≡_, refl, sym, _∙_}
-use mathlib.Core.List.{List, [], _∷_}
-use lib.ListN.{length}
+use Rattle.scan.proofs.Basics.{ℕ, _≤_, _<_, arith, _≡_, refl, sym, _∙_, List, [], _∷_, length}
 use Rattle.scan.specs.Scan.{tabulate}
 use Rattle.scan.specs.Front.{cleared}
 use Rattle.refusal.specs.Refusal.{refusal}

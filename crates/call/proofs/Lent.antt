@@ -1,16 +1,8 @@
 -- What is lent is enough or not: what refusals 21 and 22 say of scratch and of output buffers, and when two buffers make no difference.
-use Prim.Native.Nat.{ℕ, zero, suc, _≤_, _<_}
-use native.Mathlib.Omega.{arith}
-use mathlib.Core.Path.{_≡_, refl, sym, ap}
-use mathlib.Core.Logic.{_↔_}
-use mathlib.Core.Bool.{Bool, cond}
-use mathlib.Core.List.{List, [], _∷_}
-use lib.ListN.{length, drop}
-use lib.Dec.{ltb}
-use borrow.Author.Tests.{ltb-true, ltb-false, lt-ltb, le-ltb}
+use Rattle.scan.proofs.Basics.{ℕ, zero, suc, _≤_, _<_, arith, _≡_, refl, sym, ap, _↔_, Bool, cond, ltb, List, [], _∷_, length, drop}
+use Rattle.scan.proofs.Tests.{ltb-true, ltb-false, lt-ltb, le-ltb, byTest}
 use Rattle.scan.specs.Scan.{when}
 use Rattle.scan.specs.Front.{cleared}
-use Rattle.scan.proofs.Tests.{byTest}
 use Rattle.scan.proofs.First.{when-none, when-some}
 use Rattle.refusal.specs.Refusal.{refusal}
 use Rattle.refusal.specs.declared.Position.the-variants.{Nothing}

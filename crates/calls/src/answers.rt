@@ -139,8 +139,7 @@ fn in_buffers(
 
 // The line of a case. The output buffer holds 9 before the call, and scratch 7, in the lengths lent.
 fn lending(operation: u32, net: &[u32], sheet: &[u32], words: &[u32], outs: usize, scratches: usize)
-    requires { ⌜ outs ≤ 9000 ⌝ }
-    requires { ⌜ scratches ≤ 9000 ⌝ }
+    requires { ⌜ (outs ≤ 9000) × (scratches ≤ 9000) ⌝ }
 {
     let mut out = [9u32; 9000];
     let mut scratch = [7u32; 9000];
@@ -197,9 +196,7 @@ fn lending_two(
     puts: usize,
     scratches: usize,
 )
-    requires { ⌜ takens ≤ 9000 ⌝ }
-    requires { ⌜ puts ≤ 9000 ⌝ }
-    requires { ⌜ scratches ≤ 9000 ⌝ }
+    requires { ⌜ (takens ≤ 9000) × (puts ≤ 9000) × (scratches ≤ 9000) ⌝ }
 {
     let mut taken = [9u64; 9000];
     let mut put = [9u64; 9000];
@@ -255,9 +252,7 @@ fn lending_list(
     lists: usize,
     scratches: usize,
 )
-    requires { ⌜ outs ≤ 9000 ⌝ }
-    requires { ⌜ lists ≤ 9000 ⌝ }
-    requires { ⌜ scratches ≤ 9000 ⌝ }
+    requires { ⌜ (outs ≤ 9000) × (lists ≤ 9000) × (scratches ≤ 9000) ⌝ }
 {
     let mut out = [9u32; 9000];
     let mut list = [9u32; 9000];
@@ -282,9 +277,7 @@ fn lent(
     seconds: usize,
     scratches: usize,
 )
-    requires { ⌜ outs ≤ 9000 ⌝ }
-    requires { ⌜ seconds ≤ 9000 ⌝ }
-    requires { ⌜ scratches ≤ 9000 ⌝ }
+    requires { ⌜ (outs ≤ 9000) × (seconds ≤ 9000) × (scratches ≤ 9000) ⌝ }
 {
     if cases::replays(operation) {
         lending_two(operation, net, sheet, words, outs, seconds, scratches);
@@ -309,9 +302,7 @@ pub(crate) fn line(
     scratches: usize,
 )
     requires { ⌜ (net ≤ sheet) × (sheet ≤ words) × (words ≤ length (now all)) ⌝ }
-    requires { ⌜ outs ≤ 9000 ⌝ }
-    requires { ⌜ seconds ≤ 9000 ⌝ }
-    requires { ⌜ scratches ≤ 9000 ⌝ }
+    requires { ⌜ (outs ≤ 9000) × (seconds ≤ 9000) × (scratches ≤ 9000) ⌝ }
 {
     lent(
         operation,

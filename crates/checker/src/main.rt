@@ -46,8 +46,7 @@ fn report(
     out: &mut [u8],
 ) -> usize
     requires { ⌜ Buffers (now netbin) (now sheetbin) (now net) (now sheet) (now form) (now out) ⌝ }
-    requires { ⌜ Counts n (now netbin) ⌝ }
-    requires { ⌜ Counts s (now sheetbin) ⌝ }
+    requires { ⌜ Counts n (now netbin) × Counts s (now sheetbin) ⌝ }
     ensures { λ r. ⌜ ((netFile sheetFile : List ℕ) → Reads netFile (now (netbin .entry)) n → Reads sheetFile (now (sheetbin .entry)) s → take r (now (out .exit)) ≡ printed netFile sheetFile) ⌝ }
     ensures { λ r. ⌜ Counts r (now (out .exit)) ⌝ }
 {

@@ -1,16 +1,10 @@
 -- The scan over the nodes: nothing is found before node n, and the marks are those of the await nodes below n.
-use Prim.Native.Nat.{ℕ, _+_, _≤_, _<_, min}
-use native.Mathlib.Omega.{arith}
-use mathlib.Core.Path.{_≡_, refl, sym, ap, _∙_}
-use mathlib.Core.List.{List}
-use mathlib.Core.Bool.{Bool, true, false, not, _&&_}
-use mathlib.Core.Option.{none, some}
-use lib.ListN.{getD, set, length-set, replicate, getD-replicate}
+use Rattle.scan.proofs.Basics.{ℕ, _+_, _≤_, _<_, arith, _≡_, refl, sym, ap, _∙_, Bool, true, false, not, _&&_, ltb, eqb, none, some, List, getD, set, replicate, length-set}
+use Prim.Native.Nat.{min}
+use lib.ListN.{getD-replicate}
 use lib.Seq.{getD-set-same, getD-set-other}
-use lib.Dec.{ltb, eqb}
-use borrow.Author.Tests.{lt-ltb, le-ltb, ltb-true, eqb-true, eqb-false, ne-eqb}
+use Rattle.scan.proofs.Tests.{ltb-true, lt-ltb, le-ltb, eqb-true, eqb-false, ne-eqb, byTest, iff→eq}
 use Rattle.scan.specs.Scan.{when, first, bit, tabulate, found}
-use Rattle.scan.proofs.Tests.{byTest, iff→eq}
 use Rattle.scan.proofs.First.{first-none, first-more, first-hit, orElse-hit, orElse-next}
 use Rattle.scan.proofs.Tabulate.{tabulate-is, tabulate-at, tabulate-length}
 use Rattle.refusal.specs.Refusal.{refusal}
@@ -36,18 +30,11 @@ pub record Ground (starts net sheet leaders : List ℕ) (source transitions node
   pub choices : ChoicesOf (netByRows net) leaders source
   pub transitions-are : transitions ≡ netByRows net .transitions
   pub nodes-are : nodes ≡ graphByRows starts net sheet .nodes
-  pub few-transitions : transitions ≤ 32
   pub few-nodes : nodes ≤ 128
 
 pub ground-is : {starts net sheet leaders : List ℕ} {source transitions nodes : ℕ} → ChoicesOf (netByRows net) leaders source → transitions ≡ min (transitionCount net) 32
     → nodes ≡ min (nodeCount sheet) 128 → Ground starts net sheet leaders source transitions nodes
-ground-is c t n = record {
-  choices = c;
-  transitions-are = unfold netByRows in t;
-  nodes-are = unfold graphByRows in n;
-  few-transitions = omega arith;
-  few-nodes = omega arith;
-}
+ground-is c t n = record { choices = c; transitions-are = unfold netByRows in t; nodes-are = unfold graphByRows in n; few-nodes = omega arith }
 
 pub record Passing (starts net sheet leaders : List ℕ) (source transitions nodes : ℕ) (awaits : List ℕ) (n : ℕ) : Type 0 where
   pub ground : Ground starts net sheet leaders source transitions nodes

@@ -1,15 +1,9 @@
 -- The table of choice sets: what the loops over rows of weights find, and what a least transition tells of its set.
-use Prim.Native.Nat.{ℕ, min, _≤_, _<_}
-use native.Mathlib.Omega.{arith}
-use mathlib.Core.Path.{_≡_, sym, _∙_}
-use mathlib.Core.List.{List}
-use mathlib.Core.Bool.{true, cond}
-use lib.ListN.{length, getD, set}
+use Rattle.scan.proofs.Basics.{ℕ, _≤_, _<_, arith, _≡_, sym, _∙_, true, cond, eqb, List, length, getD, set}
+use Prim.Native.Nat.{min}
 use lib.Seq.{getD-set-same, getD-set-other}
-use lib.Dec.{eqb}
-use borrow.Author.Tests.{eqb-true, eqb-false, eq-eqb}
+use Rattle.scan.proofs.Tests.{eqb-true, eqb-false, eq-eqb, byTest, iff→eq}
 use Rattle.scan.specs.Scan.{all, least}
-use Rattle.scan.proofs.Tests.{byTest, iff→eq}
 use Rattle.scan.proofs.Least.{least-hit, least-of}
 use Rattle.net.specs.Net.{placeCount}
 use Rattle.net.specs.Accessors.{takenRowReply}
@@ -75,40 +69,34 @@ module _ (N : PetriNet) where
   unfolding choiceOf sameClass
   choice-test t u = leader-test (sameChoice N) (choice-equivalence N) t u
 
-  choice-low : (t : ℕ) → choiceOf N t ≤ t
-  unfolding choiceOf
-  choice-low t = leader-le (sameChoice N) t
-
-  choice-member : (t : ℕ) → sameChoice N (choiceOf N t) t ≡ true
-  unfolding choiceOf
-  choice-member t = leader-member (sameChoice N) (choice-equivalence N) t
-
-  choice-least : (t u : ℕ) → sameChoice N u t ≡ true → choiceOf N t ≤ u
-  unfolding choiceOf
-  choice-least t u h = leader-least (sameChoice N) t u h
-
   -- a choice set is the sources exactly if its least transition is the least source
   pub source-test : (t : ℕ) → t < N .transitions → eqb (choiceOf N t) (firstSource N) ≡ isSource N t
-  unfolding firstSource
+  unfolding choiceOf firstSource
   source-test t l = iff→eq (eqb c s) (isSource N t) is-source leads
     where
       c : ℕ
-      c = choiceOf N t
+      c = leaderBy (sameChoice N) t
 
       s : ℕ
       s = least (isSource N) (N .transitions)
 
+      low : c ≤ t
+      low = leader-le (sameChoice N) t
+
+      member : sameChoice N c t ≡ true
+      member = leader-member (sameChoice N) (choice-equivalence N) t
+
       is-source : eqb c s ≡ true → isSource N t ≡ true
       is-source e =
           let q = eqb-true c s e in
-          let h : isSource N c ≡ true = rw q (least-hit (isSource N) (N .transitions) (omega (arith, choice-low t, q))) in
-          sym (source-choice N c t h) ∙ choice-member t
+          let h : isSource N c ≡ true = rw q (least-hit (isSource N) (N .transitions) (omega (arith, low, q))) in
+          sym (source-choice N c t h) ∙ member
 
       leads : isSource N t ≡ true → eqb c s ≡ true
       leads h =
-          let m : sameChoice N t c ≡ true = choice-equivalence N .symmetric c t (choice-member t) in
-          let low : s ≤ c = least-of (isSource N) (N .transitions) c (sym (source-choice N t c h) ∙ m) in
-          let below : s < N .transitions = omega (arith, choice-low t) in
+          let m : sameChoice N t c ≡ true = choice-equivalence N .symmetric c t member in
+          let above : s ≤ c = least-of (isSource N) (N .transitions) c (sym (source-choice N t c h) ∙ m) in
+          let below : s < N .transitions = omega (arith, low) in
           let hit : isSource N s ≡ true = least-hit (isSource N) (N .transitions) below in
-          let high : c ≤ s = choice-least t s (source-choice N s t hit ∙ h) in
+          let high : c ≤ s = leader-least (sameChoice N) t s (source-choice N s t hit ∙ h) in
           eq-eqb c s (omega arith)

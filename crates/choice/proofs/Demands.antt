@@ -1,12 +1,6 @@
 -- The answer on a schedule's nodes is what it is promised to be.
-use Prim.Native.Nat.{ℕ, _<_}
-use native.Mathlib.Omega.{arith}
-use mathlib.Core.Path.{_≡_, refl, sym, ap, _∙_}
-use mathlib.Core.Logic.{_↔_}
-use mathlib.Core.List.{List}
-use mathlib.Core.Bool.{Bool, true, false}
-use mathlib.Core.Option.{none}
-use borrow.Author.Tests.{not-false}
+use Rattle.scan.proofs.Basics.{ℕ, _<_, arith, _≡_, refl, sym, ap, _∙_, _↔_, Bool, true, false, none, List}
+use Rattle.scan.proofs.Tests.{not-false}
 use Rattle.scan.specs.Scan.{orElse, when, first, bit}
 use Rattle.scan.proofs.First.{orElse-left, orElse-right, when-none, first-all, first-empty}
 use Rattle.refusal.specs.Finding.{lineFinds, foundAt}

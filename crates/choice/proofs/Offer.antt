@@ -1,15 +1,8 @@
 -- What a node offers, from its row of arcs and the table of choice sets: 11, 12, or one whole choice set, which tells whether the node is an await node.
-use Prim.Native.Nat.{ℕ, _≤_, _<_}
-use native.Mathlib.Omega.{arith}
-use mathlib.Core.Path.{_≡_, refl, sym, ap, _∙_}
-use mathlib.Core.List.{List}
-use mathlib.Core.Bool.{true, false, Bool·beq}
-use mathlib.Core.Option.{none, some}
-use lib.ListN.{getD}
-use lib.Dec.{ltb, eqb}
-use borrow.Author.Tests.{ltb-true, ltb-false}
+use Rattle.scan.proofs.Basics.{ℕ, _≤_, _<_, arith, _≡_, refl, sym, ap, _∙_, true, false, ltb, eqb, none, some, List, getD}
+use mathlib.Core.Bool.{Bool·beq}
+use Rattle.scan.proofs.Tests.{ltb-true, ltb-false, byTest, iff→eq}
 use Rattle.scan.specs.Scan.{orElse, when, all, least}
-use Rattle.scan.proofs.Tests.{byTest, iff→eq}
 use Rattle.scan.proofs.Every.{all-ext, all-fails, any-in, any-none}
 use Rattle.scan.proofs.Least.{least-hit, least-low, least-ext}
 use Rattle.refusal.specs.Refusal.{refusal}

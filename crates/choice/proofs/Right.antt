@@ -1,11 +1,6 @@
 -- Where the arcs are readable the answer is what §7.11 to §7.13 and §5.4 say of the schedule's graph.
-use Prim.Native.Nat.{ℕ, _<_}
-use native.Mathlib.Omega.{arith}
-use mathlib.Core.Path.{_≡_, refl}
-use mathlib.Core.List.{List}
-use mathlib.Core.Option.{Option, none, some}
-use lib.ListN.{getD}
-use borrow.Author.Tests.{lt-ltb}
+use Rattle.scan.proofs.Basics.{ℕ, _<_, arith, _≡_, refl, Option, none, some, List, getD}
+use Rattle.scan.proofs.Tests.{lt-ltb}
 use Rattle.scan.specs.Scan.{orElse, first, bit}
 use Rattle.scan.proofs.Tabulate.{tabulate-at}
 use Rattle.row_starts.specs.RowStarts.{page}

@@ -1,16 +1,11 @@
 -- The net and the graph of the rows are the net and the graph.
-use Prim.Native.Nat.{ℕ, _+_, _-_, _≤_}
-use native.Mathlib.Omega.{arith}
+use Rattle.scan.proofs.Basics.{ℕ, _+_, _-_, _≤_, arith, _≡_, refl, sym, ap, _∙_, ltb, Option, none, some, Option·map, Option·getD, List, getD, replicate}
 use native.Mathlib.Decide.{decLt}
-use mathlib.Core.Path.{_≡_, refl, sym, ap, _∙_, fun-ext}
-use mathlib.Core.List.{List}
+use mathlib.Core.Path.{fun-ext}
 use mathlib.Core.Bool.{and-false}
-use mathlib.Core.Option.{Option, none, some, Option·map, Option·getD}
-use lib.ListN.{getD, replicate, getD-replicate, List·getD-eq-default}
-use lib.Dec.{ltb}
-use borrow.Author.Tests.{lt-ltb, le-ltb}
+use lib.ListN.{getD-replicate, List·getD-eq-default}
+use Rattle.scan.proofs.Tests.{lt-ltb, le-ltb, byTest}
 use Rattle.scan.specs.Scan.{when, tabulate}
-use Rattle.scan.proofs.Tests.{byTest}
 use Rattle.scan.proofs.Tabulate.{tabulate-at, tabulate-length, tabulate-is}
 use Rattle.table.specs.Row.{entryCode}
 use Rattle.net.specs.Net.{transitionCount, taken, put, start, capacity}

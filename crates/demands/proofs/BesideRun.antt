@@ -1,11 +1,5 @@
 -- A replay beside the run of its transitions: the checks that 20 stands between, and the first index at which both refuse by it.
-use Prim.Native.Nat.{ℕ, zero, suc, _<_}
-use native.Mathlib.Omega.{arith}
-use mathlib.Core.Path.{_≡_, refl, sym, ap, _∙_}
-use mathlib.Core.Logic.{_↔_, _⊎_, inl, inr, ⊎-elim}
-use mathlib.Core.List.{List, [], _∷_, _++_}
-use mathlib.Core.Bool.{true}
-use lib.ListN.{length, getD, take}
+use Rattle.scan.proofs.Basics.{ℕ, suc, _<_, arith, _≡_, sym, ap, _∙_, _⊎_, inl, inr, ⊎-elim, _↔_, true, List, [], _∷_, _++_, length, getD, take}
 use Rattle.scan.proofs.Tabulate.{tabulate-length, take-tabulate}
 use Rattle.automaton.specs.Automaton.{allows}
 use Rattle.refusal.specs.Refusal.{refusal, told, kindOf, indexOf}
@@ -22,37 +16,26 @@ use Rattle.schedule.specs.Walker.{runChecks}
 use Rattle.replay.specs.Log.{firingCount, firedAt, firingsTo, firings}
 use Rattle.replay.specs.Checks.{logChecks, FiringOffered, NodeReached, replayChecks}
 
--- a position from its kind and its index, so that two refusals that are told alike are one
-decode : ℕ → ℕ → Position
-decode zero i = Nothing
-decode (suc zero) i = Entry i
-decode (suc (suc zero)) i = Place i
-decode (suc (suc (suc zero))) i = Node i
-decode (suc (suc (suc (suc n)))) i = Record i
+at-record : (p : Position) (i : ℕ) → kindOf p ≡ 4 → indexOf p ≡ i → p ≡ Record i
+at-record Nothing i k e = absurd (omega arith)
+at-record (Entry j) i k e = absurd (omega arith)
+at-record (Place j) i k e = absurd (omega arith)
+at-record (Node j) i k e = absurd (omega arith)
+at-record (Record j) i k e = ap Record e
 
-decoded : (p : Position) → decode (kindOf p) (indexOf p) ≡ p
-unfolding decode
-decoded Nothing = refl
-decoded (Entry i) = refl
-decoded (Place i) = refl
-decoded (Node i) = refl
-decoded (Record i) = refl
-
-told-same : (r x : Refusal) (k : ℕ) → told r k ≡ told x k → r ≡ x
-told-same r x k e =
-    let f = told-parts r k ∙ e ∙ sym (told-parts x k) in
-    let n : r .number ≡ x .number = ap (λ (l : List ℕ). getD l 0 0) f in
-    let c : kindOf (r .at) ≡ kindOf (x .at) = ap (λ (l : List ℕ). getD l 1 0) f in
-    let i : indexOf (r .at) ≡ indexOf (x .at) = ap (λ (l : List ℕ). getD l 2 0) f in
-    let at : r .at ≡ x .at = sym (decoded (r .at)) ∙ ap (λ (y : ℕ). decode y (indexOf (r .at))) c ∙ ap (decode (kindOf (x .at))) i ∙ decoded (x .at) in
-    ap (λ (y : ℕ). refusal y (r .at)) n ∙ ap (refusal (x .number)) at
+-- two refusals that are told alike are one
+told-same : (r : Refusal) (n i k : ℕ) → told r k ≡ told (refusal n (Record i)) k → r ≡ refusal n (Record i)
+told-same r n i k e =
+    let f = told-parts r k ∙ e ∙ sym (told-parts (refusal n (Record i)) k) in
+    let at = at-record (r .at) i (ap (λ (l : List ℕ). getD l 1 0) f) (ap (λ (l : List ℕ). getD l 2 0) f) in
+    ap (λ (y : ℕ). refusal y (r .at)) (ap (λ (l : List ℕ). getD l 0 0) f) ∙ ap (refusal n) at
 
 -- what is told by 20 at an index is the check that fails first
 pub named : {checks : List Check} {plain : List ℕ} {i : ℕ} → ByChecks checks plain 3 → (plain ≡ told (refusal 20 (Record i)) 3) ↔ FirstFails checks (refusal 20 (Record i))
 named {checks} {plain} {i} b = (
   λ e. let n : number plain ≡ 20 = ap number e in
       let (x, f, q) = b .named (λ z. omega arith) in
-      let same : x ≡ refusal 20 (Record i) = told-same x (refusal 20 (Record i)) 3 (sym q ∙ e) in
+      let same : x ≡ refusal 20 (Record i) = told-same x 20 i 3 (sym q ∙ e) in
       rw same at f,
   b .this (refusal 20 (Record i)),
 )

@@ -1,10 +1,5 @@
 -- What is promised of capacities, proved.
-use Prim.Native.Nat.{ℕ, _≤_}
-use native.Mathlib.Omega.{arith}
-use mathlib.Core.Path.{_≡_, refl, sym, ap, _∙_}
-use mathlib.Core.List.{List, [], _∷_, _++_}
-use mathlib.Core.Bool.{true}
-use lib.ListN.{length}
+use Rattle.scan.proofs.Basics.{ℕ, _≤_, arith, _≡_, refl, sym, ap, _∙_, true, List, [], _∷_, _++_, length, take, drop}
 use Rattle.scan.proofs.First.{none-some}
 use Rattle.automaton.specs.Automaton.{allows}
 use Rattle.refusal.specs.Limits.{scratchLimit}
@@ -90,37 +85,19 @@ module _ (net : List ℕ) (h : NoCapacityKeys net) where
   }
 
   net-26 : Spared 26 (netChecks net)
-  net-26 = (
-    λ e. absurd (omega arith),
-    (
-      λ e. absurd (omega arith),
-      (
-        λ e. absurd (omega arith),
-        (
-          λ i l. (λ e. absurd (omega arith), (λ e. absurd (omega arith), tt)),
-          (λ p l. (λ e. starts p, tt), (λ e. absurd (omega arith), tt)),
-        ),
-      ),
-    ),
-  )
+  net-26 =
+      spared-append 26 (take 4 (netChecks net)) (drop 4 (netChecks net)) (without-spared 26 (take 4 (netChecks net)) refl)
+      (λ p l. (λ e. starts p, tt), without-spared 26 (drop 5 (netChecks net)) refl)
 
   net-27 : Spared 27 (netChecks net)
   net-27 = without-spared 27 (netChecks net) refl
 
   graph-27 : (sheet : List ℕ) → Spared 27 (graphChecks N sheet)
-  graph-27 sheet = (
-    λ p l. (λ e. absurd (omega arith), tt),
-    (
-      λ n l. (λ e. absurd (omega arith), (λ e. absurd (omega arith), tt)),
-      (
-        λ n l. (λ e. absurd (omega arith), tt),
-        (
-          λ i l. (λ e. absurd (omega arith), (λ e. arcs sheet i, (λ e. absurd (omega arith), tt))),
-          (λ n l. (λ e. absurd (omega arith), tt), (λ n l. (λ e. absurd (omega arith), tt), tt)),
-        ),
-      ),
-    ),
-  )
+  graph-27 sheet =
+      spared-append 27 (take 3 (graphChecks N sheet)) (drop 3 (graphChecks N sheet)) (without-spared 27 (take 3 (graphChecks N sheet)) refl) (
+        λ i l. (λ e. absurd (omega arith), (λ e. arcs sheet i, (λ e. absurd (omega arith), tt))),
+        without-spared 27 (drop 4 (graphChecks N sheet)) refl,
+      )
 
   -- all that a call checks: scratch, the net, the schedule, and what it asks besides
   call-spared : (k : ℕ) (s : List ℕ) (asked besides : List Check) → (21 ≡ k → ⊥) → Spared k (netChecks net) → Spared k asked → without k besides ≡ true
@@ -128,15 +105,12 @@ module _ (net : List ℕ) (h : NoCapacityKeys net) where
   call-spared k s asked besides n h g w =
       (λ e. absurd (n e), spared-append k (netChecks net ++ asked) besides (spared-append k (netChecks net) asked h g) (without-spared k besides w))
 
-  net-spares : {plain : List ℕ} {own : ℕ} → ByChecks (netChecks net) plain own → Spares plain
-  net-spares b = (not-answered 26 (λ z. omega arith) net-26 b, not-answered 27 (λ z. omega arith) net-27 b)
+  both : {checks : List Check} {plain : List ℕ} {own : ℕ} → Spared 26 checks → Spared 27 checks → ByChecks checks plain own → Spares plain
+  both v w b = (not-answered 26 (λ z. omega arith) v b, not-answered 27 (λ z. omega arith) w b)
 
   call-spares : (s : List ℕ) (asked besides : List Check) {plain : List ℕ} {own : ℕ} → Spared 26 asked → Spared 27 asked → without 26 besides ≡ true → without 27 besides ≡ true
       → ByChecks (callChecks scratchLimit s ((netChecks net ++ asked) ++ besides)) plain own → Spares plain
-  call-spares s asked besides g h v w b = (
-    not-answered 26 (λ z. omega arith) (call-spared 26 s asked besides (λ z. omega arith) net-26 g v) b,
-    not-answered 27 (λ z. omega arith) (call-spared 27 s asked besides (λ z. omega arith) net-27 h w) b,
-  )
+  call-spares s asked besides g h v w = both (call-spared 26 s asked besides (λ z. omega arith) net-26 g v) (call-spared 27 s asked besides (λ z. omega arith) net-27 h w)
 
   spares : (sheet s : List ℕ) (besides : List Check) {plain : List ℕ} {own : ℕ} → without 26 besides ≡ true → without 27 besides ≡ true
       → ByChecks (allChecks net sheet besides s) plain own → Spares plain
@@ -146,8 +120,8 @@ module _ (net : List ℕ) (h : NoCapacityKeys net) where
 
   never-by : NeverBy net
   never-by = record {
-    net-check = λ v d. net-spares (demand1 .net-check net v d);
-    fresh-walker = λ v w d. net-spares (demand1 .fresh-walker net v w d .0);
+    net-check = λ v d. both net-26 net-27 (demand1 .net-check net v d);
+    fresh-walker = λ v w d. both net-26 net-27 (demand1 .fresh-walker net v w d .0);
     check = λ sheet s s′ a d. spares sheet s [] refl refl (demand1 .check net sheet .by-numbers s s′ a tt d);
     place-bounds = λ sheet out s out′ s′ v d.
         spares sheet s (once (N .places ≤ length out) 22 ∷ []) refl refl (demand1 .place-bounds net sheet out .by-numbers s s′ v out′ d);

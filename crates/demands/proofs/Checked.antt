@@ -1,10 +1,5 @@
 -- A check that answered 0: what it says of the net and of the schedule, and that there is one.
-use Prim.Native.Nat.{ℕ, _≤_}
-use native.Mathlib.Omega.{arith}
-use mathlib.Core.Path.{_≡_, refl}
-use mathlib.Core.Logic.{_↔_}
-use mathlib.Core.List.{List, []}
-use lib.ListN.{length, replicate, length-replicate}
+use Rattle.scan.proofs.Basics.{ℕ, _≤_, arith, _≡_, refl, _↔_, List, [], length, replicate, length-replicate}
 use Rattle.refusal.specs.declared.Verdict.the-variants as verdict
 use Rattle.net.specs.Checks.{IsNet}
 use Rattle.net.proofs.Checks.{net-judged}
@@ -13,18 +8,18 @@ use Rattle.sequential.specs.Schedule.{IsSchedule}
 use Rattle.sequential.specs.Checks.{WordsPass}
 use Rattle.sequential.specs.Check.{scheduleReply}
 use Rattle.sequential.proofs.Words.{words-hold, words-pass}
-use Rattle.sequential.proofs.Accepted.{schedule-judged, accepted-exactly}
+use Rattle.sequential.proofs.Accepted.{accepted-exactly}
 use Rattle.judge.specs.Answer.{plainCheck}
 use Rattle.judge.specs.declared.CheckAnswer.{CheckAnswer}
 use Rattle.call.specs.Demands.{number}
-use Rattle.call.proofs.Judged.{words-judged-none}
-use Rattle.call.proofs.Done.{by-checks}
 use Rattle.call.proofs.Demands.{every-call-none}
 use Rattle.refusal.specs.Limits.{scratchLimit}
-use Rattle.schedule.specs.Calls.{checkCore, CheckDone}
+use Rattle.call.specs.Call.{CallDone}
+use Rattle.schedule.specs.Calls.{checkCore}
 use Rattle.schedule.proofs.Done.{check-law}
 use Rattle.demands.specs.Terms.{said, Accepted}
 use Rattle.demands.specs.Demand3.{AlwaysAccepted}
+use Rattle.demands.proofs.Calls.{call-zero}
 
 -- accepted exactly where the net is one, the words pass and the graph that they say is a schedule
 pub reply-passes : (net sheet : List ℕ) → (scheduleReply net sheet ≡ verdict.Accepted) ↔ (IsNet net × WordsPass (petriNet net) sheet × IsSchedule (petriNet net) (said net sheet))
@@ -33,18 +28,16 @@ reply-passes net sheet = (
   λ (n, w, s). accepted-exactly net sheet .1 (record { net-accepted = net-judged net .accepts .1 n; words = words-hold (petriNet net) sheet w; schedule = s }),
 )
 
-pub check-zero : (net sheet s s′ : List ℕ) (a : CheckAnswer) → CheckDone net sheet s a s′
-    → (number (plainCheck a) ≡ 0) ↔ ((scratchLimit ≤ length s) × (scheduleReply net sheet ≡ verdict.Accepted))
-check-zero net sheet s s′ a d =
-    let j = schedule-judged net sheet in
-    let (f, g) = by-checks (check-law net sheet) d (words-judged-none (checkCore net sheet) [] j refl) .zero in
-    (λ z. let (l, p) = f z in (l, j .accepts .1 p), λ (l, h). g (l, j .accepts .0 h))
+-- for any limit of scratch
+pub check-zero : (net sheet : List ℕ) {limit : ℕ} {s s′ : List ℕ} {a : CheckAnswer} → CallDone limit (checkCore net sheet) [] s a [] s′
+    → (number (plainCheck a) ≡ 0) ↔ ((limit ≤ length s) × (scheduleReply net sheet ≡ verdict.Accepted))
+check-zero net sheet d = let (f, g) = call-zero (check-law net sheet) d in (λ z. let (l, h, m) = f z in (l, h), λ (l, h). g (l, h, λ i. omega arith))
 
 pub accepted-reply : (net sheet : List ℕ) → Accepted net sheet → scheduleReply net sheet ≡ verdict.Accepted
-accepted-reply net sheet a = check-zero net sheet _ _ _ (a .done) .0 (a .zero) .1
+accepted-reply net sheet a = check-zero net sheet (a .done) .0 (a .zero) .1
 
 pub always-accepted : (net sheet : List ℕ) → scheduleReply net sheet ≡ verdict.Accepted → AlwaysAccepted net sheet
-always-accepted net sheet h s s′ a l d = check-zero net sheet s s′ a d .1 (l, h)
+always-accepted net sheet h s s′ a l d = check-zero net sheet d .1 (l, h)
 
 -- scratch of no more words than are asked
 unfoldable pub some-scratch : List ℕ
@@ -58,4 +51,4 @@ enough-scratch = omega (arith, length-replicate {A = ℕ} scratchLimit 0)
 pub reply-accepted : (net sheet : List ℕ) → scheduleReply net sheet ≡ verdict.Accepted → Accepted net sheet
 reply-accepted net sheet h =
     let (a, u, s′, d) = every-call-none (check-law net sheet) {limit = scratchLimit} refl .replies some-scratch in
-    record { scratch = some-scratch; scratch′ = s′; answer = a; done = d; zero = check-zero net sheet some-scratch s′ a d .1 (enough-scratch, h) }
+    record { scratch = some-scratch; scratch′ = s′; answer = a; done = d; zero = check-zero net sheet d .1 (enough-scratch, h) }

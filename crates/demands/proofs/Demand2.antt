@@ -1,27 +1,20 @@
 -- Demand 2, proved.
-use Prim.Native.Nat.{ℕ, zero, suc, _+_, _≤_, _<_}
-use native.Mathlib.Omega.{arith}
+use Rattle.scan.proofs.Basics.{ℕ, zero, suc, _+_, _≤_, _<_, arith, _≡_, refl, sym, ap, subst, _∙_, _↔_, Bool, true, List, [], _++_, length, getD, drop}
 use native.Mathlib.Numerals.{add-one}
-use mathlib.Core.Path.{_≡_, refl, sym, ap, _∙_, subst}
-use mathlib.Core.Logic.{_↔_}
-use mathlib.Core.List.{List, [], _++_}
-use mathlib.Core.Bool.{Bool, true}
-use lib.ListN.{length, getD, drop, List·getD-append}
+use lib.ListN.{List·getD-append}
 use Rattle.scan.specs.Scan.{bit, count}
 use Rattle.scan.proofs.Tests.{byTest}
 use Rattle.scan.proofs.Tabulate.{tabulate-length, tabulate-at}
 use Rattle.automaton.specs.Reach.{Reachable}
 use Rattle.refusal.specs.Refusal.{plainOf}
 use Rattle.refusal.specs.declared.Verdict.{Verdict}
-use Rattle.refusal.specs.declared.Verdict.the-variants as verdict
 use Rattle.net.specs.Checks.{IsNet}
 use Rattle.net.proofs.Checks.{net-judged}
 use Rattle.net.proofs.Laws.{sizes, some-source, start-no-place}
 use Rattle.sequential.specs.Petri.{petriNet, firedCount}
-use Rattle.sequential.specs.Words.{nodeCount}
 use Rattle.sequential.specs.Published.{SequentialSchedule}
 use Rattle.sequential.specs.Checks.{WordsPass}
-use Rattle.sequential.specs.Check.{arcCount, awaitCount, scheduleReply}
+use Rattle.sequential.specs.Check.{awaitCount, scheduleReply}
 use Rattle.sequential.specs.Bounds.{bounds}
 use Rattle.sequential.proofs.Words.{words-hold}
 use Rattle.sequential.proofs.Entries.{graph-closed}
@@ -60,13 +53,13 @@ module _ (net sheet s s′ : List ℕ) (a : CheckAnswer) (d : CheckDone net shee
   check-published : scratchLimit ≤ length s → IsNet net → WordsPass (petriNet net) sheet
       → (number (plainCheck a) ≡ 0) ↔ (SequentialSchedule (petriNet net) (said net sheet) × ((n : ℕ) → n < said net sheet .nodes → Reachable (said net sheet) n))
   check-published l p w = (
-    λ z. let (m, h) = check-zero net sheet s s′ a d .0 z in
+    λ z. let (m, h) = check-zero net sheet d .0 z in
         let i = accepts net sheet h .schedule in
         (sequential (petriNet net) (said net sheet) (closed net sheet h) refl i, i .reached),
     λ (q, r).
         let n = net-judged net .accepts .1 p in
         let c = graph-closed (petriNet net) sheet (sizes net n .some-transition) (words-hold (petriNet net) sheet w .arcs) in
-        check-zero net sheet s s′ a d .1 (l, reply-passes net sheet .1 (p, w, published-schedule (petriNet net) (said net sheet) c refl (some-source net n) q r)),
+        check-zero net sheet d .1 (l, reply-passes net sheet .1 (p, w, published-schedule (petriNet net) (said net sheet) c refl (some-source net n) q r)),
   )
 
 -- ---- what is counted
@@ -79,21 +72,18 @@ how-many f Such (suc n) h =
     byTest (f n) (λ e. rw (e, add-one) (one-more n _ before (h n (omega arith) .0 e)))
     (λ e. rw e (let z : count f n + 0 ≡ count f n = omega arith in rw z (no-more n _ before (λ s. let q = sym e ∙ h n (omega arith) .1 s in let y : _≡_ {A = ℕ} 0 1 = cc in omega arith))))
 
-counted : (net sheet : List ℕ) → scheduleReply net sheet ≡ verdict.Accepted
-    → Counted (petriNet net) (said net sheet) (nodeCount sheet) (arcCount (petriNet net) sheet) (awaitCount (petriNet net) sheet)
-unfolding awaitCount
-counted net sheet h = record {
-  all-nodes = refl;
-  all-arcs = rw (arcs-counted (petriNet net) sheet (some-transition net sheet h) (accepts net sheet h .words .arcs)) (how-many _ _ _ (λ i l. offers↔ (petriNet net) (said net sheet) _ _));
-  all-awaits = how-many _ _ _ (λ n l. await↔ (petriNet net) (said net sheet) n);
-}
-
 counts : (net sheet s s′ : List ℕ) (a : CheckAnswer) → CheckDone net sheet s a s′ → number (plainCheck a) ≡ 0
     → Counted (petriNet net) (said net sheet) (own (plainCheck a) 0) (own (plainCheck a) 1) (own (plainCheck a) 2)
-unfolding countsOf
+unfolding countsOf awaitCount
 counts net sheet s s′ a d z =
     let at = own-answered (check-law net sheet) d z in
-    rw (at 0, at 1, at 2) (counted net sheet (check-zero net sheet s s′ a d .0 z .1))
+    let h = check-zero net sheet d .0 z .1 in
+    rw (at 0, at 1, at 2) (record {
+      all-nodes = refl;
+      all-arcs = rw (arcs-counted (petriNet net) sheet (some-transition net sheet h) (accepts net sheet h .words .arcs))
+          (how-many _ _ _ (λ i l. offers↔ (petriNet net) (said net sheet) _ _));
+      all-awaits = how-many _ _ _ (λ n l. await↔ (petriNet net) (said net sheet) n);
+    })
 
 -- ---- what is fired
 
@@ -167,7 +157,7 @@ bounds-written net sheet out s out′ s′ v d z =
 pub demand2 : Demand2
 demand2 = record {
   accepts = λ net sheet s s′ a d.
-      let (f, g) = check-zero net sheet s s′ a d in
+      let (f, g) = check-zero net sheet d in
       let (h, k) = reply-passes net sheet in
       (λ z. let (l, e) = f z in let (n, w, i) = h e in (l, n, w, i), λ (l, n, w, i). g (l, k (n, w, i)));
   published = check-published;

@@ -1,32 +1,21 @@
 -- Demand 3, proved: what each call writes is the minimal form, which is the one that merging and numbering give.
-use Prim.Native.Nat.{ℕ, _≤_, _<_}
-use native.Mathlib.Omega.{arith}
-use mathlib.Core.Path.{_≡_, refl, sym, ap, _∙_, subst}
-use mathlib.Core.Logic.{_↔_, Iff·rfl}
-use mathlib.Core.List.{List, [], _∷_, _++_}
-use lib.ListN.{length, getD, take, drop}
+use Rattle.scan.proofs.Basics.{ℕ, _≤_, _<_, arith, _≡_, refl, sym, ap, subst, _∙_, _↔_, List, [], _∷_, length}
+use mathlib.Core.Logic.{Iff·rfl}
 use lib.Seq.{ext-getD, getD-take}
-use Rattle.refusal.specs.Checks.{once, AllPass}
 use Rattle.refusal.specs.declared.Verdict.the-variants as verdict
-use Rattle.refusal.proofs.Judges.{pass-append}
-use Rattle.net.specs.Checks.{netChecks}
-use Rattle.sequential.specs.Petri.{petriNet}
-use Rattle.sequential.specs.Checks.{sheetChecks}
 use Rattle.sequential.specs.Check.{scheduleReply}
-use Rattle.sequential.proofs.Accepted.{schedule-judged, accepts}
-use Rattle.call.specs.Call.{writtenOver}
-use Rattle.call.specs.Demands.{number, callChecks}
+use Rattle.sequential.proofs.Accepted.{accepts}
+use Rattle.call.specs.Call.{CallDone}
+use Rattle.call.specs.Demands.{number}
 use Rattle.call.proofs.Lent.{room-one}
-use Rattle.call.proofs.Judged.{words-judged}
-use Rattle.call.proofs.Done.{by-checks, done-zero, own-answered, written-front}
 use Rattle.call.proofs.Demands.{every-call-one}
-use Rattle.refusal.specs.Limits.{scratchLimit}
 use Rattle.minimal.specs.Minimal.{minimalForm}
-use Rattle.minimal.specs.Form.{formCore, plainForm, FormDone}
+use Rattle.minimal.specs.Form.{formCore, plainForm}
 use Rattle.minimal.specs.declared.FormAnswer.{FormAnswer}
 use Rattle.minimal.proofs.Minimal.{form-accepted, form-lists, form-short, form-quotient, form-unique, forms-equal}
 use Rattle.minimal.proofs.Done.{form-law}
 use Rattle.demands.specs.Demand3.{Merges, Form, size, made, SameWords, Demand3}
+use Rattle.demands.proofs.Calls.{call-zero, own-size, own-front, own-rest, own-fits}
 use Rattle.demands.proofs.Checked.{accepted-reply, reply-accepted, always-accepted}
 
 -- ---- what merging and numbering give
@@ -51,66 +40,31 @@ module _ (net sheet : List ℕ) (h : scheduleReply net sheet ≡ verdict.Accepte
 
 module _ (net sheet : List ℕ) (c : Form net sheet) where
   pub size-form : size c ≡ length (minimalForm net sheet)
-  size-form = own-answered (form-law net sheet) (c .done) (c .zero) 0
-
-  written : c .out′ ≡ writtenOver (minimalForm net sheet) (c .out)
-  written = done-zero (form-law net sheet) (c .done) (c .zero) .written 0
-
-  room : length (minimalForm net sheet) ≤ length (c .out)
-  room = done-zero (form-law net sheet) (c .done) (c .zero) .room 0
+  size-form = own-size (form-law net sheet) (c .done) (c .zero) 0 refl
 
   pub made-form : made c ≡ minimalForm net sheet
-  made-form = ap (λ (n : ℕ). take n (c .out′)) size-form ∙ ap (take (length (minimalForm net sheet))) written ∙ written-front (minimalForm net sheet) (c .out)
+  made-form = own-front (form-law net sheet) (c .done) (c .zero) 0 refl
 
   made-length : length (made c) ≡ size c
   made-length = ap length made-form ∙ sym size-form
 
-  pub made-within : (size c ≤ length (c .out)) × (c .out′ ≡ made c ++ drop (size c) (c .out))
-  made-within = (
-    rw size-form room,
-    written ∙ ap (λ (n : ℕ). minimalForm net sheet ++ drop n (c .out)) (sym size-form) ∙ ap (λ (x : List ℕ). x ++ drop (size c) (c .out)) (sym made-form),
-  )
-
 same-made : (net x y : List ℕ) (a : Form net x) (b : Form net y) → SameWords a b ↔ (made a ≡ made b)
 same-made net x y a b = (
-  λ r. ext-getD 0 (made a) (made b) (made-length net x a ∙ r .lengths ∙ sym (made-length net y b)) (word r),
-  λ e. let q : size a ≡ size b = sym (made-length net x a) ∙ ap length e ∙ made-length net y b in
-      record {
-        lengths = q;
-        words = λ i l. sym (getD-take (size a) (a .out′) i 0 l) ∙ ap (λ (w : List ℕ). getD w i 0) e ∙ getD-take (size b) (b .out′) i 0 (rw q at l);
-      },
+  λ r. ext-getD 0 (made a) (made b) (cc (made-length net x a, made-length net y b, r .lengths)) (λ i l.
+      let m : i < size a = rw (made-length net x a) at l in
+      cc (getD-take (size a) (a .out′) i 0 m, r .words i m, getD-take (size b) (b .out′) i 0 (rw (r .lengths) at m))),
+  λ e. let q : size a ≡ size b = cc (made-length net x a, made-length net y b, ap length e) in
+      record { lengths = q; words = λ i l. cc (getD-take (size a) (a .out′) i 0 l, getD-take (size b) (b .out′) i 0 (rw q at l)) },
 )
-  where
-    word : SameWords a b → (i : ℕ) → i < length (made a) → getD (made a) i 0 ≡ getD (made b) i 0
-    word r i l =
-        let m : i < size a = rw (made-length net x a) at l in
-        getD-take (size a) (a .out′) i 0 m ∙ r .words i m ∙ sym (getD-take (size b) (b .out′) i 0 (rw (r .lengths) at m))
 
 -- ---- when the call answers
 
-pub form-zero : (net sheet out scratch out′ scratch′ : List ℕ) (a : FormAnswer) → FormDone net sheet out scratch a out′ scratch′
-    → (number (plainForm a) ≡ 0) ↔ ((scratchLimit ≤ length scratch) × (scheduleReply net sheet ≡ verdict.Accepted) × (length (minimalForm net sheet) ≤ length out))
-form-zero net sheet out scratch out′ scratch′ a d =
-    let law = form-law net sheet in (
-      λ z. let f = done-zero law d z in (enough z, f .passed, f .room 0),
-      λ (l, h, m). check .1 (
-        l,
-        pass-append (netChecks net ++ sheetChecks (petriNet net) sheet) (once (length (minimalForm net sheet) ≤ length out) 22 ∷ []) .1
-            (schedule-judged net sheet .accepts .0 h, (m, tt)),
-      ),
-    )
-  where
-    check : (number (plainForm a) ≡ 0) ↔ AllPass (callChecks scratchLimit scratch ((netChecks net ++ sheetChecks (petriNet net) sheet) ++ (once (length (minimalForm net sheet) ≤ length out) 22 ∷ [])))
-    check = by-checks (form-law net sheet) d (words-judged (formCore net sheet) (out ∷ []) (schedule-judged net sheet) (λ p. room-one (minimalForm net sheet) out)) .zero
-
-    enough : number (plainForm a) ≡ 0 → scratchLimit ≤ length scratch
-    enough z = check .0 z .0
-
-there-is : (net sheet out scratch : List ℕ) → scheduleReply net sheet ≡ verdict.Accepted → scratchLimit ≤ length scratch → 8194 ≤ length out
-    → (c : Form net sheet) × (c .out ≡ out) × (c .scratch ≡ scratch)
-there-is net sheet out scratch h l m =
-    let (a, o, s, d) = every-call-one (form-law net sheet) refl (λ p. Iff·rfl) .replies scratch in
-    (record { out = out; scratch = scratch; answer = a; out′ = o; scratch′ = s; done = d; zero = form-zero net sheet out scratch o s a d .1 (l, h, omega (arith, form-short net sheet h)) }, refl, refl)
+-- for any limit of scratch
+pub form-zero : (net sheet : List ℕ) {limit : ℕ} {out s out′ s′ : List ℕ} {a : FormAnswer} → CallDone limit (formCore net sheet) (out ∷ []) s a (out′ ∷ []) s′
+    → (number (plainForm a) ≡ 0) ↔ ((limit ≤ length s) × (scheduleReply net sheet ≡ verdict.Accepted) × (length (minimalForm net sheet) ≤ length out))
+form-zero net sheet d =
+    let (f, g) = call-zero (form-law net sheet) d in
+    (λ z. let (l, h, m) = f z in (l, h, m 0), λ (l, h, m). g (l, h, room-one _ _ .0 m))
 
 -- ---- demand 3
 
@@ -129,13 +83,17 @@ demand3 = record {
       );
   accepted = λ net sheet h c. rw (made-form net sheet c) (always-accepted net (minimalForm net sheet) (form-accepted net sheet (accepted-reply net sheet h)));
   same-lists = λ net sheet h c. rw (made-form net sheet c) (form-lists net sheet (accepted-reply net sheet h));
-  within = λ net sheet h c. made-within net sheet c;
+  within = λ net sheet h c. (own-fits (form-law net sheet) (c .done) (c .zero) 0 refl, own-rest (form-law net sheet) (c .done) (c .zero) 0 refl);
   answers = λ net sheet out scratch out′ scratch′ a h l d.
       let q = accepted-reply net sheet h in
-      let (f, g) = form-zero net sheet out scratch out′ scratch′ a d in (
+      let (f, g) = form-zero net sheet d in (
         λ z form m. rw (merges-form net sheet q form m) (f z .2),
         λ room. g (l, q, room (minimalForm net sheet) (form-merges net sheet q)),
       );
   enough = λ net sheet form h m. let q = accepted-reply net sheet h in rw (merges-form net sheet q form m) (form-short net sheet q);
-  there-is = λ net sheet out scratch h. there-is net sheet out scratch (accepted-reply net sheet h);
+  there-is = λ net sheet out s h l m.
+      let q = accepted-reply net sheet h in
+      let (a, out′, s′, d) = every-call-one (form-law net sheet) {out = out} refl (λ p. Iff·rfl) .replies s in
+      let z = form-zero net sheet d .1 (l, q, omega (arith, form-short net sheet q)) in
+      (record { out = out; scratch = s; answer = a; out′ = out′; scratch′ = s′; done = d; zero = z }, refl, refl);
 }

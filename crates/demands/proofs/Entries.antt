@@ -1,24 +1,19 @@
 -- What is promised of the entry that is named, proved.
-use Prim.Native.Nat.{ℕ, zero, suc, _+_}
-use native.Mathlib.Omega.{arith}
-use mathlib.Core.Path.{_≡_, refl, sym, ap, _∙_}
-use mathlib.Core.Logic.{_↔_, _⊎_, inl, inr, ⊎-elim}
-use mathlib.Core.List.{List, [], _∷_, _++_}
-use mathlib.Core.Option.{some}
-use lib.ListN.{length, getD, length-append}
+use Rattle.scan.proofs.Basics.{ℕ, zero, suc, _+_, arith, _≡_, refl, sym, ap, _∙_, _⊎_, inl, inr, ⊎-elim, _↔_, some, List, [], _∷_, _++_, length, getD, length-append}
 use lib.Seq.{take-append-seam, getD-append-add}
-use lib.Dec.{eqb}
-use borrow.Author.Tests.{eqb-true, eqb-false}
-use Rattle.scan.proofs.Tests.{byTest}
+use Rattle.scan.proofs.Tests.{byEqual}
+use Rattle.refusal.specs.Checks.{Check}
 use Rattle.automaton.specs.Automaton.{follow}
 use Rattle.automaton.proofs.Automaton.{same-target}
 use Rattle.refusal.proofs.Verdicts.{answer-none, then-accepted}
+use Rattle.call.specs.Call.{Core, CallDone}
 use Rattle.sequential.specs.Petri.{PetriNet, petriNet}
 use Rattle.sequential.specs.Words.{entryValue, arcEntry}
 use Rattle.sequential.specs.Check.{scheduleReply}
 use Rattle.call.specs.Index.{plainIndex, indexFrom}
 use Rattle.call.specs.declared.Index.the-variants.{Known}
 use Rattle.call.specs.Demands.{number, own}
+use Rattle.call.proofs.Judged.{Lawful}
 use Rattle.call.proofs.Done.{done-zero, own-answered, own-refused}
 use Rattle.schedule.specs.Calls.{FireDone, RunDone}
 use Rattle.schedule.specs.Plain.{plainFire, plainRun}
@@ -47,9 +42,15 @@ use Rattle.demands.proofs.Further.{calls-chain, fresh-kept}
 names : (N : PetriNet) (sheet : List ℕ) (n t m k told : ℕ) → arcEntry N sheet n t ≡ some k → entryValue sheet k ≡ m → told ≡ plainIndex (Known k) → Names N sheet n t m told
 names N sheet n t m k told e v p = let (l, q) = entry-key N sheet n t k e in record { entry = k; one-more = p; below = l; key = q; value = v }
 
--- no number that is 1 more is 0
-told-none : {C : Type 0} (k told : ℕ) → told ≡ plainIndex (Known k) → told ≡ 0 → C
-told-none k told p e = absurd (omega arith)
+-- one's own number that tells an entry is 0 exactly where the answer is refused, or where there is no firing to tell of
+missing : {Answer : Type 0} {core : Core Answer} {plain : Answer → List ℕ} {k : ℕ} {numbers : List ℕ} {words : List Check} (law : Lawful core plain k numbers words)
+    {limit : ℕ} {outs outs′ : List (List ℕ)} {s s′ : List ℕ} {a : Answer} (d : CallDone limit core outs s a outs′ s′) (i : ℕ) {NoFiring : Type 0}
+    → (NoFiring → getD numbers i 0 ≡ 0) → (number (plain a) ≡ 0 → NoFiring ⊎ ((j : ℕ) × (own (plain a) i ≡ plainIndex (Known j))))
+    → (own (plain a) i ≡ 0) ↔ ((number (plain a) ≡ 0 → ⊥) ⊎ NoFiring)
+missing {plain = plain} law {a = a} d i nothing last = (
+  λ e. byEqual (number (plain a)) 0 (λ z. ⊎-elim inr (λ (j, q). absurd (omega arith)) (last z)) inl,
+  ⊎-elim (λ n. own-refused law d n i) (λ x. byEqual (number (plain a)) 0 (λ z. own-answered law d z i ∙ nothing x) (λ n. own-refused law d n i)),
+)
 
 -- ---- a single firing
 
@@ -61,13 +62,9 @@ module _ (net sheet s s′ : List ℕ) (w next : Walker) (t : ℕ) (a : FireAnsw
       (k, e, v, own-answered (fire-law net sheet w t) d z 0 ∙ ap (λ (i : ℕ). plainIndex (Known i)) (entry-fired (petriNet net) sheet w t k e))
 
   fire-missing : (own (plainFire a) 0 ≡ 0) ↔ (number (plainFire a) ≡ 0 → ⊥)
-  fire-missing = (λ e z. let (k, f, v, q) = fired-entry z in told-none k _ q e, λ n. own-refused (fire-law net sheet w t) d n 0)
+  fire-missing = (λ e z. let (k, f, v, q) = fired-entry z in omega arith, λ n. own-refused (fire-law net sheet w t) d n 0)
 
 -- ---- a run
-
-no-firing : (firings : List ℕ) → ((i : ℕ) → length firings ≡ suc i → ⊥) → firings ≡ []
-no-firing [] h = refl
-no-firing (t ∷ σ) h = absurd (h (length σ) refl)
 
 module _ (net sheet firings out s out′ s′ : List ℕ) (a : RunAnswer) (d : RunDone net sheet firings out s a out′ s′) where
   run-entry : number (plainRun a) ≡ 0 → (i : ℕ) → length firings ≡ suc i → (k : ℕ) × LastFiring (petriNet net) sheet firings i k × (own (plainRun a) 2 ≡ plainIndex (Known k))
@@ -78,14 +75,11 @@ module _ (net sheet firings out s out′ s′ : List ℕ) (a : RunAnswer) (d : R
 
   run-missing : (own (plainRun a) 2 ≡ 0) ↔ ((number (plainRun a) ≡ 0 → ⊥) ⊎ (firings ≡ []))
   unfolding entryAfter
-  run-missing = (
-    λ e. byTest (eqb (number (plainRun a)) 0)
-        (λ b. inr (no-firing firings (λ i l. let (k, f, q) = run-entry (eqb-true _ _ b) i l in told-none k _ q e))) (λ b. inl (eqb-false _ _ b)),
-    ⊎-elim (λ n. own-refused (run-law net sheet firings) d n 2)
-        (λ q. byTest (eqb (number (plainRun a)) 0)
-        (λ b. own-answered (run-law net sheet firings) d (eqb-true _ _ b) 2 ∙ ap (λ (f : List ℕ). plainIndex (lastEntry (petriNet net) sheet f)) q)
-        (λ b. own-refused (run-law net sheet firings) d (eqb-false _ _ b) 2)),
-  )
+  run-missing = missing (run-law net sheet firings) d 2 (λ q. ap (λ (f : List ℕ). plainIndex (lastEntry (petriNet net) sheet f)) q) (told firings refl)
+    where
+      told : (σ : List ℕ) → firings ≡ σ → number (plainRun a) ≡ 0 → (firings ≡ []) ⊎ ((k : ℕ) × (own (plainRun a) 2 ≡ plainIndex (Known k)))
+      told [] e z = inl e
+      told (t ∷ σ) e z = let (k, f, q) = run-entry z (length σ) (ap length e) in inr (k, q)
 
 -- of a list and one firing more
 module _ (net sheet σ out s out′ s′ : List ℕ) (t : ℕ) (a : RunAnswer) (d : RunDone net sheet (σ ++ (t ∷ [])) out s a out′ s′) (z : number (plainRun a) ≡ 0) where
@@ -109,10 +103,6 @@ module _ (net sheet σ out s out′ s′ : List ℕ) (t : ℕ) (a : RunAnswer) (
 
 -- ---- a replay
 
-none-logged : (n : ℕ) → ((i : ℕ) → n ≡ suc i → ⊥) → n ≡ 0
-none-logged zero h = refl
-none-logged (suc n) h = absurd (h n refl)
-
 module _ (net sheet log taken put s taken′ put′ s′ : List ℕ) (a : ReplayAnswer) (d : ReplayDone net sheet log taken put s a taken′ put′ s′) where
   replay-entry : (z : number (plainReplay a) ≡ 0) (i : ℕ) → firingCount log ≡ suc i
       → (n : ℕ) × (k : ℕ) × LastOfLog net sheet log (done-zero (replay-law net sheet log) d z .passed) i n k × (own (plainReplay a) 2 ≡ plainIndex (Known k))
@@ -122,15 +112,12 @@ module _ (net sheet log taken put s taken′ put′ s′ : List ℕ) (a : Replay
 
   replay-missing : (own (plainReplay a) 2 ≡ 0) ↔ ((number (plainReplay a) ≡ 0 → ⊥) ⊎ (firingCount log ≡ 0))
   unfolding entryAfter
-  replay-missing = (
-    λ e. byTest (eqb (number (plainReplay a)) 0)
-        (λ b. inr (none-logged (firingCount log) (λ i l. let (n, k, f, q) = replay-entry (eqb-true _ _ b) i l in told-none k _ q e))) (λ b. inl (eqb-false _ _ b)),
-    ⊎-elim (λ n. own-refused (replay-law net sheet log) d n 2)
-        (λ q. byTest (eqb (number (plainReplay a)) 0)
-        (λ b. own-answered (replay-law net sheet log) d (eqb-true _ _ b) 2
-        ∙ ap (λ (i : ℕ). plainIndex (indexFrom (entryAfter (petriNet net) sheet (firings log) i))) (firings-long log ∙ q))
-        (λ b. own-refused (replay-law net sheet log) d (eqb-false _ _ b) 2)),
-  )
+  replay-missing =
+      missing (replay-law net sheet log) d 2 (λ q. ap (λ (i : ℕ). plainIndex (indexFrom (entryAfter (petriNet net) sheet (firings log) i))) (firings-long log ∙ q)) (told (firingCount log) refl)
+    where
+      told : (n : ℕ) → firingCount log ≡ n → number (plainReplay a) ≡ 0 → (firingCount log ≡ 0) ⊎ ((k : ℕ) × (own (plainReplay a) 2 ≡ plainIndex (Known k)))
+      told zero e z = inl e
+      told (suc i) e z = let (n, k, f, q) = replay-entry z i e in inr (k, q)
 
 -- ---- all of it
 

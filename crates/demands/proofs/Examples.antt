@@ -1,13 +1,9 @@
 -- The rows of worked examples hold: one computation of the definitions for a table, and one law that carries it to the calls.
-use Prim.Native.Nat.{ℕ, _≤_}
-use native.Mathlib.Omega.{arith}
-use mathlib.Core.Path.{_≡_, refl, ap, _∙_}
-use mathlib.Core.List.{List, [], _∷_}
-use lib.ListN.{length, take}
+use Rattle.scan.proofs.Basics.{ℕ, _≤_, arith, _≡_, refl, ap, _∙_, List, [], _∷_, length, take}
+use mathlib.Core.List.{map}
 use Rattle.scan.specs.Scan.{orElse, when, found, first, all, any, bit, count, passing, least, tabulate}
 use Rattle.table.specs.Table.{keyAt, valueAt, entryWith, entryOf}
 use Rattle.table.specs.Keys.{keyFails}
-use Rattle.refusal.specs.Verdict.{andThen}
 use Rattle.refusal.specs.Finding.{foundAt, foundBy, finding}
 use Rattle.refusal.specs.declared.Verdict.{Verdict}
 use Rattle.refusal.specs.declared.Verdict.the-variants as verdict
@@ -24,11 +20,13 @@ use Rattle.sequential.specs.Check as check
 use Rattle.sequential.specs.Check.{scheduleReply}
 use Rattle.judge.specs.Answer.{countsOf, plainCheck}
 use Rattle.judge.specs.declared.CheckAnswer.{CheckAnswer}
-use Rattle.call.specs.Call.{outputFault, wordsVerdict, answerOf}
+use Rattle.call.specs.Call.{answerOf}
 use Rattle.call.specs.Demands.{own}
 use Rattle.call.proofs.Laws.{call-enough}
 use Rattle.call.proofs.Done.{own-refused}
 use Rattle.refusal.specs.Limits.{scratchLimit}
+use Rattle.call.proofs.Judged.{words-judged-none, judges-same}
+use Rattle.sequential.proofs.Accepted.{schedule-judged}
 use Rattle.schedule.specs.Calls.{checkCore, CheckDone}
 use Rattle.encoding.specs.Encoding as encoding
 use Rattle.minimal.specs.Minimal.{minimalForm}
@@ -54,13 +52,11 @@ formed r = formWhere (scheduleReply (r .net) (r .sheet)) (r .net) (r .sheet)
 
 -- ---- and what the calls answer
 
-nothing-more : (v : Verdict) → andThen v verdict.Accepted ≡ v
-nothing-more verdict.Accepted = refl
-nothing-more (verdict.Refused r) = refl
-
 check-answers : (net sheet s s′ : List ℕ) (a : CheckAnswer) → scratchLimit ≤ length s → CheckDone net sheet s a s′ → a ≡ answerOf (checkCore net sheet) (scheduleReply net sheet)
-unfolding wordsVerdict outputFault
-check-answers net sheet s s′ a l d = d .reply ∙ ap (answerOf (checkCore net sheet)) (call-enough (checkCore net sheet) [] scratchLimit (length s) l ∙ nothing-more (scheduleReply net sheet))
+check-answers net sheet s s′ a l d =
+    let j = schedule-judged net sheet in
+    d .reply ∙ ap (answerOf (checkCore net sheet))
+    (call-enough (checkCore net sheet) [] scratchLimit (length s) l ∙ judges-same _ _ _ (words-judged-none (checkCore net sheet) [] j refl) j)
 
 form-answers : (net sheet out s out′ s′ : List ℕ) (a : FormAnswer) → scratchLimit ≤ length s → 8194 ≤ length out → FormDone net sheet out s a out′ s′
     → take (own (plainForm a) 0) out′ ≡ formWhere (scheduleReply net sheet) net sheet
@@ -68,10 +64,10 @@ form-answers net sheet out s out′ s′ a l m d = go (scheduleReply net sheet) 
   where
     go : (v : Verdict) → scheduleReply net sheet ≡ v → take (own (plainForm a) 0) out′ ≡ formWhere v net sheet
     go verdict.Accepted e =
-        let z = form-zero net sheet out s out′ s′ a d .1 (l, e, omega (arith, form-short net sheet e)) in
+        let z = form-zero net sheet d .1 (l, e, omega (arith, form-short net sheet e)) in
         made-form net sheet (record { out = out; scratch = s; answer = a; out′ = out′; scratch′ = s′; done = d; zero = z })
     go (verdict.Refused r) e =
-        let n = own-refused (form-law net sheet) d (λ z. let q = form-zero net sheet out s out′ s′ a d .0 z .1 in let x : _≡_ {A = ℕ} 0 1 = cc in omega arith) 0 in
+        let n = own-refused (form-law net sheet) d (λ z. let q = form-zero net sheet d .0 z .1 in let x : _≡_ {A = ℕ} 0 1 = cc in omega arith) 0 in
         ap (λ (k : ℕ). take k out′) n
 
 pub row-holds : (r : Row) → answered r ≡ r .answer → formed r ≡ r .form → Holds r
@@ -82,27 +78,15 @@ row-holds r p q = record {
 
 -- ---- tables
 
-abbrev each : (Row → List ℕ) → List Row → List (List ℕ)
-each f [] = []
-each f (r ∷ rs) = f r ∷ each f rs
-
-abbrev headOf : List (List ℕ) → List ℕ
-headOf [] = []
-headOf (x ∷ xs) = x
-
-abbrev tailOf : List (List ℕ) → List (List ℕ)
-tailOf [] = []
-tailOf (x ∷ xs) = xs
-
 abbrev TableHolds : List Row → Type 0
-TableHolds rs = (each answered rs ≡ each (λ r. r .answer) rs) × (each formed rs ≡ each (λ r. r .form) rs)
+TableHolds rs = (map answered rs ≡ map (λ r. r .answer) rs) × (map formed rs ≡ map (λ r. r .form) rs)
 
 table-holds : (rs : List Row) → TableHolds rs → AllHold rs
 table-holds [] h = tt
-table-holds (r ∷ rs) (p, q) = (row-holds r (ap headOf p) (ap headOf q), table-holds rs (ap tailOf p, ap tailOf q))
+table-holds (r ∷ rs) (p, q) = (row-holds r (cc p) (cc q), table-holds rs (cc p, cc q))
 
--- one computation for all tables
-computed : TableHolds starred × TableHolds further × TableHolds capped
+-- what a check and the minimal form compute with, opened together
+unfoldable pub checking : Unit {0}
 unfolding orElse when found first all any bit count passing least tabulate keyAt valueAt entryWith entryOf arcInto arcFrom reachedIn leadsIn
     placeCount transitionCount keyLimit entryWeight weightAt taken put start capacity takesNothing isSource hasSource entryCount keyFails foundAt foundBy
     finding sizesPass weightFails netReply tests.holdsEnough tests.holdsTaken tests.roomAt tests.hasRoom petri.firedCount tests.takesNothing tests.isSource
@@ -111,9 +95,17 @@ unfolding orElse when found first all any bit count passing least tabulate keyAt
     words.arc words.countAt words.marking tests.offers tests.offersAsSource tests.isAwait tests.offersSome tests.firstOffered
     tests.offersAsChoice tests.offersOneChoiceSet check.sizesPass check.targetFails check.countFails words.isArc check.valueFails check.wordsFault
     words.arcNode words.arcTransition check.arcHolds check.arcHasRoom check.landsAt check.arcLands check.graphFault check.scheduleFault check.arcCount
-    check.awaitCount equalLabels agree sameIn same classAt indexOf enter expand explored order merged minimalBy minimal encoding.gather
-    encoding.gatherRows encoding.keyOfArc encoding.held encoding.keyOfCount encoding.valueOfCount encoding.keys encoding.values encoding.encode
-    minimalForm scheduleReply countsOf
+    check.awaitCount scheduleReply countsOf
+checking = tt
+
+unfoldable pub forming : Unit {0}
+unfolding classAt indexOf enter expand explored order merged minimalBy encoding.gather encoding.gatherRows encoding.keyOfArc encoding.held
+    encoding.keyOfCount encoding.valueOfCount encoding.keys encoding.values encoding.encode
+forming = tt
+
+-- one computation for all tables
+computed : TableHolds starred × TableHolds further × TableHolds capped
+unfolding checking forming equalLabels agree sameIn same minimal minimalForm
 computed = ((refl, refl), (refl, refl), (refl, refl))
 
 pub starred-holds : Starred

@@ -1,26 +1,17 @@
 -- The promises beside the three demands, each proved.
-use Prim.Native.Nat.{ℕ, _≤_}
-use native.Mathlib.Omega.{arith}
-use mathlib.Core.Path.{_≡_, refl, sym, ap, _∙_, subst}
-use mathlib.Core.List.{List, [], _∷_, _++_}
-use mathlib.Core.Option.{none}
-use lib.ListN.{length, getD, List·getD-append}
+use Rattle.scan.proofs.Basics.{ℕ, _≤_, arith, _≡_, refl, sym, ap, subst, _∙_, none, List, length, getD}
+use lib.ListN.{List·getD-append}
 use Rattle.scan.proofs.Tests.{iff→eq}
 use Rattle.automaton.proofs.Automaton.{follow-allows}
-use Rattle.refusal.specs.Checks.{once}
 use Rattle.refusal.specs.Verdict.{verdictOf}
 use Rattle.refusal.specs.declared.Verdict.{Verdict}
 use Rattle.refusal.specs.declared.Verdict.the-variants as verdict
 use Rattle.refusal.proofs.Verdicts.{answer-none, then-next, then-accepted}
-use Rattle.refusal.proofs.Judges.{pass-append}
-use Rattle.net.specs.Check.{netReply}
-use Rattle.net.specs.Checks.{netChecks}
 use Rattle.net.proofs.Checks.{net-judged}
 use Rattle.net.proofs.Laws.{sizes, some-source}
 use Rattle.sequential.specs.Petri.{PetriNet, petriNet}
 use Rattle.sequential.specs.Words.{countAt}
 use Rattle.sequential.specs.Check.{scheduleReply}
-use Rattle.sequential.specs.Checks.{sheetChecks}
 use Rattle.sequential.proofs.Words.{words-hold, words-pass}
 use Rattle.sequential.proofs.Entries.{marking-at}
 use Rattle.sequential.proofs.Choices.{choice-refl, choice-sym, choice-trans, choice-source, choice-takes, choice-closed, choice-alone, choice-free}
@@ -31,13 +22,11 @@ use Rattle.sequential.proofs.Paths.{short-where}
 use Rattle.call.specs.Demands.{number}
 use Rattle.scan.specs.Front.{cleared}
 use Rattle.call.proofs.Lent.{room-one, scratch-enough}
-use Rattle.call.proofs.Judged.{words-judged}
-use Rattle.call.proofs.Done.{by-checks, done-zero, own-answered}
+use Rattle.call.proofs.Done.{done-zero, own-answered}
 use Rattle.call.proofs.Laws.{served, answered-none}
-use Rattle.schedule.specs.Walker.{runChecks}
-use Rattle.schedule.specs.Firing.{freshWalker, walkerFault, stepFault, follows, entryFired, runFault, nodeAfter, endCounts}
+use Rattle.schedule.specs.Firing.{freshWalker, stepFault, follows, entryFired, runFault, nodeAfter, endCounts}
 use Rattle.refusal.specs.Limits.{scratchLimit}
-use Rattle.schedule.specs.Calls.{runCore, FreshDone, FireDone, RunDone}
+use Rattle.schedule.specs.Calls.{FreshDone, FireDone, RunDone}
 use Rattle.schedule.specs.Plain.{plainRun}
 use Rattle.schedule.specs.Walks.{Chain, stays, goes}
 use Rattle.schedule.specs.declared.Walker.{Walker}
@@ -57,6 +46,7 @@ use Rattle.demands.specs.Terms.{said}
 use Rattle.demands.specs.Demand3.{made}
 use Rattle.demands.specs.Further.{FreshPasses, PathsShorten, ChoicePartition, PublishedChoiceSets, NeverStuck, OneEncoding, FormNoLonger, FormTwice, FormFewest}
 use Rattle.demands.specs.Further.{Firings, none-fired, one-fired, Folds, RunFolds}
+use Rattle.demands.proofs.Calls.{call-zero}
 use Rattle.demands.proofs.Checked.{accepted-reply, some-scratch, enough-scratch}
 use Rattle.demands.proofs.Demand3.{made-form, size-form}
 
@@ -127,11 +117,7 @@ module _ (net sheet : List ℕ) (h : scheduleReply net sheet ≡ verdict.Accepte
     run-passed z = answer-none _ (then-accepted (scheduleReply net sheet) _ (done-zero (run-law net sheet firings) d z .passed) .1)
 
     answers : scratchLimit ≤ length s → petriNet net .places ≤ length out → runFault (petriNet net) sheet firings ≡ none → number (plainRun a) ≡ 0
-    answers l m e =
-        let law = run-law net sheet firings in
-        let words = (netChecks net ++ sheetChecks N sheet) ++ runChecks N sheet firings in
-        by-checks law d (words-judged (runCore net sheet firings) (out ∷ []) (law .judged) (λ p. room-one (endCounts net firings) out)) .zero .1
-        (l, pass-append words (once (length (endCounts net firings) ≤ length out) 22 ∷ []) .1 (law .judged .accepts .0 (then-next _ _ h ∙ ap verdictOf e), (rw (end-length net firings) m, tt)))
+    answers l m e = call-zero (run-law net sheet firings) d .1 (l, then-next _ _ h ∙ ap verdictOf e, room-one _ _ .0 (rw (end-length net firings) m))
 
     -- where the firings end
     ended : (y : Walker) → number (plainRun a) ≡ 0 → Firings net sheet w firings y → Kept net sheet h y (nodeAfter (petriNet net) sheet firings (length firings))
@@ -159,18 +145,16 @@ module _ (net sheet : List ℕ) (h : scheduleReply net sheet ≡ verdict.Accepte
           ∙ sym (ap (λ (x : List ℕ). getD x p 0) (done-zero (run-law net sheet firings) d z .written 0));
     }
 
-pub fresh-fires : FreshPasses
-fresh-fires net sheet v w t h f o =
-    let r = accepted-reply net sheet h in
-    let q : freshWalker (netReply net) net ≡ w = sym (f .made ∙ ap (λ (x : Verdict). freshWalker x net) (f .reply)) in
-    let p = walker-out (petriNet net) sheet w (subst (λ (x : Walker). walkerFault (petriNet net) sheet x ≡ none) q (fresh-passes net sheet r)) in
-    let n : w .node ≡ 0 = sym (ap (λ (x : Walker). x .node) q) ∙ fresh-node net sheet r in
-    (p .node, ((λ i l. (p .holds i l, tt)), (rw n o, tt)))
-
 pub fresh-kept : (net sheet : List ℕ) (r : scheduleReply net sheet ≡ verdict.Accepted) (v : Verdict) (w : Walker) → FreshDone net v w → Kept net sheet r w 0
 fresh-kept net sheet r v w f =
     subst (λ (x : Walker). Kept net sheet r x 0) (sym (f .made ∙ ap (λ (x : Verdict). freshWalker x net) (f .reply)))
     (record { passes = fresh-passes net sheet r; node = fresh-node net sheet r; counts = fresh-length net sheet r })
+
+pub fresh-fires : FreshPasses
+fresh-fires net sheet v w t h f o =
+    let k = fresh-kept net sheet (accepted-reply net sheet h) v w f in
+    let p = walker-out (petriNet net) sheet w (k .passes) in
+    (p .node, ((λ i l. (p .holds i l, tt)), (rw (k .node) o, tt)))
 
 pub run-folds : RunFolds
 run-folds net sheet firings out s out′ s′ a v w h d f = let r = accepted-reply net sheet h in folds net sheet r firings out s out′ s′ a w d (fresh-kept net sheet r v w f)

@@ -1,5 +1,7 @@
--- the three demands
+-- of every call, and of a check that answered 0
+pub mod Calls
 pub mod Checked
+-- the three demands
 pub mod Demand1
 pub mod Demand2
 pub mod Demand3

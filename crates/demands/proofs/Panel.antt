@@ -1,10 +1,6 @@
 -- What is promised of the calls for the small panel, proved: from scratch that suffices, a call's limit does not show.
-use Prim.Native.Nat.{ℕ, _≤_}
-use native.Mathlib.Omega.{arith}
-use mathlib.Core.Path.{_≡_, refl, sym, ap, _∙_}
-use mathlib.Core.Logic.{_↔_, inl, inr, ⊎-elim, Iff·rfl, Iff·trans}
-use mathlib.Core.List.{List, [], _∷_}
-use lib.ListN.{length, getD, take}
+use Rattle.scan.proofs.Basics.{ℕ, _≤_, arith, _≡_, refl, sym, ap, _∙_, inl, inr, ⊎-elim, _↔_, List, [], _∷_, length, take}
+use mathlib.Core.Logic.{Iff·rfl, Iff·trans}
 use Rattle.refusal.specs.Limits.{scratchLimit}
 use Rattle.refusal.specs.Checks.{once}
 use Rattle.sequential.specs.Petri.{petriNet}
@@ -21,6 +17,7 @@ use Rattle.replay.proofs.Done.{replay-law}
 use Rattle.minimal.specs.Minimal.{minimalForm}
 use Rattle.minimal.specs.Form.{formCore, plainForm}
 use Rattle.minimal.specs.declared.FormAnswer.{FormAnswer}
+use Rattle.minimal.proofs.Minimal.{form-short}
 use Rattle.minimal.proofs.Done.{form-law}
 use Rattle.mended.specs.Mend.{mendedWords}
 use Rattle.mended.specs.Changes.{changes}
@@ -28,12 +25,12 @@ use Rattle.mended.specs.Call.{mendCore}
 use Rattle.mended.proofs.Done.{mend-law}
 use Rattle.panel.specs.Calls.{panelLimit, PanelCheckDone, PanelFormDone}
 use Rattle.demands.specs.Terms.{Accepted}
-use Rattle.demands.specs.Demand3.{AlwaysAccepted, Form, size, made, SameWords}
+use Rattle.demands.specs.Demand3.{Form, size, made, SameWords}
 use Rattle.demands.specs.Panel.{SameOnPanel, panelChecks, PanelAccepted, AlwaysPanelAccepted, PanelForm, AsOther, PanelDemand}
 use Rattle.demands.specs.Panel.{EitherAccepted, EitherForm, eitherSize, eitherOut, eitherMade, EitherSameWords}
-use Rattle.demands.proofs.Checked.{some-scratch, enough-scratch}
+use Rattle.demands.proofs.Checked.{some-scratch, enough-scratch, reply-accepted, check-zero, accepted-reply}
 use Rattle.demands.proofs.Demand1.{demand1}
-use Rattle.demands.proofs.Demand3.{demand3}
+use Rattle.demands.proofs.Demand3.{demand3, form-zero}
 use Rattle.demands.proofs.Replay.{rows-fit}
 
 -- ---- the same from less scratch, for a call with no output buffer, one or two, and for one that hands back a value
@@ -71,44 +68,26 @@ every-form net sheet out = every-call-one (form-law net sheet) refl (λ p. Iff·
 
 -- ---- what is accepted
 
--- scratch that is enough for the other call is enough for the panel's
-panel-enough : panelLimit ≤ length some-scratch
-panel-enough = omega (arith, enough-scratch)
-
--- where every check answers 0 there is one that does
-always-some : (net sheet : List ℕ) → AlwaysAccepted net sheet → Accepted net sheet
-always-some net sheet h =
-    let (a, u, t′, d) = demand1 .check net sheet .replies some-scratch in
-    record { scratch = some-scratch; scratch′ = t′; answer = a; done = d; zero = h some-scratch t′ a enough-scratch d }
-
--- a check that answers 0 has a counterpart of the other kind, which answers 0 as well
+-- a check of either kind answers 0 where the reply is that the schedule is accepted
 as-accepted : (net sheet : List ℕ) → PanelAccepted net sheet → Accepted net sheet
-as-accepted net sheet p =
-    let l = every-check net sheet .by-numbers _ _ _ tt (p .done) .zero .0 (p .zero) .0 in
-    let (a, u, t′, d) = demand1 .check net sheet .replies some-scratch in
-    let e = same-none (checkCore net sheet) _ _ _ _ _ _ tt tt l enough-scratch (p .done) d .0 in
-    record { scratch = some-scratch; scratch′ = t′; answer = a; done = d; zero = rw e at (p .zero) }
+as-accepted net sheet p = reply-accepted net sheet (check-zero net sheet (p .done) .0 (p .zero) .1)
 
 either-accepted : (net sheet : List ℕ) → EitherAccepted net sheet → Accepted net sheet
 either-accepted net sheet = ⊎-elim (as-accepted net sheet) (λ a. a)
 
--- where one check answers 0, every one of the panel's does
 panel-always : (net sheet : List ℕ) → Accepted net sheet → AlwaysPanelAccepted net sheet
-panel-always net sheet h s s′ a l d =
-    let m = demand1 .check net sheet .by-numbers _ _ _ tt (h .done) .zero .0 (h .zero) .0 in
-    let e = same-none (checkCore net sheet) _ _ _ _ _ _ tt tt l m d (h .done) .0 in
-    rw e (h .zero)
+panel-always net sheet h s s′ a l d = check-zero net sheet d .1 (l, accepted-reply net sheet h)
 
 to-panel : (net sheet : List ℕ) → Accepted net sheet → PanelAccepted net sheet
 to-panel net sheet h =
     let (a, u, s′, d) = every-check net sheet .replies some-scratch in
-    record { scratch = some-scratch; scratch′ = s′; answer = a; done = d; zero = panel-always net sheet h some-scratch s′ a panel-enough d }
+    record { scratch = some-scratch; scratch′ = s′; answer = a; done = d; zero = panel-always net sheet h some-scratch s′ a (omega (arith, enough-scratch)) d }
 
 -- ---- what is made
 
 as-other : (net sheet : List ℕ) (c : PanelForm net sheet) → AsOther c
 as-other net sheet c =
-    let l = every-form net sheet (c .out) .by-numbers _ _ _ _ (c .done) .zero .0 (c .zero) .0 in
+    let l = form-zero net sheet (c .done) .0 (c .zero) .0 in
     let (b, o, t′, d) = demand1 .minimal-form net sheet .1 (c .out) .replies some-scratch in
     let (p, q) = same-one (formCore net sheet) (c .out) _ _ _ _ _ _ _ _ l enough-scratch (c .done) d in
     record {
@@ -137,23 +116,14 @@ module _ {net sheet : List ℕ} where
 same-words : {net x y : List ℕ} (a : EitherForm net x) (b : EitherForm net y) → EitherSameWords a b ↔ SameWords (the-other a) (the-other b)
 same-words a b = (
   λ r. record {
-    lengths = sym (other-size a) ∙ r .lengths ∙ other-size b;
-    words = λ i l. ap (λ (w : List ℕ). getD w i 0) (sym (other-out a)) ∙ r .words i (rw (other-size a) l) ∙ ap (λ (w : List ℕ). getD w i 0) (other-out b);
+    lengths = cc (other-size a, other-size b, r .lengths);
+    words = λ i l. cc (other-out a, other-out b, r .words i (rw (other-size a) l));
   },
   λ r. record {
-    lengths = other-size a ∙ r .lengths ∙ sym (other-size b);
-    words = λ i l. ap (λ (w : List ℕ). getD w i 0) (other-out a) ∙ r .words i (rw (other-size a) at l) ∙ ap (λ (w : List ℕ). getD w i 0) (sym (other-out b));
+    lengths = cc (other-size a, other-size b, r .lengths);
+    words = λ i l. cc (other-out a, other-out b, r .words i (rw (other-size a) at l));
   },
 )
-
-there-is : (net sheet out scratch : List ℕ) → Accepted net sheet → panelLimit ≤ length scratch → 8194 ≤ length out
-    → (c : PanelForm net sheet) × (c .out ≡ out) × (c .scratch ≡ scratch)
-there-is net sheet out scratch h l m =
-    let (a, o, s′, d) = every-form net sheet out .replies scratch in
-    let (b, q, t′, e) = demand1 .minimal-form net sheet .1 out .replies some-scratch in
-    let z = demand3 .answers net sheet out some-scratch q t′ b h enough-scratch e .1 (λ form n. omega (arith, demand3 .enough net sheet form h n)) in
-    let p = same-one (formCore net sheet) out _ _ _ _ _ _ _ _ l enough-scratch d e .0 in
-    (record { out = out; scratch = scratch; answer = a; out′ = o; scratch′ = s′; done = d; zero = rw p z }, refl, refl)
 
 -- ---- all of it
 
@@ -177,8 +147,11 @@ panel-demand = record {
   equal = λ net x y hx hy a b. Iff·trans (same-words a b) (demand3 .equal net x y (either-accepted net x hx) (either-accepted net y hy) (the-other a) (the-other b));
   as-other = as-other;
   accepted = λ net sheet h c.
-      let form = made (the-other c) in
-      rw (other-made c) (panel-always net form (always-some net form (demand3 .accepted net sheet (either-accepted net sheet h) (the-other c))));
+      rw (other-made c) (panel-always net _ (demand3 .the-form net sheet (either-accepted net sheet h) (the-other c) (made (the-other c)) .0 refl .accepted));
   same-lists = λ net sheet h c. rw (other-made c) (demand3 .same-lists net sheet (either-accepted net sheet h) (the-other c));
-  there-is = λ net sheet out scratch h. there-is net sheet out scratch (either-accepted net sheet h);
+  there-is = λ net sheet out s h l m.
+      let q = accepted-reply net sheet (either-accepted net sheet h) in
+      let (a, out′, s′, d) = every-form net sheet out .replies s in
+      let z = form-zero net sheet d .1 (l, q, omega (arith, form-short net sheet q)) in
+      (record { out = out; scratch = s; answer = a; out′ = out′; scratch′ = s′; done = d; zero = z }, refl, refl);
 }

@@ -1,15 +1,8 @@
 -- Decoding what is encoded: the graph that an automaton's words say is the automaton.
 -- a key has one row and one column
-use Prim.Native.Nat.{ℕ, _+_, _*_, _/_, _%_, _≤_, _<_}
-use native.Mathlib.Omega.{arith}
-use mathlib.Core.Path.{_≡_, refl, sym, ap, _∙_}
-use mathlib.Core.Logic.{inl, inr}
-use mathlib.Core.List.{List}
-use mathlib.Core.Option.{some}
-use lib.Dec.{ltb}
+use Rattle.scan.proofs.Basics.{ℕ, _+_, _*_, _/_, _%_, _≤_, _<_, arith, _≡_, refl, sym, ap, _∙_, inl, inr, ltb, some, List}
 use lib.Seq.{ext-getD}
-use borrow.Author.Tests.{ltb-true, ltb-false}
-use Rattle.scan.proofs.Tests.{byTest}
+use Rattle.scan.proofs.Tests.{ltb-true, ltb-false, byTest}
 use Rattle.scan.proofs.First.{none-some}
 use Rattle.automaton.specs.Automaton.{Automaton}
 use Rattle.automaton.proofs.Automaton.{arc-cases}
@@ -59,15 +52,10 @@ module _ (N : PetriNet) (A : Automaton) (T : 0 < N .transitions) (E : Encodable 
   decoded-arc : (n t : ℕ) → (graph N sheet) .arc n t ≡ A .arc n t
   decoded-arc n t =
       byTest (ltb n (A .nodes))
-      (λ p. byTest (ltb t (N .transitions)) (λ q. arc-in n t (ltb-true n (A .nodes) p) (ltb-true t (N .transitions) q)) (λ q. past-transitions (ltb-false t (N .transitions) q)))
-      (λ p. past-nodes (ltb-false n (A .nodes) p))
-    where
-      past-transitions : N .transitions ≤ t → (graph N sheet) .arc n t ≡ A .arc n t
-      past-transitions h =
-          graph-closed N sheet T (encoded-passes N A E .arcs) .bounded n t (h) ∙ sym (E .closed .bounded n t (rw (E .transitions) h))
-
-      past-nodes : A .nodes ≤ n → (graph N sheet) .arc n t ≡ A .arc n t
-      past-nodes h = graph-confined N sheet .arcs n t ((rw (encoded-nodes N A) h)) ∙ sym (E .confined .arcs n t h)
+      (λ p. byTest (ltb t (N .transitions)) (λ q. arc-in n t (ltb-true n (A .nodes) p) (ltb-true t (N .transitions) q))
+      (λ q. let h = ltb-false t (N .transitions) q in
+      graph-closed N sheet T (encoded-passes N A E .arcs) .bounded n t h ∙ sym (E .closed .bounded n t (rw (E .transitions) h))))
+      (λ p. let h = ltb-false n (A .nodes) p in graph-confined N sheet .arcs n t (rw (encoded-nodes N A) h) ∙ sym (E .confined .arcs n t h))
 
   -- ---- counts
 
@@ -89,26 +77,16 @@ module _ (N : PetriNet) (A : Automaton) (T : 0 < N .transitions) (E : Encodable 
           rw (look-up-absent sheet (encoded-rising N A) (key n p) (λ v h. let (e, f) = said-count n p v l m (encoded-says N A (key n p) v h) in omega arith)) (omega arith)
 
   decoded-label : (n : ℕ) → (graph N sheet) .label n ≡ A .label n
-  decoded-label n = byTest (ltb n (A .nodes)) (λ p. at-node (ltb-true n (A .nodes) p)) (λ p. past-nodes (ltb-false n (A .nodes) p))
-    where
-      at-node : n < A .nodes → (graph N sheet) .label n ≡ A .label n
-      at-node l =
-          let e = graph-places N sheet n ((rw (encoded-nodes N A) l)) in
-          ext-getD 0 ((graph N sheet) .label n) (A .label n) (e ∙ sym (E .places n l)) (λ p m. unfold held in (count-in n p l (omega arith)))
-
-      past-nodes : A .nodes ≤ n → (graph N sheet) .label n ≡ A .label n
-      past-nodes h = graph-confined N sheet .labels n ((rw (encoded-nodes N A) h)) ∙ sym (E .confined .labels n h)
+  decoded-label n =
+      byTest (ltb n (A .nodes))
+      (λ p. let l = ltb-true n (A .nodes) p in let e = graph-places N sheet n (rw (encoded-nodes N A) l) in
+      ext-getD 0 ((graph N sheet) .label n) (A .label n) (e ∙ sym (E .places n l)) (λ p m. unfold held in (count-in n p l (omega arith))))
+      (λ p. let h = ltb-false n (A .nodes) p in graph-confined N sheet .labels n (rw (encoded-nodes N A) h) ∙ sym (E .confined .labels n h))
 
   pub decode-encode : graph N (encode N A) ≡ A
   decode-encode = λ i. record {
-    nodes = nodes i;
-    transitions = transitions i;
+    nodes = encoded-nodes N A i;
+    transitions = sym (E .transitions) i;
     arc = λ n t. decoded-arc n t i;
     label = λ n. decoded-label n i;
   }
-    where
-      nodes : (graph N sheet) .nodes ≡ A .nodes
-      nodes = (encoded-nodes N A)
-
-      transitions : (graph N sheet) .transitions ≡ A .transitions
-      transitions = (sym (E .transitions))

@@ -1,11 +1,7 @@
 -- The words of an automaton as a sheet: its entries are what the automaton says, and 6 to 9 refuse nothing.
-use Prim.Native.Nat.{ℕ, suc, _+_, _*_, _-_, _≤_, _<_}
-use native.Mathlib.Omega.{arith}
+use Rattle.scan.proofs.Basics.{ℕ, suc, _+_, _-_, _*_, _≤_, _<_, arith, _≡_, refl, sym, _∙_, inl, inr, some, length, getD, length-append}
 use native.Mathlib.Nat.{mul-add}
-use mathlib.Core.Path.{_≡_, refl, sym, _∙_}
-use mathlib.Core.Logic.{inl, inr}
-use mathlib.Core.Option.{some}
-use lib.ListN.{length, getD, length-append, List·getD-append}
+use lib.ListN.{List·getD-append}
 use lib.Seq.{getD-append-add}
 use Rattle.table.specs.Table.{keyAt, valueAt, Rising}
 use Rattle.automaton.specs.Automaton.{Automaton}
@@ -16,8 +12,7 @@ use Rattle.sequential.specs.Checks.{ArcValuePasses}
 use Rattle.sequential.specs.Known.{WordsHold}
 use Rattle.sequential.proofs.Entries.{row-lt}
 use Rattle.encoding.specs.Encoding.{keys, values, encode, Encodable}
-use Rattle.encoding.proofs.Lists.{Stands}
-use Rattle.encoding.proofs.Encoding.{ArcAt, CountAt, Says, keys-paired, keys-between, stands→says, says→stands}
+use Rattle.encoding.proofs.Encoding.{Says, keys-paired, keys-between, stands→says, says→stands}
 use Rattle.encoding.proofs.Entries.{Entered}
 
 module _ (N : PetriNet) (A : Automaton) where
@@ -56,16 +51,18 @@ module _ (N : PetriNet) (A : Automaton) where
   -- ---- the entries
 
   pub encoded-says : (k v : ℕ) → Entered (encode N A) k v → Says N A k v
-  unfolding Stands
-  encoded-says k v e =
-      stands→says N A k v (e .index, rw encoded-entries at (e .entry), sym (encoded-key (e .index) (e .entry)) ∙ e .key, sym (encoded-value (e .index)) ∙ e .value)
+  encoded-says k v e = stands→says N A k v (record {
+    index = e .index;
+    below = rw encoded-entries at (e .entry);
+    key = sym (encoded-key (e .index) (e .entry)) ∙ e .key;
+    value = sym (encoded-value (e .index)) ∙ e .value;
+  })
 
   pub says-encoded : (k v : ℕ) → Says N A k v → Entered (encode N A) k v
-  unfolding Stands
   says-encoded k v s =
-      let (i, l, p, q) = says→stands N A k v s in
-      let m : i < entryCount (encode N A) = rw encoded-entries l in
-      record { index = i; entry = m; key = encoded-key i m ∙ p; value = encoded-value i ∙ q }
+      let h = says→stands N A k v s in
+      let m : h .index < entryCount (encode N A) = rw encoded-entries (h .below) in
+      record { index = h .index; entry = m; key = encoded-key (h .index) m ∙ h .key; value = encoded-value (h .index) ∙ h .value }
 
   encoded-above : (i j : ℕ) → i < j → j < entryCount (encode N A) → entryKey (encode N A) i < entryKey (encode N A) j
   encoded-above i j h l =
@@ -78,27 +75,17 @@ module _ (N : PetriNet) (A : Automaton) where
   -- ---- 6 to 9
 
   -- an arc's key lies below V × T, a count's does not
-  arc-key-low : (k v : ℕ) → ArcAt N A k v → k < A .nodes * N .transitions
-  arc-key-low k v a = rw (a .key) (row-lt (a .node) (N .transitions) (a .transition) (A .nodes) (a .is-transition) (a .is-node))
-
-  count-key-high : (k v : ℕ) → CountAt N A k v → A .nodes * N .transitions ≤ k
-  count-key-high k v c = rw (c .key) (omega arith)
-
   module _ (E : Encodable N A) where
     says-target : (k v : ℕ) → k < A .nodes * N .transitions → Says N A k v → v < A .nodes
     says-target k v l (inl a) = E .closed .lands (a .node) (a .transition) v (a .is-node) (a .arc)
-    says-target k v l (inr c) = absurd (omega (arith, count-key-high k v c))
+    says-target k v l (inr c) = absurd (omega (arith, c .key))
 
     says-count : (k v : ℕ) → A .nodes * N .transitions ≤ k → Says N A k v → (1 ≤ v) × (v ≤ mostCount)
-    says-count k v l (inl a) = absurd (omega (arith, arc-key-low k v a))
+    says-count k v l (inl a) = absurd (omega (arith, a .key, row-lt (a .node) (N .transitions) (a .transition) (A .nodes) (a .is-transition) (a .is-node)))
     says-count k v l (inr c) = (c .positive, rw (c .value) at (E .most (c .node) (c .place) (c .is-node) (c .is-place)))
 
     own : (i : ℕ) → i < entryCount (encode N A) → Says N A (entryKey (encode N A) i) (entryValue (encode N A) i)
     own i l = encoded-says (entryKey (encode N A) i) (entryValue (encode N A) i) (record { index = i; entry = l; key = refl; value = refl })
-
-    key-low : (i : ℕ) → i < entryCount (encode N A) → keyAt (encode N A) 2 i < keyLimit N (encode N A)
-    unfolding entryKey
-    key-low i l = let e : keyAt (encode N A) 2 i ≡ getD (keys N A) i 0 = encoded-key i l in rw (e, encoded-limit) (keys-between N A .below i (rw encoded-entries at l))
 
     target : (i : ℕ) → i < entryCount (encode N A) → ArcValuePasses (encode N A) (arcKeys N (encode N A)) i
     target i l h = rw encoded-nodes (says-target _ _ (rw encoded-arcs at h) (own i l))
@@ -113,7 +100,7 @@ module _ (N : PetriNet) (A : Automaton) where
           whole = encoded-length;
         };
         keys = λ i l. record {
-          low = key-low i l;
+          low = unfold entryKey in (rw (encoded-key i l, encoded-limit) (keys-between N A .below i (rw encoded-entries at l)));
           above = λ z. unfold entryKey in (encoded-above (i - 1) i (omega arith) l);
         };
         targets = target;

@@ -1,14 +1,6 @@
 -- The keys and values of an automaton's words: the keys rise, and what stands in them is what the automaton says.
-use Prim.Native.Nat.{ℕ, _+_, _*_, _<_}
-use native.Mathlib.Omega.{arith}
-use mathlib.Core.Path.{_≡_, refl, sym, ap, _∙_}
-use mathlib.Core.Logic.{_⊎_, inl, inr, ⊎-elim}
-use mathlib.Core.Bool.{Bool, true, false}
-use mathlib.Core.List.{List}
-use mathlib.Core.Option.{Option, some}
-use lib.Dec.{ltb}
-use lib.ListN.{length, length-append}
-use borrow.Author.Tests.{ltb-true, lt-ltb}
+use Rattle.scan.proofs.Basics.{ℕ, _+_, _*_, _<_, arith, _≡_, refl, sym, ap, _∙_, _⊎_, inl, inr, ⊎-elim, Bool, true, false, ltb, Option, some, List, length, length-append}
+use Rattle.scan.proofs.Tests.{ltb-true, lt-ltb}
 use Rattle.scan.specs.Scan.{when, found}
 use Rattle.scan.proofs.First.{when-some, when-hit}
 use Rattle.automaton.specs.Automaton.{Automaton}
@@ -99,7 +91,7 @@ module _ (N : PetriNet) (A : Automaton) where
   unfolding keys
   keys-between =
       let z : 0 + A .nodes * N .transitions ≡ A .nodes * N .transitions = omega arith in
-      between-append arcKeys countKeys 0 (A .nodes * N .transitions) (A .nodes * N .transitions + A .nodes * N .places) (omega arith) (omega arith)
+      between-append {middle = A .nodes * N .transitions} (omega arith) (omega arith)
       (rw z at (rows-between (keyOfArc N A) 0 (N .transitions) (A .nodes) (λ n t k e. omega (arith, key-of-arc n t k e))))
       (rows-between (keyOfCount N A) (A .nodes * N .transitions) (N .places) (A .nodes) (λ n p k e. sym (key-of-count n p k e)))
 
@@ -119,7 +111,7 @@ module _ (N : PetriNet) (A : Automaton) where
 
   pub stands→says : (k v : ℕ) → Stands (keys N A) (values N A) k v → Says N A k v
   unfolding keys values
-  stands→says k v s = ⊎-elim (λ x. inl (arc-out k v x)) (λ x. inr (count-out k v x)) (stands-cases arcKeys countKeys targets counts arcs-paired k v s)
+  stands→says k v s = ⊎-elim (λ x. inl (arc-out k v x)) (λ x. inr (count-out k v x)) (stands-cases arcKeys countKeys targets counts arcs-paired s)
 
   arc-in : (k v : ℕ) → ArcAt N A k v → Stands arcKeys targets k v
   unfolding keyOfArc
@@ -136,5 +128,5 @@ module _ (N : PetriNet) (A : Automaton) where
 
   pub says→stands : (k v : ℕ) → Says N A k v → Stands (keys N A) (values N A) k v
   unfolding keys values
-  says→stands k v (inl a) = stands-left arcKeys countKeys targets counts arcs-paired k v (arc-in k v a)
-  says→stands k v (inr c) = stands-right arcKeys countKeys targets counts arcs-paired k v (count-in k v c)
+  says→stands k v (inl a) = stands-left arcKeys countKeys targets counts arcs-paired (arc-in k v a)
+  says→stands k v (inr c) = stands-right arcKeys countKeys targets counts arcs-paired (count-in k v c)

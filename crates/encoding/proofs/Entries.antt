@@ -1,15 +1,8 @@
 -- A sheet's entries: a key's value is found where the keys rise, and two sheets with the same entries have the same words.
 -- an entry of the sheet has the key k and the value v
-use Prim.Native.Nat.{ℕ, zero, suc, _+_, _*_, _-_, _≤_, _<_}
-use native.Mathlib.Omega.{arith}
-use mathlib.Core.Path.{_≡_, refl, sym, ap, _∙_}
-use mathlib.Core.List.{List}
-use mathlib.Core.Option.{none, some, Option·map}
-use lib.Dec.{ltb}
-use lib.ListN.{length, getD}
+use Rattle.scan.proofs.Basics.{ℕ, zero, suc, _+_, _-_, _*_, _≤_, _<_, arith, _≡_, refl, sym, ap, _∙_, ltb, none, some, Option·map, List, length, getD}
 use lib.Seq.{ext-getD}
-use borrow.Author.Tests.{ltb-true, ltb-false}
-use Rattle.scan.proofs.Tests.{byTest}
+use Rattle.scan.proofs.Tests.{ltb-true, ltb-false, byTest}
 use Rattle.table.specs.Table.{keyAt, valueAt, Rising}
 use Rattle.table.proofs.Table.{rising, entry-unique, entry-at, entry-absent}
 use Rattle.sequential.specs.Words.{nodeCount, entryCount, entryKey, entryValue, entryWithKey}
@@ -33,9 +26,8 @@ module _ (sheet : List ℕ) (r : Rising sheet 2 (entryCount sheet)) where
       entry-absent sheet 2 (entryCount sheet) k
       (λ i l e. h (entryValue sheet i) (record { index = i; entry = l; key = unfold entryKey in e; value = refl }))
 
--- ---- two sheets with the same entries
+  -- ---- the keys rise
 
-module _ (sheet : List ℕ) (r : Rising sheet 2 (entryCount sheet)) where
   rises : (i j : ℕ) → j < entryCount sheet → i < j → entryKey sheet i < entryKey sheet j
   unfolding entryKey
   rises i j l h = rising sheet 2 (entryCount sheet) r i j h l
@@ -43,6 +35,8 @@ module _ (sheet : List ℕ) (r : Rising sheet 2 (entryCount sheet)) where
   rises-weakly : (i j : ℕ) → j < entryCount sheet → i ≤ j → entryKey sheet i ≤ entryKey sheet j
   rises-weakly i j l h =
       byTest (ltb i j) (λ e. let z = rises i j l (ltb-true i j e) in omega arith) (λ e. let z : i ≡ j = omega (arith, ltb-false i j e) in rw z (omega arith))
+
+-- ---- two sheets with the same entries
 
 -- where every entry of x is one of y's
 module _ (x y : List ℕ) (rx : Rising x 2 (entryCount x)) (ry : Rising y 2 (entryCount y)) (part : (k v : ℕ) → Entered x k v → Entered y k v) where

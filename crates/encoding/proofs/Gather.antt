@@ -1,30 +1,18 @@
 -- What is gathered over indices, and over rows: how much it is, where it lies, and what stands in two lists that are gathered together.
 -- f finds something
-use Prim.Native.Nat.{ℕ, zero, suc, _+_, _*_, _<_}
-use native.Mathlib.Omega.{arith}
+use Rattle.scan.proofs.Basics.{ℕ, zero, suc, _+_, _*_, _<_, arith, _≡_, refl, sym, ap, _∙_, ⊎-elim, Bool, Option, none, some, [], _++_, length, length-append}
 use native.Mathlib.Numerals.{add-one}
 use native.Mathlib.Nat.{suc-mul}
-use mathlib.Core.Path.{_≡_, refl, ap, _∙_}
-use mathlib.Core.Logic.{⊎-elim}
-use mathlib.Core.Bool.{Bool}
-use mathlib.Core.List.{[], _++_}
-use mathlib.Core.Option.{Option, none, some}
-use lib.ListN.{length, length-append}
 use Rattle.scan.specs.Scan.{found, bit, count, sum}
 use Rattle.scan.proofs.Tests.{true-false, lt-suc-cases}
 use Rattle.scan.proofs.Count.{count-ext}
-use Rattle.scan.proofs.Sum.{sum-ext}
 use Rattle.encoding.specs.Encoding.{listOf, gather, gatherRows}
-use Rattle.encoding.proofs.Lists.{Between, between-nil, between-append, between-list, Stands, stands-nil, stands-left, stands-right, stands-cases}
+use Rattle.encoding.proofs.Lists.{Between, between-nil, between-append, between-list, Stands, stands-left, stands-right, stands-cases}
 
 unfoldable pub finds : (ℕ → Option ℕ) → ℕ → Bool
 finds f i = found (f i)
 
 -- ---- the turns of a loop
-
-pub gather-none : (f : ℕ → Option ℕ) → gather f 0 ≡ []
-unfolding gather
-gather-none f = refl
 
 pub gather-more : (f : ℕ → Option ℕ) (i : ℕ) → gather f (i + 1) ≡ gather f i ++ listOf (f i)
 unfolding gather
@@ -60,33 +48,29 @@ rows-length f columns (suc n) =
 
 pub gather-between : (f : ℕ → Option ℕ) (low n : ℕ) → ((i k : ℕ) → f i ≡ some k → k ≡ low + i) → Between (gather f n) low (low + n)
 unfolding gather
-gather-between f low zero h = between-nil low (low + 0)
+gather-between f low zero h = between-nil
 gather-between f low (suc n) h =
     let q : low + n + 1 ≡ low + suc n = omega arith in
-    between-append (gather f n) (listOf (f n)) low (low + n) (low + suc n) (omega arith) (omega arith) (gather-between f low n h)
-    (rw q at (between-list (f n) (low + n) (h n)))
+    between-append (omega arith) (omega arith) (gather-between f low n h) (rw q at (between-list (f n) (low + n) (h n)))
 
 pub rows-between : (f : ℕ → ℕ → Option ℕ) (low columns n : ℕ) → ((i j k : ℕ) → f i j ≡ some k → k ≡ low + i * columns + j)
     → Between (gatherRows f columns n) low (low + n * columns)
 unfolding gatherRows
-rows-between f low columns zero h = between-nil low (low + 0 * columns)
+rows-between f low columns zero h = between-nil
 rows-between f low columns (suc n) h =
     let q : low + n * columns + columns ≡ low + suc n * columns = omega (arith, suc-mul n columns) in
-    between-append (gatherRows f columns n) (gather (f n) columns) low (low + n * columns) (low + suc n * columns) (omega arith) (omega arith)
-    (rows-between f low columns n h) (rw q at (gather-between (f n) (low + n * columns) columns (h n)))
+    between-append (omega arith) (omega arith) (rows-between f low columns n h) (rw q at (gather-between (f n) (low + n * columns) columns (h n)))
 
 -- ---- what stands in two lists that are gathered together
 
-list-out : (o p : Option ℕ) (k v : ℕ) → found o ≡ found p → Stands (listOf o) (listOf p) k v → (o ≡ some k) × (p ≡ some v)
-unfolding Stands found
-list-out none p k v e (i, l, a, b) = absurd (omega arith)
-list-out (some x) none k v e s = true-false (found (some x)) refl e
-list-out (some x) (some y) k v e (zero, l, a, b) = (ap some a, ap some b)
-list-out (some x) (some y) k v e (suc i, l, a, b) = absurd (omega arith)
+list-out : (o p : Option ℕ) {k v : ℕ} → found o ≡ found p → Stands (listOf o) (listOf p) k v → (o ≡ some k) × (p ≡ some v)
+unfolding found
+list-out none p e s = absurd (omega (arith, s .below))
+list-out (some x) none e s = true-false (found (some x)) refl e
+list-out (some x) (some y) e s = let z : s .index ≡ 0 = omega (arith, s .below) in (ap some (rw z at (s .key)), ap some (rw z at (s .value)))
 
-list-in : (o p : Option ℕ) (k v : ℕ) → o ≡ some k → p ≡ some v → Stands (listOf o) (listOf p) k v
-unfolding Stands
-list-in o p k v a b = rw (a, b) (0, omega arith, refl, refl)
+list-in : {o p : Option ℕ} {k v : ℕ} → o ≡ some k → p ≡ some v → Stands (listOf o) (listOf p) k v
+list-in a b = rw (a, b) (record { index = 0; below = omega arith; key = refl; value = refl })
 
 module _ (f g : ℕ → Option ℕ) (both : (i : ℕ) → found (f i) ≡ found (g i)) where
   pub gather-paired : (n : ℕ) → length (gather f n) ≡ length (gather g n)
@@ -94,44 +78,41 @@ module _ (f g : ℕ → Option ℕ) (both : (i : ℕ) → found (f i) ≡ found 
 
   pub gather-out : (n k v : ℕ) → Stands (gather f n) (gather g n) k v → (i : ℕ) × (i < n) × (f i ≡ some k) × (g i ≡ some v)
   unfolding gather
-  gather-out zero k v s = stands-nil [] k v s
+  gather-out zero k v s = absurd (omega (arith, s .below))
   gather-out (suc n) k v s =
-      ⊎-elim (λ x. let (i, l, a, b) = gather-out n k v x in (i, omega arith, a, b)) (λ x. let (a, b) = list-out (f n) (g n) k v (both n) x in (n, omega arith, a, b))
-      (stands-cases (gather f n) (listOf (f n)) (gather g n) (listOf (g n)) (gather-paired n) k v s)
+      ⊎-elim (λ x. let (i, l, a, b) = gather-out n k v x in (i, omega arith, a, b)) (λ x. let (a, b) = list-out (f n) (g n) (both n) x in (n, omega arith, a, b))
+      (stands-cases (gather f n) (listOf (f n)) (gather g n) (listOf (g n)) (gather-paired n) s)
 
   pub gather-in : (n k v i : ℕ) → i < n → f i ≡ some k → g i ≡ some v → Stands (gather f n) (gather g n) k v
   unfolding gather
   gather-in zero k v i l a b = absurd (omega arith)
   gather-in (suc n) k v i l a b =
-      ⊎-elim (λ e. stands-right (gather f n) (listOf (f n)) (gather g n) (listOf (g n)) (gather-paired n) k v (list-in (f n) (g n) k v (rw e at a) (rw e at b)))
-      (λ m. stands-left (gather f n) (listOf (f n)) (gather g n) (listOf (g n)) (gather-paired n) k v (gather-in n k v i m a b)) (lt-suc-cases l)
+      ⊎-elim (λ e. stands-right (gather f n) (listOf (f n)) (gather g n) (listOf (g n)) (gather-paired n) (list-in (rw e at a) (rw e at b)))
+      (λ m. stands-left (gather f n) (listOf (f n)) (gather g n) (listOf (g n)) (gather-paired n) (gather-in n k v i m a b)) (lt-suc-cases l)
 
 module _ (f g : ℕ → ℕ → Option ℕ) (both : (i j : ℕ) → found (f i j) ≡ found (g i j)) (columns : ℕ) where
   pub rows-paired : (n : ℕ) → length (gatherRows f columns n) ≡ length (gatherRows g columns n)
-  rows-paired n =
-      omega (
-        arith,
-        rows-length f columns n,
-        rows-length g columns n,
-        sum-ext (λ i. count (finds (f i)) columns) (λ i. count (finds (g i)) columns) n
-            (λ i l. count-ext (finds (f i)) (finds (g i)) columns (λ j m. unfold finds in (both i j))),
-      )
+  unfolding gatherRows
+  rows-paired zero = refl
+  rows-paired (suc n) =
+      length-append (gatherRows f columns n) (gather (f n) columns) ∙ rw (rows-paired n, gather-paired (f n) (g n) (both n) columns)
+      (sym (length-append (gatherRows g columns n) (gather (g n) columns)))
 
   pub rows-out : (n k v : ℕ) → Stands (gatherRows f columns n) (gatherRows g columns n) k v
       → (i : ℕ) × (j : ℕ) × (i < n) × (j < columns) × (f i j ≡ some k) × (g i j ≡ some v)
   unfolding gatherRows
-  rows-out zero k v s = stands-nil [] k v s
+  rows-out zero k v s = absurd (omega (arith, s .below))
   rows-out (suc n) k v s =
       ⊎-elim (λ x. let (i, j, l, m, a, b) = rows-out n k v x in (i, j, omega arith, m, a, b))
       (λ x. let (j, m, a, b) = gather-out (f n) (g n) (both n) columns k v x in (n, j, omega arith, m, a, b))
-      (stands-cases (gatherRows f columns n) (gather (f n) columns) (gatherRows g columns n) (gather (g n) columns) (rows-paired n) k v s)
+      (stands-cases (gatherRows f columns n) (gather (f n) columns) (gatherRows g columns n) (gather (g n) columns) (rows-paired n) s)
 
   pub rows-in : (n k v i j : ℕ) → i < n → j < columns → f i j ≡ some k → g i j ≡ some v → Stands (gatherRows f columns n) (gatherRows g columns n) k v
   unfolding gatherRows
   rows-in zero k v i j l m a b = absurd (omega arith)
   rows-in (suc n) k v i j l m a b =
       ⊎-elim
-      (λ e. stands-right (gatherRows f columns n) (gather (f n) columns) (gatherRows g columns n) (gather (g n) columns) (rows-paired n) k v
+      (λ e. stands-right (gatherRows f columns n) (gather (f n) columns) (gatherRows g columns n) (gather (g n) columns) (rows-paired n)
       (gather-in (f n) (g n) (both n) columns k v j m (rw e at a) (rw e at b)))
-      (λ h. stands-left (gatherRows f columns n) (gather (f n) columns) (gatherRows g columns n) (gather (g n) columns) (rows-paired n) k v
-      (rows-in n k v i j h m a b)) (lt-suc-cases l)
+      (λ h. stands-left (gatherRows f columns n) (gather (f n) columns) (gatherRows g columns n) (gather (g n) columns) (rows-paired n) (rows-in n k v i j h m a b))
+      (lt-suc-cases l)

@@ -1,17 +1,11 @@
 -- The rows of kept nodes: the cells of their arcs with new numbers, and their markings, are those of the automaton that they make.
-use Prim.Native.Nat.{ℕ, zero, suc, _+_, _*_, _-_, _≤_, _<_}
-use native.Mathlib.Omega.{arith}
+use Rattle.scan.proofs.Basics.{ℕ, zero, suc, _+_, _-_, _*_, _≤_, _<_, arith, _≡_, refl, sym, ap, _∙_, ⊎-elim, ltb, Option, none, some, Option·map, List, length, getD, set, replicate, length-set}
+use Rattle.scan.proofs.Basics.{length-replicate}
 use native.Mathlib.Numerals.{add-one}
-use mathlib.Core.Path.{_≡_, refl, sym, ap, _∙_}
-use mathlib.Core.Bool.{Bool, true, false, _&&_}
-use mathlib.Core.List.{List}
-use mathlib.Core.Option.{Option, none, some, Option·map}
-use mathlib.Core.Logic.{⊎-elim}
-use lib.ListN.{length, getD, set, replicate, length-set, length-replicate, List·getD-eq-default}
+use mathlib.Core.Bool.{and-false}
+use lib.ListN.{List·getD-eq-default}
 use lib.Seq.{getD-set-other}
-use lib.Dec.{ltb}
-use borrow.Author.Tests.{le-ltb}
-use Rattle.scan.proofs.Tests.{lt-suc-cases}
+use Rattle.scan.proofs.Tests.{le-ltb, lt-suc-cases}
 use Rattle.scan.proofs.Tabulate.{tabulate-at, stored-more}
 use Rattle.automaton.specs.Automaton.{Automaton}
 use Rattle.table.specs.Row.{entryCode}
@@ -54,10 +48,6 @@ unfolding arcCell
 cell-code sheet numbers none = refl
 cell-code sheet numbers (some i) = rw (add-one i) refl
 
-and-false : (b : Bool) → (b && false) ≡ false
-and-false true = refl
-and-false false = refl
-
 -- ---- the cells as a loop fills them: those up to t are there, the others 0
 
 pub record Filled (f : ℕ → ℕ) (t : ℕ) (cells : List ℕ) : Type 0 where
@@ -65,13 +55,13 @@ pub record Filled (f : ℕ → ℕ) (t : ℕ) (cells : List ℕ) : Type 0 where
   pub below : (j : ℕ) → j < t → getD cells j 0 ≡ f j
   pub above : (j : ℕ) → t ≤ j → getD cells j 0 ≡ 0
 
+pub zeros : (n j : ℕ) → getD {A = ℕ} (replicate n 0) j 0 ≡ 0
+zeros zero j = refl
+zeros (suc n) zero = refl
+zeros (suc n) (suc j) = zeros n j
+
 pub filled-none : (f : ℕ → ℕ) → Filled f 0 (replicate 32 0)
 filled-none f = record { size = length-replicate {A = ℕ} 32 0; below = λ j l. absurd (omega arith); above = λ j l. zeros 32 j }
-  where
-    zeros : (n j : ℕ) → getD {A = ℕ} (replicate n 0) j 0 ≡ 0
-    zeros zero j = refl
-    zeros (suc n) zero = refl
-    zeros (suc n) (suc j) = zeros n j
 
 module _ {f : ℕ → ℕ} {t : ℕ} {cells : List ℕ} (h : Filled f t cells) where
   pub filled-more : (v : ℕ) → t < 32 → v ≡ f t → Filled f (t + 1) (set cells t v)

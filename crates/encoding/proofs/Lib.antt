@@ -9,7 +9,6 @@ pub mod Reading
 pub mod Decoded
 pub mod Recoded
 -- its rows, one behind the other
-pub mod Length
 pub mod Rows
 -- nodes that are kept under new numbers
 pub mod Kept

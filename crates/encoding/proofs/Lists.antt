@@ -1,17 +1,10 @@
 -- Keys and values as two lists: what stands in them, in lists put behind lists, and keys that rise within bounds.
 -- ---- an index of two lists, one behind the other
 -- an index lies in the first list, or that much past its end in the second
-use Prim.Native.Nat.{ℕ, _+_, _-_, _≤_, _<_}
-use native.Mathlib.Omega.{arith}
-use mathlib.Core.Path.{_≡_, refl, sym, ap, _∙_}
-use mathlib.Core.Logic.{_⊎_, inl, inr}
-use mathlib.Core.List.{List, [], _++_}
-use mathlib.Core.Option.{Option, none, some}
-use lib.Dec.{ltb}
-use lib.ListN.{length, getD, length-append, List·getD-append}
+use Rattle.scan.proofs.Basics.{ℕ, _+_, _-_, _≤_, _<_, arith, _≡_, refl, sym, ap, _∙_, _⊎_, inl, inr, ltb, Option, none, some, List, [], _++_, length, getD, length-append}
+use lib.ListN.{List·getD-append}
 use lib.Seq.{getD-append-add}
-use borrow.Author.Tests.{ltb-true, ltb-false}
-use Rattle.scan.proofs.Tests.{byTest}
+use Rattle.scan.proofs.Tests.{ltb-true, ltb-false, byTest}
 use Rattle.encoding.specs.Encoding.{listOf}
 
 pub append-cases {ℓ} : {C : Type ℓ} (xs ys : List ℕ) (i : ℕ) → i < length (xs ++ ys)
@@ -31,11 +24,11 @@ pub record Between (xs : List ℕ) (low high : ℕ) : Type 0 where
   pub below : (i : ℕ) → i < length xs → getD xs i 0 < high
   pub rising : (i j : ℕ) → i < j → j < length xs → getD xs i 0 < getD xs j 0
 
-pub between-nil : (low high : ℕ) → Between [] low high
-between-nil low high = record { from = λ i l. absurd (omega arith); below = λ i l. absurd (omega arith); rising = λ i j l m. absurd (omega arith) }
+pub between-nil : {low high : ℕ} → Between [] low high
+between-nil = record { from = λ i l. absurd (omega arith); below = λ i l. absurd (omega arith); rising = λ i j l m. absurd (omega arith) }
 
-pub between-append : (xs ys : List ℕ) (low middle high : ℕ) → low ≤ middle → middle ≤ high → Between xs low middle → Between ys middle high → Between (xs ++ ys) low high
-between-append xs ys low middle high lm mh a b = record {
+pub between-append : {xs ys : List ℕ} {low middle high : ℕ} → low ≤ middle → middle ≤ high → Between xs low middle → Between ys middle high → Between (xs ++ ys) low high
+between-append {xs} {ys} lm mh a b = record {
   from = λ i l. append-cases xs ys i l (λ h e. rw e (a .from i h)) (λ j q h e. rw e (omega (arith, b .from j h)));
   below = λ i l. append-cases xs ys i l (λ h e. rw e (omega (arith, a .below i h))) (λ j q h e. rw e (b .below j h));
   rising = λ i j l m.
@@ -46,7 +39,7 @@ between-append xs ys low middle high lm mh a b = record {
 }
 
 pub between-list : (o : Option ℕ) (low : ℕ) → ((k : ℕ) → o ≡ some k → k ≡ low) → Between (listOf o) low (low + 1)
-between-list none low h = between-nil low (low + 1)
+between-list none low h = between-nil
 between-list (some k) low h =
     let e : k ≡ low = h k refl in
     record {
@@ -58,35 +51,36 @@ between-list (some k) low h =
 -- ---- what stands in two lists
 
 -- key k and value v stand at one index
-unfoldable pub Stands : List ℕ → List ℕ → ℕ → ℕ → Type 0
-Stands ks vs k v = (i : ℕ) × (i < length ks) × (getD ks i 0 ≡ k) × (getD vs i 0 ≡ v)
+pub record Stands (ks vs : List ℕ) (k v : ℕ) : Type 0 where
+  pub index : ℕ
+  pub below : index < length ks
+  pub key : getD ks index 0 ≡ k
+  pub value : getD vs index 0 ≡ v
 
-pub stands-nil {ℓ} : {C : Type ℓ} (vs : List ℕ) (k v : ℕ) → Stands [] vs k v → C
-unfolding Stands
-stands-nil vs k v (i, l, p, q) = absurd (omega arith)
-
-module _ (ks ks′ vs vs′ : List ℕ) (e : length ks ≡ length vs) (k v : ℕ) where
+module _ (ks ks′ vs vs′ : List ℕ) (e : length ks ≡ length vs) {k v : ℕ} where
   pub stands-left : Stands ks vs k v → Stands (ks ++ ks′) (vs ++ vs′) k v
-  unfolding Stands
-  stands-left (i, l, p, q) = (
-    i,
-    omega (arith, length-append ks ks′),
-    List·getD-append ks ks′ 0 i l ∙ p,
-    List·getD-append vs vs′ 0 i (omega arith) ∙ q,
-  )
+  stands-left s = record {
+    index = s .index;
+    below = omega (arith, s .below, length-append ks ks′);
+    key = List·getD-append ks ks′ 0 (s .index) (s .below) ∙ s .key;
+    value = List·getD-append vs vs′ 0 (s .index) (omega (arith, s .below)) ∙ s .value;
+  }
 
   pub stands-right : Stands ks′ vs′ k v → Stands (ks ++ ks′) (vs ++ vs′) k v
-  unfolding Stands
-  stands-right (i, l, p, q) = (
-    length ks + i,
-    omega (arith, length-append ks ks′),
-    getD-append-add ks ks′ i 0 ∙ p,
-    ap (λ (n : ℕ). getD (vs ++ vs′) (n + i) 0) e ∙ getD-append-add vs vs′ i 0 ∙ q,
-  )
+  stands-right s = record {
+    index = length ks + s .index;
+    below = omega (arith, s .below, length-append ks ks′);
+    key = getD-append-add ks ks′ (s .index) 0 ∙ s .key;
+    value = ap (λ (n : ℕ). getD (vs ++ vs′) (n + s .index) 0) e ∙ getD-append-add vs vs′ (s .index) 0 ∙ s .value;
+  }
 
   pub stands-cases : Stands (ks ++ ks′) (vs ++ vs′) k v → Stands ks vs k v ⊎ Stands ks′ vs′ k v
-  unfolding Stands
-  stands-cases (i, l, p, q) =
-      append-cases ks ks′ i l
-      (λ h f. inl (i, h, sym f ∙ p, sym (List·getD-append vs vs′ 0 i (omega arith)) ∙ q))
-      (λ j r h f. inr (j, h, sym f ∙ p, sym (getD-append-add vs vs′ j 0) ∙ ap (λ (n : ℕ). getD (vs ++ vs′) n 0) (ap (λ (n : ℕ). n + j) (sym e) ∙ sym r) ∙ q))
+  stands-cases s =
+      append-cases ks ks′ (s .index) (s .below)
+      (λ h f. inl (record { index = s .index; below = h; key = sym f ∙ s .key; value = sym (List·getD-append vs vs′ 0 (s .index) (omega arith)) ∙ s .value }))
+      (λ j r h f. inr (record {
+        index = j;
+        below = h;
+        key = sym f ∙ s .key;
+        value = sym (getD-append-add vs vs′ j 0) ∙ ap (λ (n : ℕ). getD (vs ++ vs′) n 0) (ap (λ (n : ℕ). n + j) (sym e) ∙ sym r) ∙ s .value;
+      }))

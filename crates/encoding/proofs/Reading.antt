@@ -1,10 +1,6 @@
 -- What a sheet's words say of an arc or a count is the value at its key; nothing is said outside the net and past the nodes.
-use Prim.Native.Nat.{ℕ, _+_, _*_, _≤_, _<_}
-use mathlib.Core.Path.{_≡_, refl, ap, _∙_}
-use mathlib.Core.List.{List, []}
-use mathlib.Core.Option.{Option, none, some, Option·map}
-use lib.ListN.{length}
-use borrow.Author.Tests.{lt-ltb, le-ltb}
+use Rattle.scan.proofs.Basics.{ℕ, _+_, _*_, _<_, _≡_, refl, ap, _∙_, Option, none, some, Option·map, List, length}
+use Rattle.scan.proofs.Tests.{lt-ltb, le-ltb}
 use Rattle.scan.proofs.First.{none-some}
 use Rattle.scan.proofs.Tabulate.{tabulate-length}
 use Rattle.automaton.specs.Quotient.{Confined}
@@ -20,10 +16,6 @@ module _ (N : PetriNet) (sheet : List ℕ) where
   unfolding arc arcEntry
   arc-inside n t l m = rw (lt-ltb n (nodeCount sheet) l, lt-ltb t (N .transitions) m)
 
-  arc-no-node : (n t : ℕ) → nodeCount sheet ≤ n → arc N sheet n t ≡ none
-  unfolding arc arcEntry
-  arc-no-node n t l = rw (le-ltb n (nodeCount sheet) l)
-
   pub held-inside : (n p : ℕ) → n < nodeCount sheet → p < N .places
       → held N (graph N sheet) n p ≡ foundOr 0 (entryValue sheet) (entryWithKey sheet (nodeCount sheet * N .transitions + n * N .places + p))
   unfolding held countAt arcKeys
@@ -34,12 +26,9 @@ module _ (N : PetriNet) (sheet : List ℕ) where
   value-there none v e = none-some none v refl e
   value-there (some i) v e = cc
 
-  marking-past : (n : ℕ) → nodeCount sheet ≤ n → marking N sheet n ≡ []
-  unfolding marking
-  marking-past n l = rw (le-ltb n (nodeCount sheet) l)
-
   pub graph-confined : Confined (graph N sheet)
-  graph-confined = record { arcs = arc-no-node; labels = marking-past }
+  unfolding arc arcEntry marking
+  graph-confined = record { arcs = λ n t l. rw (le-ltb n (nodeCount sheet) l); labels = λ n l. rw (le-ltb n (nodeCount sheet) l) }
 
   pub graph-places : (n : ℕ) → n < (graph N sheet) .nodes → length ((graph N sheet) .label n) ≡ N .places
   graph-places n l = ap length (marking-node N sheet n l) ∙ tabulate-length (countAt N sheet n) (N .places)

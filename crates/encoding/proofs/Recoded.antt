@@ -1,24 +1,14 @@
 -- Encoding what is decoded: a sheet that passes 6 to 9 is the words of the graph that it says.
-use Prim.Native.Nat.{ℕ, _+_, _*_, _-_, _/_, _%_, _≤_, _<_}
-use native.Mathlib.Omega.{arith}
+use Rattle.scan.proofs.Basics.{ℕ, _+_, _-_, _*_, _/_, _%_, _≤_, _<_, arith, _≡_, refl, sym, _∙_, inl, inr, true, ltb, Option, none, some, Option·map, List}
 use native.Mathlib.Nat.{mul-add, mod-lt, div-add-mod', div-lt-iff-lt-mul}
-use mathlib.Core.Path.{_≡_, refl, sym, ap, _∙_}
-use mathlib.Core.Logic.{inl, inr}
-use mathlib.Core.Bool.{true}
-use mathlib.Core.List.{List}
-use mathlib.Core.Option.{Option, none, some, Option·map}
-use lib.Dec.{ltb}
-use lib.ListN.{length}
-use borrow.Author.Tests.{ltb-false}
-use Rattle.scan.proofs.Tests.{byTest}
+use Rattle.scan.proofs.Tests.{ltb-false, byTest}
 use Rattle.table.proofs.Table.{entry-some}
-use Rattle.refusal.specs.Limits.{mostCount}
 use Rattle.sequential.specs.Petri.{PetriNet}
 use Rattle.sequential.specs.Words.{nodeCount, entryCount, entryKey, entryValue, entryWithKey, arcKeys, keyLimit, graph, isArc, arcNode, arcTransition}
 use Rattle.sequential.specs.Known.{WordsHold}
 use Rattle.sequential.proofs.Words.{words-rise}
-use Rattle.sequential.proofs.Entries.{ArcEntry, arc-entry, entry-arc, entry-node, graph-closed, count-most, marking-at}
-use Rattle.encoding.specs.Encoding.{held, keys, encode, Encodable}
+use Rattle.sequential.proofs.Entries.{arc-entry, entry-arc, entry-node, graph-closed, count-most, marking-at}
+use Rattle.encoding.specs.Encoding.{held, encode, Encodable}
 use Rattle.encoding.proofs.Encoding.{ArcAt, CountAt, Says}
 use Rattle.encoding.proofs.Entries.{Entered, look-up-entered, same-words}
 use Rattle.encoding.proofs.Encoded.{encoded-nodes, encoded-entries, encoded-length, encoded-says, says-encoded, encoded-rising}
@@ -55,13 +45,10 @@ module _ (N : PetriNet) (sheet : List ℕ) (T : 0 < N .transitions) (P : 0 < N .
       above : nodeCount sheet * N .transitions ≤ entryKey sheet i
       above = unfold arcKeys in h
 
-      below : entryKey sheet i < nodeCount sheet * N .transitions + nodeCount sheet * N .places
-      below =
-          let q : entryKey sheet i < nodeCount sheet * (N .transitions + N .places) = unfold keyLimit entryKey in (w .arcs .keys i l .low) in
-          rw (mul-add (nodeCount sheet) (N .transitions) (N .places)) at q
-
       is-node : j / N .places < nodeCount sheet
-      is-node = div-lt-iff-lt-mul P .1 (omega (arith, above, below))
+      is-node =
+          let q : entryKey sheet i < nodeCount sheet * (N .transitions + N .places) = unfold keyLimit entryKey in (w .arcs .keys i l .low) in
+          div-lt-iff-lt-mul P .1 (omega (arith, above, mul-add (nodeCount sheet) (N .transitions) (N .places)))
 
       key : entryKey sheet i ≡ nodeCount sheet * N .transitions + j / N .places * N .places + j % N .places
       key = omega (arith, above, div-add-mod' j (N .places))
@@ -78,18 +65,13 @@ module _ (N : PetriNet) (sheet : List ℕ) (T : 0 < N .transitions) (P : 0 < N .
 
   -- ---- what the graph says is an entry
 
-  key-of-entry : (i n t m : ℕ) → ArcEntry N sheet i n t m → entryKey sheet i ≡ n * N .transitions + t
-  unfolding arcNode arcTransition
-  key-of-entry i n t m e = sym (div-add-mod' (entryKey sheet i) (N .transitions)) ∙ rw (e .node, e .transition)
-
-  value-at-key : (k v : ℕ) → CountAt N (graph N sheet) k v → foundOr 0 (entryValue sheet) (entryWithKey sheet k) ≡ v
-  value-at-key k v c = rw (c .key) (sym (held-inside N sheet (c .node) (c .place) (c .is-node) (c .is-place)) ∙ c .value)
-
   said-entered : (k v : ℕ) → Says N (graph N sheet) k v → Entered sheet k v
   said-entered k v (inl a) =
       let (i, e) = arc-entry N sheet T (w .arcs) (a .node) (a .transition) v (a .arc) in
-      record { index = i; entry = e .entry; key = key-of-entry i _ _ v e ∙ sym (a .key); value = e .target }
-  said-entered k v (inr c) = go (entryWithKey sheet k) refl (value-at-key k v c)
+      let q : entryKey sheet i ≡ k
+      = unfold arcNode arcTransition in (sym (div-add-mod' (entryKey sheet i) (N .transitions)) ∙ rw (e .node, e .transition) (sym (a .key))) in
+      record { index = i; entry = e .entry; key = q; value = e .target }
+  said-entered k v (inr c) = go (entryWithKey sheet k) refl (rw (c .key) (sym (held-inside N sheet (c .node) (c .place) (c .is-node) (c .is-place)) ∙ c .value))
     where
       go : (o : Option ℕ) → entryWithKey sheet k ≡ o → foundOr 0 (entryValue sheet) o ≡ v → Entered sheet k v
       go none e q = absurd (omega (arith, c .positive))
@@ -105,19 +87,13 @@ module _ (N : PetriNet) (sheet : List ℕ) (T : 0 < N .transitions) (P : 0 < N .
       (λ k v e. said-entered k v (encoded-says N (graph N sheet) k v e)) (λ k v e. says-encoded N (graph N sheet) k v (entered-said k v e))
       (encoded-nodes N (graph N sheet)) (encoded-length N (graph N sheet)) (w .arcs .shape .whole)
 
-  entries-equal : length (keys N (graph N sheet)) ≡ entryCount sheet
-  entries-equal = sym (encoded-entries N (graph N sheet)) ∙ ap entryCount encode-decode
-
   pub decoded-encodable : Encodable N (graph N sheet)
   decoded-encodable = record {
     transitions = refl;
     few-nodes = w .arcs .shape .few-nodes;
-    few-entries = rw entries-equal (w .arcs .shape .few-entries);
+    few-entries = rw (← encoded-entries N (graph N sheet), encode-decode) (w .arcs .shape .few-entries);
     closed = graph-closed N sheet T (w .arcs);
     confined = graph-confined N sheet;
     places = graph-places N sheet;
-    most = most;
+    most = λ n p l m. unfold held in (rw (marking-at N sheet n p l m) (count-most N sheet w n p));
   }
-    where
-      most : (n p : ℕ) → n < (graph N sheet) .nodes → p < N .places → held N (graph N sheet) n p ≤ mostCount
-      most n p l m = unfold held in (rw (marking-at N sheet n p l m) (count-most N sheet w n p))

@@ -1,15 +1,9 @@
 -- Words appended to a buffer, piece by piece; and the rows of an automaton, one behind the other, as the sections of its words.
-use Prim.Native.Nat.{ℕ, zero, suc, _+_, _-_, _≤_, _<_}
-use native.Mathlib.Omega.{arith}
-use mathlib.Core.Path.{_≡_, refl, sym, ap, _∙_}
-use mathlib.Core.List.{List, [], _∷_, _++_, append-nil}
-use mathlib.Core.Option.{Option, none, some}
-use lib.ListN.{length, getD, set, length-append}
-use lib.Dec.{ltb, leb}
-use borrow.Author.Tests.{lt-ltb, le-ltb, leb-true, leb-false}
+use Rattle.scan.proofs.Basics.{ℕ, zero, suc, _+_, _-_, _≤_, _<_, arith, _≡_, refl, sym, ap, _∙_, ltb, leb, Option, none, some, List, [], _∷_, _++_, length, getD, set, length-append}
+use mathlib.Core.List.{append-nil}
+use Rattle.scan.proofs.Tests.{lt-ltb, le-ltb, leb-true, leb-false, byTest}
 use Rattle.scan.specs.Scan.{when, found, count}
 use Rattle.scan.specs.Placed.{placed, nextPlace}
-use Rattle.scan.proofs.Tests.{byTest}
 use Rattle.scan.proofs.Count.{count-ext}
 use Rattle.scan.proofs.First.{when-hit, when-miss}
 use Rattle.scan.proofs.Placed.{placed-none, placed-past, placed-length, next-append, placed-next}

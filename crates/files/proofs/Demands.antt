@@ -1,6 +1,5 @@
 -- The promises of the reading of files and of what is printed for them, each proved.
-use native.Mathlib.Omega.{arith}
-use mathlib.Core.Path.{sym}
+use Rattle.scan.proofs.Basics.{arith, sym}
 use Rattle.sequential.proofs.Cut.{cut-reply-both}
 use Rattle.judge.specs.Answer.{countsOf}
 use Rattle.files.specs.Program.{filesAnswer, programAnswer}
@@ -39,7 +38,7 @@ pub prints-in-order : PrintsInOrder
 unfolding filesAnswer programAnswer refusedText textOf printed acceptedText countsOf
 prints-in-order net sheet = record {
   refused = λ r e. rw e;
-  accepted = λ c e. let q = read-passed (isRagged netRead net) (isRagged sheetRead sheet) (wordsOf netRead net) (wordsOf sheetRead sheet) c e in rw (e, ← q);
+  accepted = λ c e. let (a, q) = read-passed (isRagged netRead net) (isRagged sheetRead sheet) (wordsOf netRead net) (wordsOf sheetRead sheet) c e in rw (e, ← q);
 }
 
 pub text-fits : TextFits

@@ -1,5 +1,5 @@
 -- The tables of worked files and of all that is printed hold: one computation of the definitions for each.
-use mathlib.Core.Path.{_≡_, refl}
+use Rattle.scan.proofs.Basics.{_≡_, refl}
 use Rattle.scan.specs.Scan.{orElse, when, found, first, all, any, bit, count, passing, least, tabulate, greatest}
 use Rattle.table.specs.Table.{keyAt, valueAt, entryWith, entryOf}
 use Rattle.table.specs.Keys.{keyFails}

@@ -1,21 +1,15 @@
 -- No number that is printed has more than ten digits, so that the longest text has room.
-use Prim.Native.Nat.{ℕ, zero, suc, _+_, _*_, _-_, _^_, _≤_, _<_}
+use Rattle.scan.proofs.Basics.{ℕ, zero, suc, _+_, _-_, _≤_, _<_, arith, _≡_, refl, ⊎-elim, Bool, true, false, _&&_, ltb, List, [], _∷_, _++_, length, getD}
+use Prim.Native.Nat.{_^_}
 use native.Mathlib.Nat.{mul-le-mul}
-use native.Mathlib.Omega.{arith}
-use mathlib.Core.Path.{_≡_, refl, sym, subst}
-use mathlib.Core.Logic.{⊎-elim}
-use mathlib.Core.Bool.{Bool, true, false, _&&_}
-use mathlib.Core.List.{List, [], _∷_, _++_}
-use lib.ListN.{length, getD}
-use lib.Dec.{ltb}
-use borrow.Author.Tests.{ltb-true, ltb-false}
-use Rattle.scan.proofs.Tests.{byTest, and-left, and-right}
+use Rattle.scan.proofs.Tests.{ltb-true, ltb-false, byTest, and-left, and-right}
 use Rattle.text.proofs.Longest.{Short, AllShort}
 use Rattle.table.specs.Table.{keyAt, valueAt}
 use Rattle.refusal.specs.Refusal.{refusal, kindOf, indexOf}
-use Rattle.refusal.specs.Checks.{Clause, Check, once, each, Passes, Fails, FailAt, FirstFails}
+use Rattle.refusal.specs.Checks.{Clause, Check, once, each, Passes, FailAt, FirstFails}
 use Rattle.refusal.specs.declared.Position.{Position}
 use Rattle.refusal.specs.declared.Refusal.{Refusal}
+use Rattle.refusal.proofs.Checks.{_▸_}
 use Rattle.net.specs.Checks.{netChecks}
 use Rattle.sequential.specs.Petri.{PetriNet, petriNet}
 use Rattle.sequential.specs.Words.{nodeCount, entryCount, entryKey, entryValue, arcKeys, keyLimit}
@@ -52,85 +46,47 @@ use Rattle.files.specs.Words.{netRead, sheetRead, isRagged, wordsOf}
 use Rattle.files.specs.Program.{tailReply, readReply, readAnswer, filesAnswer, programAnswer}
 use Rattle.files.specs.Printed.{refusedText, textOf, printed, textMost}
 use Rattle.files.proofs.Decoding.{words-length, count-fits}
-use Rattle.files.proofs.Replies.{check-passed, check-failed, read-accepted}
+use Rattle.files.proofs.Replies.{check-failed, read-passed}
 
 -- ---- a refusal
 
 abbrev ShortRefusal : Refusal → Type 0
 ShortRefusal r = Short (r .number) × Short (indexOf (r .at))
 
-abbrev shortNumbers : List Clause → Bool
+abbrev shortClauses : List Clause → Bool
+shortClauses [] = true
+shortClauses (c ∷ cs) = ltb (c .number) (10 ^ 10) && shortClauses cs
+
+abbrev shortNumbers : List Check → Bool
 shortNumbers [] = true
-shortNumbers (c ∷ cs) = ltb (c .number) (10 ^ 10) && shortNumbers cs
+shortNumbers (once P number ∷ cs) = ltb number (10 ^ 10) && shortNumbers cs
+shortNumbers (each size at clauses ∷ cs) = shortClauses clauses && shortNumbers cs
 
--- a check that refuses so: by its number and size, where those before it pass
-abbrev ShortCheck : Check → Type 0
-ShortCheck (once P number) = Short number
-ShortCheck (each size at clauses) = Short size × ((i : ℕ) → indexOf (at i) ≡ i) × (shortNumbers clauses ≡ true)
+-- the indices are below a size that is limited where the checks before pass, and a position tells its index
+abbrev ShortIndices : Type 0 → List Check → Type 0
+ShortIndices H [] = Unit
+ShortIndices H (once P number ∷ cs) = ShortIndices (H × P) cs
+ShortIndices H (each size at clauses ∷ cs) = ((H → Short size) × ((i : ℕ) → indexOf (at i) ≡ i)) × ShortIndices (H × Passes (each size at clauses)) cs
 
-abbrev ShortChecks : List Check → Type 0
-ShortChecks [] = Unit
-ShortChecks (c ∷ cs) = ShortCheck c × (Passes c → ShortChecks cs)
-
-at-short : (at : ℕ → Position) (cs : List Clause) (i : ℕ) (r : Refusal) → Short i → indexOf (at i) ≡ i → shortNumbers cs ≡ true → FailAt at cs i r → ShortRefusal r
+at-short : (at : ℕ → Position) (cs : List Clause) (i : ℕ) (r : Refusal) → Short i → indexOf (at i) ≡ i → shortClauses cs ≡ true → FailAt at cs i r → ShortRefusal r
 at-short at [] i r l e s f = absurd f
 at-short at (c ∷ cs) i r l e s f =
     ⊎-elim (λ (m, q). rw (q, e) (ltb-true _ _ (and-left (ltb (c .number) (10 ^ 10)) _ s), l)) (λ (p, g). at-short at cs i r l e (and-right (ltb (c .number) (10 ^ 10)) _ s) g) f
 
-check-short : (c : Check) (r : Refusal) → ShortCheck c → Fails c r → ShortRefusal r
-check-short (once P number) r s (n, e) = rw e (s, omega arith)
-check-short (each size at clauses) r (l, e, s) f = at-short at clauses (f .index) r (omega (arith, f .within)) (e (f .index)) s (f .there)
+fails-short : (H : Type 0) (cs : List Check) (r : Refusal) → H → ShortIndices H cs → shortNumbers cs ≡ true → FirstFails cs r → ShortRefusal r
+fails-short H [] r h s n f = absurd f
+fails-short H (once P number ∷ cs) r h s n f =
+    ⊎-elim (λ (x, e). rw e (ltb-true _ _ (and-left (ltb number (10 ^ 10)) _ n), omega arith))
+    (λ (p, g). fails-short (H × P) cs r (h, p) s (and-right (ltb number (10 ^ 10)) _ n) g) f
+fails-short H (each size at clauses ∷ cs) r h ((l, e), s) n f =
+    ⊎-elim (λ k. at-short at clauses (k .index) r (omega (arith, k .within, l h)) (e _) (and-left (shortClauses clauses) _ n) (k .there))
+    (λ (p, g). fails-short _ cs r (h, p) s (and-right (shortClauses clauses) _ n) g) f
 
-fails-short : (cs : List Check) (r : Refusal) → ShortChecks cs → FirstFails cs r → ShortRefusal r
-fails-short [] r s f = absurd f
-fails-short (c ∷ cs) r (s, t) f = ⊎-elim (check-short c r s) (λ (p, g). fails-short cs r (t p) g) f
-
--- the sizes are limited where they are asked
-checks-short : (net sheet : List ℕ) → length net ≤ 10 ^ 9 → ShortChecks (netChecks net ++ sheetChecks (petriNet net) sheet)
-checks-short net sheet l = (
-  omega arith,
-  λ a. (
-    omega arith,
-    λ s. (
-      omega arith,
-      λ k. (
-        (omega arith, λ i. refl, refl),
-        λ e. (
-          (omega (arith, s .few-places), λ i. refl, refl),
-          λ o. (
-            omega arith,
-            λ h. (
-              omega arith,
-              λ b. (
-                omega arith,
-                λ v. (
-                  omega arith,
-                  λ m. (
-                    (omega arith, λ i. refl, refl),
-                    λ w. (
-                      (omega (arith, s .few-places), λ i. refl, refl),
-                      λ x. (
-                        (omega arith, λ i. refl, refl),
-                        λ y. (
-                          (omega arith, λ i. refl, refl),
-                          λ z. (
-                            (omega arith, λ i. refl, refl),
-                            λ q.
-                                ((omega arith, λ i. refl, refl), λ r. ((omega arith, λ i. refl, refl), λ t. tt)),
-                          ),
-                        ),
-                      ),
-                    ),
-                  ),
-                ),
-              ),
-            ),
-          ),
-        ),
-      ),
-    ),
-  ),
-)
+checks-short : (net sheet : List ℕ) → length net ≤ 10 ^ 9 → ShortIndices Unit (netChecks net ++ sheetChecks (petriNet net) sheet)
+checks-short net sheet l =
+    (λ h. omega arith, λ i. refl) ▸ (λ h. omega arith, λ i. refl) ▸ (λ h. omega arith, λ i. refl)
+    ▸ (λ h. omega arith, λ i. refl) ▸ (λ h. omega arith, λ i. refl) ▸ (λ h. omega arith, λ i. refl)
+    ▸ (λ h. omega arith, λ i. refl) ▸ (λ h. omega arith, λ i. refl) ▸ (λ h. omega arith, λ i. refl) ▸ tt
 
 -- ---- the words of a schedule that 6 to 9 do not refuse
 
@@ -138,25 +94,20 @@ words-short : (N : PetriNet) (sheet : List ℕ) → N .transitions ≤ 32 → N 
 unfolding entryKey entryValue keyLimit keyAt valueAt
 words-short N sheet t p w zero l = omega (arith, w .arcs .shape .few-nodes)
 words-short N sheet t p w (suc zero) l = omega (arith, w .arcs .shape .few-entries)
-words-short N sheet t p w (suc (suc i)) l = let e : suc (suc i) ≡ 2 + i = omega arith in subst (λ (j : ℕ). Short (getD sheet j 0)) (sym e) (behind (ltb i (getD sheet 1 0)) refl)
+words-short N sheet t p w (suc (suc i)) l =
+    let e : suc (suc i) ≡ 2 + i = omega arith in
+    let few : N .transitions + N .places ≤ 64 = omega arith in
+    rw e (byTest (ltb i (getD sheet 1 0)) (λ m. omega (arith, w .arcs .keys i (ltb-true _ _ m) .low, mul-le-mul (w .arcs .shape .few-nodes) few)) (λ m. behind (ltb-false _ _ m)))
   where
-    limit : getD sheet 0 0 * (N .transitions + N .places) ≤ 128 * 64
-    limit = let few : N .transitions + N .places ≤ 64 = omega arith in mul-le-mul (w .arcs .shape .few-nodes) few
-
-    key : (j : ℕ) → j < getD sheet 1 0 → Short (getD sheet (2 + j) 0)
-    key j m = omega (arith, w .arcs .keys j m .low, limit)
-
     value : (j : ℕ) → j < getD sheet 1 0 → Short (getD sheet (2 + getD sheet 1 0 + j) 0)
     value j m =
         byTest (ltb (getD sheet (2 + j) 0) (arcKeys N sheet)) (λ e. omega (arith, w .values j m .target (ltb-true _ _ e), w .arcs .shape .few-nodes))
         (λ e. omega (arith, w .values j m .most (ltb-false _ _ e)))
 
-    behind : (b : Bool) → ltb i (getD sheet 1 0) ≡ b → Short (getD sheet (2 + i) 0)
-    behind true e = key i (ltb-true _ _ e)
-    behind false e =
-        let m = ltb-false i (getD sheet 1 0) e in
+    behind : getD sheet 1 0 ≤ i → Short (getD sheet (2 + i) 0)
+    behind m =
         let q : 2 + i ≡ 2 + getD sheet 1 0 + (i - getD sheet 1 0) = omega arith in
-        subst (λ (j : ℕ). Short (getD sheet j 0)) (sym q) (value (i - getD sheet 1 0) (omega (arith, w .arcs .shape .whole)))
+        rw q (value (i - getD sheet 1 0) (omega (arith, w .arcs .shape .whole)))
 
 -- ---- all that is printed
 
@@ -174,7 +125,7 @@ refused-short a b net sheet r l e =
     (then-cases (tailReply a 1) _ r e)
   where
     fails : scheduleReply net sheet ≡ Refused r → ShortRefusal r
-    fails f = fails-short (netChecks net ++ sheetChecks (petriNet net) sheet) r (checks-short net sheet l) (schedule-judged net sheet .refuses r .0 f)
+    fails f = fails-short Unit (netChecks net ++ sheetChecks (petriNet net) sheet) r tt (checks-short net sheet l) refl (schedule-judged net sheet .refuses r .0 f)
 
 -- the numbers of an accepted schedule
 module _ (net sheet : List ℕ) (h : scheduleReply net sheet ≡ Accepted) where
@@ -212,9 +163,7 @@ unfolding readAnswer textOf refusedText
 text-fits (Failed r) a b net sheet l e =
     let (n, i) = refused-short a b net sheet r l (check-failed (readReply a b net sheet) (countsOf net sheet) r e) in
     omega (arith, answer-length (r .number) (kindOf (r .at)) (indexOf (r .at)) n i)
-text-fits (Passed c) a b net sheet l e =
-    let (v, q) = check-passed (readReply a b net sheet) (countsOf net sheet) c e in
-    rw (← q) (accepted-fits net sheet (read-accepted a b net sheet v))
+text-fits (Passed c) a b net sheet l e = let (h, q) = read-passed a b net sheet c e in rw (← q) (accepted-fits net sheet h)
 
 pub printed-fits : (net sheet : List ℕ) → length (printed net sheet) ≤ textMost
 unfolding filesAnswer programAnswer printed

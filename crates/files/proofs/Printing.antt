@@ -1,17 +1,12 @@
 -- What is printed by the answer to words, whether the minimal form has room or not; and that the program's buffers hold all of it.
-use Prim.Native.Nat.{ℕ, _≤_}
-use native.Mathlib.Omega.{arith}
-use mathlib.Core.Path.{_≡_, refl, sym, ap, _∙_}
-use mathlib.Core.List.{List, [], _∷_}
-use lib.ListN.{length, take}
-use lib.Seq.{length-take-le}
+use Rattle.scan.proofs.Basics.{ℕ, _≤_, arith, _≡_, refl, ap, _∙_, List, [], _∷_, length, take}
 use Rattle.text.specs.Buffer.{Put}
 use Rattle.text.specs.Lines.{acceptedLines}
 use Rattle.scan.specs.Scan.{tabulate}
 use Rattle.refusal.specs.declared.Refusal.{Refusal}
 use Rattle.refusal.specs.declared.Verdict.{Verdict}
 use Rattle.refusal.specs.declared.Verdict.the-variants as verdict
-use Rattle.call.specs.Call.{Core, roomFault, outputFault, wordsVerdict, writtenOver, writtenAt, WordsDone}
+use Rattle.call.specs.Call.{Core, roomFault, outputFault, wordsVerdict, answerOf, writtenOver, writtenAt, outsAfter, WordsDone}
 use Rattle.call.proofs.Done.{written-front, written-length}
 use Rattle.call.proofs.Lent.{room-holds}
 use Rattle.judge.specs.declared.Counts.{Counts}
@@ -19,8 +14,10 @@ use Rattle.judge.specs.declared.CheckAnswer.the-variants.{Passed}
 use Rattle.net.specs.Net.{placeCount}
 use Rattle.sequential.specs.Petri.{petriNet}
 use Rattle.sequential.specs.Bounds.{bounds}
+use Rattle.sequential.specs.Check.{scheduleReply}
 use Rattle.graph.specs.Readable.{Readable}
 use Rattle.graph.proofs.Readable.{known}
+use Rattle.judge.proofs.Judged.{accepted-readable}
 use Rattle.schedule.specs.Rows.{boundsRow}
 use Rattle.schedule.proofs.BoundRows.{bounds-right, bounds-row}
 use Rattle.minimal.specs.Minimal.{minimalForm}
@@ -44,40 +41,37 @@ pub record NotFormed (result form form′ : List ℕ) (r : Refusal) : Type 0 whe
   pub held : form′ ≡ form
 
 module _ {v : Verdict} {result form form′ : List ℕ} {a : FormAnswer} (h : v ≡ verdict.Accepted) (d : WordsDone (writing v result) (form ∷ []) a (form′ ∷ [])) where
-  -- where there is room, and where there is none
-  with-room : roomFault (length form) (length result) ≡ verdict.Accepted → (a ≡ Written (length result)) × (form′ ≡ writtenOver result form)
-  unfolding wordsVerdict outputFault tabulate writtenAt
-  with-room q = let e : form′ ∷ [] ≡ writtenOver result form ∷ [] = d .written ∙ rw (h, q) in (d .reply ∙ rw (h, q), cc)
-
-  without-room : (r : Refusal) → roomFault (length form) (length result) ≡ verdict.Refused r → (a ≡ Refused r) × (form′ ≡ form)
+  by-room : (w : Verdict) → roomFault (length form) (length result) ≡ w → (a ≡ answerOf (writing v result) w) × (form′ ∷ [] ≡ outsAfter w (result ∷ []) (form ∷ []))
   unfolding wordsVerdict outputFault
-  without-room r q = let e : form′ ∷ [] ≡ form ∷ [] = d .written ∙ rw (h, q) in (d .reply ∙ rw (h, q), cc)
+  by-room verdict.Accepted q = (d .reply ∙ rw (h, q), d .written ∙ rw (h, q))
+  by-room (verdict.Refused r) q = (d .reply ∙ rw (h, q), d .written ∙ rw (h, q))
 
   pub written-form : (k : ℕ) → a ≡ Written k → Formed result form form′ k
+  unfolding tabulate writtenAt
   written-form k e = go (roomFault (length form) (length result)) refl
     where
       go : (w : Verdict) → roomFault (length form) (length result) ≡ w → Formed result form form′ k
-      go verdict.Accepted q = let (x, y) = with-room q in record { room = q; count = cc; held = y }
-      go (verdict.Refused r) q = let (x, y) = without-room r q in let z : _≡_ {A = ℕ} 0 1 = cc in absurd (omega arith)
+      go verdict.Accepted q = let (x, y) = by-room _ q in record { room = q; count = cc; held = cc }
+      go (verdict.Refused r) q = let (x, y) = by-room _ q in let z : _≡_ {A = ℕ} 0 1 = cc in absurd (omega arith)
 
   pub refused-form : (r : Refusal) → a ≡ Refused r → NotFormed result form form′ r
   refused-form r e = go (roomFault (length form) (length result)) refl
     where
       go : (w : Verdict) → roomFault (length form) (length result) ≡ w → NotFormed result form form′ r
-      go verdict.Accepted q = let (x, y) = with-room q in let z : _≡_ {A = ℕ} 0 1 = cc in absurd (omega arith)
-      go (verdict.Refused s) q = let (x, y) = without-room s q in let same : s ≡ r = cc in record { room = rw (← same) q; held = y }
+      go verdict.Accepted q = let (x, y) = by-room _ q in let z : _≡_ {A = ℕ} 0 1 = cc in absurd (omega arith)
+      go (verdict.Refused s) q = let (x, y) = by-room _ q in let same : s ≡ r = cc in record { room = rw (← same) q; held = cc }
 
 module _ {result form form′ : List ℕ} {k : ℕ} (f : Formed result form form′ k) where
   pub form-fits : k ≤ length form′
   form-fits = let l = room-holds _ _ (f .room) in omega (arith, f .count, ap (length {A = ℕ}) (f .held) ∙ written-length result form l)
 
-  pub form-counts : k ≡ length (take k form′)
-  form-counts = sym (length-take-le k form′ form-fits)
-
   pub form-front : take k form′ ≡ result
   form-front = rw (f .count, f .held) (written-front result form)
 
 -- ---- what is printed for accepted words
+
+pub bounds-fit : (net sheet row : List ℕ) {places : ℕ} → scheduleReply net sheet ≡ verdict.Accepted → places ≡ placeCount net → length row ≡ 32 → places ≤ length row
+bounds-fit net sheet row h e l = let k = known net sheet (accepted-readable net sheet h) in omega arith
 
 module _ (counts : Counts) (net sheet form form′ out out′ : List ℕ) (r : ℕ) where
   pub too-long-printed : (x : Refusal) → NotFormed (minimalForm net sheet) form form′ x → Put out 0 (refusedText x) r out′ → WordsPrinted (Passed counts) net sheet form out r form′ out′

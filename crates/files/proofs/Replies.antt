@@ -1,10 +1,5 @@
 -- What is answered where a file had a tail, and where none had.
-use native.Mathlib.Omega.{arith}
-use mathlib.Core.Path.{_≡_, refl, sym, ap, _∙_}
-use Prim.Native.Nat.{ℕ, _≤_}
-use mathlib.Core.Bool.{Bool, true, false}
-use mathlib.Core.List.{List}
-use lib.ListN.{length, take}
+use Rattle.scan.proofs.Basics.{ℕ, arith, _≡_, refl, sym, ap, _∙_, Bool, true, false, List, length, take}
 use Rattle.refusal.specs.Refusal.{refusal}
 use Rattle.refusal.specs.Verdict.{verdictOf, andThen}
 use Rattle.refusal.proofs.Verdicts.{then-accepted}
@@ -25,7 +20,7 @@ use Rattle.files.specs.Program.{tailReply, readReply, readAnswer, filesA
 use Rattle.files.specs.Printed.{refusedText, textOf, WordsPrinted, FilesPrinted}
 use Rattle.files.specs.declared.Reading.{Reading}
 use Rattle.files.specs.declared.FilesAnswer.{FilesAnswer}
-use Rattle.files.proofs.Decoding.{words-fit, words-taken, words-are}
+use Rattle.files.proofs.Decoding.{words-are}
 
 then-twice : (v w : Verdict) → andThen v w ≡ andThen v (andThen v w)
 then-twice Accepted w = refl
@@ -88,23 +83,13 @@ read-accepted a b net sheet v =
     let q = then-accepted (netReply net) _ p .1 in
     then-accepted (tailReply b 6) (scheduleReply net sheet) q .1
 
-pub passed-accepted : (a b : Bool) (net sheet : List ℕ) (c : Counts) → readAnswer a b net sheet ≡ Passed c → scheduleReply net sheet ≡ Accepted
+pub read-passed : (a b : Bool) (net sheet : List ℕ) (c : Counts) → readAnswer a b net sheet ≡ Passed c → (scheduleReply net sheet ≡ Accepted) × (countsOf net sheet ≡ c)
 unfolding readAnswer
-passed-accepted a b net sheet c e = read-accepted a b net sheet (check-passed (readReply a b net sheet) (countsOf net sheet) c e .0)
-
-pub read-passed : (a b : Bool) (net sheet : List ℕ) (c : Counts) → readAnswer a b net sheet ≡ Passed c → countsOf net sheet ≡ c
-unfolding readAnswer
-read-passed a b net sheet c e = check-passed (readReply a b net sheet) (countsOf net sheet) c e .1
+read-passed a b net sheet c e = let (v, q) = check-passed (readReply a b net sheet) (countsOf net sheet) c e in (read-accepted a b net sheet v, q)
 
 -- ---- what the decoded words give
 
 module _ (netBytes sheetBytes net sheet net′ sheet′ : List ℕ) (x : FilesAnswer) (h : FilesRead netBytes sheetBytes net sheet x net′ sheet′) where
-  pub net-counted : (x .net ≤ length net′) × (x .net ≡ length (take (x .net) net′))
-  net-counted = (words-fit _ _ _ _ (h .net-words) (h .net-decoded), words-taken _ _ _ _ (h .net-words) (h .net-decoded))
-
-  pub sheet-counted : (x .sheet ≤ length sheet′) × (x .sheet ≡ length (take (x .sheet) sheet′))
-  sheet-counted = (words-fit _ _ _ _ (h .sheet-words) (h .sheet-decoded), words-taken _ _ _ _ (h .sheet-words) (h .sheet-decoded))
-
   net-is : take (x .net) net′ ≡ wordsOf (length net) netBytes
   net-is = words-are netBytes net (x .net) net′ (h .net-words) (h .net-decoded)
 
@@ -113,7 +98,7 @@ module _ (netBytes sheetBytes net sheet net′ sheet′ : List ℕ) (x : FilesAn
 
   pub files-accepted : (c : Counts) → x .answer ≡ Passed c → scheduleReply (take (x .net) net′) (take (x .sheet) sheet′) ≡ Accepted
   unfolding filesAnswer
-  files-accepted c e = rw (net-is, sheet-is) (passed-accepted _ _ _ _ c (sym (h .answer) ∙ e))
+  files-accepted c e = rw (net-is, sheet-is) (read-passed _ _ _ _ c (sym (h .answer) ∙ e) .0)
 
   -- ---- all that is printed for them
 

@@ -1,9 +1,5 @@
 -- The program's buffers hold all that is handed on and printed, so that what is printed for what was read is what is printed for the files.
-use Prim.Native.Nat.{ℕ, _*_, _≤_}
-use native.Mathlib.Omega.{arith}
-use mathlib.Core.Path.{_≡_, refl, sym, ap, _∙_}
-use mathlib.Core.List.{List}
-use lib.ListN.{length, take}
+use Rattle.scan.proofs.Basics.{ℕ, _*_, _≤_, arith, _≡_, refl, sym, ap, _∙_, List, length, take}
 use lib.Seq.{length-take-le}
 use Rattle.text.specs.Buffer.{Put}
 use Rattle.text.proofs.Put.{all-put, put-front, put-length}
@@ -20,7 +16,7 @@ use Rattle.files.specs.Program.{filesAnswer, programAnswer}
 use Rattle.files.specs.Printed.{printed, formMost, Buffers, Reads, roomAnswer, FilesPrinted}
 use Rattle.files.specs.Demands.{ReadPrints}
 use Rattle.files.proofs.Decoding.{read-as-cut}
-use Rattle.files.proofs.Replies.{passed-accepted}
+use Rattle.files.proofs.Replies.{read-passed}
 use Rattle.files.proofs.Longest.{printed-fits}
 
 -- a longer file is answered, and printed for, as its cut
@@ -55,7 +51,7 @@ module _ (netBytes sheetBytes netBuffer sheetBuffer net sheet form out net′ sh
   text-put : Put out 0 (printed netBytes sheetBytes) r out′
   unfolding filesAnswer programAnswer printed
   text-put =
-      let room = room-for-form (programAnswer netBytes sheetBytes) (wordsOf netRead netBytes) (wordsOf sheetRead sheetBytes) (passed-accepted _ _ _ _) in
+      let room = room-for-form (programAnswer netBytes sheetBytes) (wordsOf netRead netBytes) (wordsOf sheetRead sheetBytes) (λ c e. read-passed _ _ _ _ c e .0) in
       rw (b .net-words, b .sheet-words, b .form-words, room) at (h .words .text)
 
   pub prints-whole : take r out′ ≡ printed netBytes sheetBytes

@@ -1,10 +1,6 @@
 -- The entries that the code takes for arcs are the arcs: the keys rise, and those of arcs come first.
-use Prim.Native.Nat.{ℕ, _≤_, _<_}
-use native.Mathlib.Omega.{arith}
-use mathlib.Core.Path.{_≡_, sym, ap}
-use mathlib.Core.List.{List}
-use mathlib.Core.Bool.{true, false}
-use borrow.Author.Tests.{lt-ltb, le-ltb}
+use Rattle.scan.proofs.Basics.{ℕ, _≤_, _<_, arith, _≡_, sym, ap, true, false, List}
+use Rattle.scan.proofs.Tests.{lt-ltb, le-ltb}
 use Rattle.scan.proofs.Count.{count-prefix}
 use Rattle.table.specs.Bisection.{lowerBound}
 use Rattle.table.proofs.Bisection.{LowerBound, lower-bound}

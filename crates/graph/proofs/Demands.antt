@@ -1,7 +1,5 @@
 -- The rows of a node and the look-up of an arc are what they are promised to be.
-use Prim.Native.Nat.{ℕ}
-use mathlib.Core.Path.{refl}
-use mathlib.Core.List.{List}
+use Rattle.scan.proofs.Basics.{ℕ, refl, List}
 use Rattle.net.specs.Checks.{IsNet}
 use Rattle.net.proofs.Checks.{net-judged}
 use Rattle.sequential.specs.Checks.{WordsPass}

@@ -1,17 +1,11 @@
 -- When there are rows of a node, on any words: the sizes are in range and it is a node. On readable words there are.
-use Prim.Native.Nat.{ℕ, _≤_, _<_}
-use mathlib.Core.Path.{_≡_, ap, _∙_}
-use mathlib.Core.List.{List}
-use mathlib.Core.Bool.{true, false, not}
-use lib.Dec.{ltb, leb}
-use borrow.Author.Tests.{lt-ltb, ltb-true, leb-true, le-leb, lt-leb, not-true}
+use Rattle.scan.proofs.Basics.{ℕ, _≤_, _<_, _≡_, sym, ap, _∙_, Bool, true, not, ltb, leb, List}
+use Rattle.scan.proofs.Tests.{ltb-true, lt-ltb, leb-true, le-leb, not-true, and-left, and-right}
 use Rattle.scan.specs.Scan.{found}
 use Rattle.scan.proofs.First.{found-none}
-use Rattle.scan.proofs.Tests.{and-left, and-right}
 use Rattle.refusal.specs.Verdict.{verdictOf}
-use Rattle.refusal.specs.declared.Refusal.{Refusal}
-use Rattle.refusal.specs.declared.Verdict.the-variants.{Accepted, Refused}
-use Rattle.refusal.proofs.Verdicts.{answer-none, answer-some}
+use Rattle.refusal.specs.declared.Verdict.the-variants.{Accepted}
+use Rattle.refusal.proofs.Verdicts.{answer-none}
 use Rattle.net.specs.Net.{placeCount, transitionCount}
 use Rattle.sequential.specs.Words.{nodeCount}
 use Rattle.sequential.specs.Check.{shapeFault}
@@ -37,19 +31,9 @@ module _ (net sheet : List ℕ) (n : ℕ) where
         node = ltb-true _ _ (and-right (not (found (shapeFault sheet))) _ h2);
       }
 
-  -- ---- the tests, one after the other
-
-  pub no-row-places : 32 < placeCount net → hasRow net sheet n ≡ false
-  unfolding hasRow
-  no-row-places h = rw (lt-leb (placeCount net) 32 h)
-
-  pub no-row-transitions : placeCount net ≤ 32 → 32 < transitionCount net → hasRow net sheet n ≡ false
-  unfolding hasRow
-  no-row-transitions a h = rw (le-leb (placeCount net) 32 a, lt-leb (transitionCount net) 32 h)
-
-  pub no-row-shape : (r : Refusal) → placeCount net ≤ 32 → transitionCount net ≤ 32 → verdictOf (shapeFault sheet) ≡ Refused r → hasRow net sheet n ≡ false
-  unfolding hasRow found
-  no-row-shape r a b h = rw (le-leb (placeCount net) 32 a, le-leb (transitionCount net) 32 b, answer-some (shapeFault sheet) r h)
+  -- the code's test says so
+  pub row-known : {b : Bool} → b ≡ hasRow net sheet n → b ≡ true → HasRow net sheet n
+  row-known e h = has-row-out (sym e ∙ h)
 
   pub row-by-node : placeCount net ≤ 32 → transitionCount net ≤ 32 → verdictOf (shapeFault sheet) ≡ Accepted → hasRow net sheet n ≡ ltb n (nodeCount sheet)
   unfolding hasRow found

@@ -1,18 +1,11 @@
 -- The entry that the look-up of an arc answers is the arc's on readable words; and where the words have an entry's value.
-use Prim.Native.Nat.{ℕ, _+_, _≤_, _<_}
-use native.Mathlib.Omega.{arith}
+use Rattle.scan.proofs.Basics.{ℕ, _+_, _≤_, _<_, arith, _≡_, refl, sym, _∙_, false, ltb, Option, none, some, List, length, getD}
 use native.Mathlib.Decide.{decLt}
-use mathlib.Core.Path.{_≡_, refl, sym, _∙_}
-use mathlib.Core.List.{List}
-use mathlib.Core.Bool.{true, false}
-use mathlib.Core.Option.{Option, none, some}
-use lib.ListN.{length, getD, List·getD-eq-default}
-use lib.Dec.{ltb}
-use borrow.Author.Tests.{lt-ltb, le-ltb}
-use Rattle.scan.proofs.Tests.{byTest, not-true→false}
+use lib.ListN.{List·getD-eq-default}
+use Rattle.scan.proofs.Tests.{lt-ltb, le-ltb, byTest, not-true→false}
 use Rattle.row_starts.specs.RowStarts.{page}
 use Rattle.table.specs.Table.{valueAt}
-use Rattle.table.specs.Bisection.{lookUp, foundOf}
+use Rattle.table.specs.Bisection.{foundOf}
 use Rattle.table.specs.declared.Found.the-variants.{At, Nothing}
 use Rattle.table.proofs.Bisection.{look-up}
 use Rattle.net.specs.Net.{transitionCount}
@@ -20,27 +13,16 @@ use Rattle.sequential.specs.Petri.{petriNet}
 use Rattle.sequential.specs.Words.{nodeCount, entryCount, entryValue, entryWithKey, arcEntry}
 use Rattle.sequential.proofs.Words.{words-rise, words-fit}
 use Rattle.graph.specs.Readable.{ArcsReadable}
-use Rattle.graph.specs.Rows.{arcsStart, hasRow}
+use Rattle.graph.specs.Rows.{hasRow}
 use Rattle.graph.specs.LookUp.{arcLookUp}
 use Rattle.graph.proofs.Starts.{arcs-start-is}
 use Rattle.graph.proofs.HasRow.{has-row, has-row-out}
 
--- ---- the look-up on any words, as the code goes
-
-module _ (starts net sheet : List ℕ) (n t : ℕ) where
-  pub look-up-past : transitionCount net ≤ t → Nothing ≡ arcLookUp starts net sheet n t
-  unfolding arcLookUp
-  look-up-past l = rw (le-ltb t (transitionCount net) l)
-
-  pub look-up-row : t < transitionCount net → hasRow net sheet n ≡ true → lookUp sheet 2 (getD sheet 1 0) (arcsStart starts net n + t) ≡ arcLookUp starts net sheet n t
-  unfolding arcLookUp
-  look-up-row l h = rw (lt-ltb t (transitionCount net) l, h)
-
-  pub look-up-no-row : t < transitionCount net → hasRow net sheet n ≡ false → Nothing ≡ arcLookUp starts net sheet n t
-  unfolding arcLookUp
-  look-up-no-row l h = rw (lt-ltb t (transitionCount net) l, h)
-
--- ---- on readable words
+found-same : (o u : Option ℕ) → foundOf o ≡ foundOf u → o ≡ u
+found-same none none e = refl
+found-same none (some i) e = cc
+found-same (some i) none e = cc
+found-same (some i) (some j) e = cc
 
 module _ {starts : List ℕ} (q : starts ≡ page) (net sheet : List ℕ) (r : ArcsReadable net sheet) (n t : ℕ) where
   -- at a node, below T, the look-up among rising keys is the entry with the key; elsewhere there is neither
@@ -65,25 +47,12 @@ module _ {starts : List ℕ} (q : starts ≡ page) (net sheet : List ℕ) (r : A
 
   -- so what is found is the arc's entry, and where nothing is found it has none
   pub arc-found : (i : ℕ) → arcLookUp starts net sheet n t ≡ At i → arcEntry (petriNet net) sheet n t ≡ some i
-  arc-found i h = go _ (sym look-up-right ∙ h)
-    where
-      go : (o : Option ℕ) → foundOf o ≡ At i → o ≡ some i
-      go none e = cc
-      go (some j) e = cc
+  arc-found i h = found-same _ (some i) (sym look-up-right ∙ h)
 
   pub arc-missing : arcLookUp starts net sheet n t ≡ Nothing → arcEntry (petriNet net) sheet n t ≡ none
-  arc-missing h = go _ (sym look-up-right ∙ h)
-    where
-      go : (o : Option ℕ) → foundOf o ≡ Nothing → o ≡ none
-      go none e = refl
-      go (some j) e = cc
+  arc-missing h = found-same _ none (sym look-up-right ∙ h)
 
--- ---- the value of an entry, 0 past the words
-
+-- past the words an entry's value is 0
 pub value-past : (sheet : List ℕ) (i : ℕ) → length sheet ≤ 2 + getD sheet 1 0 + i → 0 ≡ entryValue sheet i
 unfolding entryValue valueAt
 value-past sheet i l = sym (List·getD-eq-default sheet 0 l)
-
-pub value-within : (sheet : List ℕ) (i : ℕ) → getD sheet (2 + getD sheet 1 0 + i) 0 ≡ entryValue sheet i
-unfolding entryValue valueAt
-value-within sheet i = refl

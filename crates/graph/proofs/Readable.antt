@@ -1,10 +1,6 @@
 -- What is known of words that are readable, or whose arcs are.
-use Prim.Native.Nat.{ℕ, _+_, _≤_}
-use native.Mathlib.Omega.{arith}
+use Rattle.scan.proofs.Basics.{ℕ, _+_, _≤_, arith, _≡_, refl, ap, _∙_, Bool, true, false, List}
 use native.Mathlib.Nat.{mul-le-mul}
-use mathlib.Core.Path.{_≡_, refl, ap, _∙_}
-use mathlib.Core.List.{List}
-use mathlib.Core.Bool.{Bool, true, false}
 use Rattle.scan.specs.Scan.{orElse, first}
 use Rattle.refusal.specs.Verdict.{verdictOf, andThen}
 use Rattle.refusal.specs.declared.Verdict.the-variants.{Accepted}

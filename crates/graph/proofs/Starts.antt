@@ -1,13 +1,7 @@
 -- The first keys of a node's rows: small numbers on any words, and where the sizes are in range those of §3.5 and §3.6.
-use Prim.Native.Nat.{ℕ, _+_, _*_, _≤_, _<_}
-use native.Mathlib.Omega.{arith}
+use Rattle.scan.proofs.Basics.{ℕ, _+_, _*_, _≤_, _<_, arith, _≡_, refl, _&&_, leb, List}
 use native.Mathlib.Nat.{mul-le-mul}
-use mathlib.Core.Path.{_≡_, refl}
-use mathlib.Core.List.{List}
-use mathlib.Core.Bool.{_&&_}
-use lib.Dec.{leb}
-use borrow.Author.Tests.{leb-true, le-leb, lt-leb}
-use Rattle.scan.proofs.Tests.{byTest, and-left, and-right}
+use Rattle.scan.proofs.Tests.{leb-true, le-leb, byTest, and-left, and-right}
 use Rattle.row_starts.specs.RowStarts.{page}
 use Rattle.row_starts.proofs.Page.{start-is}
 use Rattle.net.specs.Net.{placeCount, transitionCount}
@@ -17,14 +11,6 @@ module _ (net : List ℕ) (n : ℕ) where
   pub arcs-end : n ≤ 128 → transitionCount net ≤ 32 → n * transitionCount net ≡ arcsEnd net n
   unfolding arcsEnd
   arcs-end h k = rw (le-leb n 128 h, le-leb (transitionCount net) 32 k) refl
-
-  pub arcs-end-nodes : 128 < n → 0 ≡ arcsEnd net n
-  unfolding arcsEnd
-  arcs-end-nodes h = rw (lt-leb n 128 h) refl
-
-  pub arcs-end-transitions : n ≤ 128 → 32 < transitionCount net → 0 ≡ arcsEnd net n
-  unfolding arcsEnd
-  arcs-end-transitions h k = rw (le-leb n 128 h, lt-leb (transitionCount net) 32 k) refl
 
   pub arcs-end-low : arcsEnd net n ≤ 4096
   unfolding arcsEnd
@@ -36,14 +22,6 @@ module _ (net : List ℕ) (nodes n : ℕ) where
   pub counts-start : n ≤ 128 → placeCount net ≤ 32 → arcsEnd net nodes + n * placeCount net ≡ countsStart net nodes n
   unfolding countsStart
   counts-start h k = rw (le-leb n 128 h, le-leb (placeCount net) 32 k) refl
-
-  pub counts-start-nodes : 128 < n → 0 ≡ countsStart net nodes n
-  unfolding countsStart
-  counts-start-nodes h = rw (lt-leb n 128 h) refl
-
-  pub counts-start-places : n ≤ 128 → 32 < placeCount net → 0 ≡ countsStart net nodes n
-  unfolding countsStart
-  counts-start-places h k = rw (le-leb n 128 h, lt-leb (placeCount net) 32 k) refl
 
   pub counts-start-low : countsStart net nodes n ≤ 8192
   unfolding countsStart

@@ -1,6 +1,6 @@
 -- The rows of a node that the code answers on any words: what one walk along its keys finds; 0 where 6 or 7 refuses the schedule, the net's sizes
 -- are out of range, or there is no such node. On readable words these are the node's marking and the entries of its arcs and counts (Demands, `RowsRight`).
-use Prim.Native.Nat.{ℕ, zero, suc, _+_, _*_, _≤_, _<_}
+use Prim.Native.Nat.{ℕ, _+_, _*_, _≤_, _<_}
 use mathlib.Core.Path.{_≡_}
 use mathlib.Core.List.{List}
 use mathlib.Core.Bool.{Bool, cond, not, _&&_}
@@ -14,7 +14,7 @@ use Rattle.table.specs.Row.{entryCode, entryRow, valueRow}
 use Rattle.refusal.specs.Limits.{mostPlaces, mostTransitions, mostNodes, mostEntries}
 use Rattle.net.specs.Net.{placeCount, transitionCount}
 use Rattle.sequential.specs.Petri.{PetriNet}
-use Rattle.sequential.specs.Words.{nodeCount, entryCount, entryValue, entryWithKey, arcKeys, arcEntry}
+use Rattle.sequential.specs.Words.{nodeCount, entryCount, entryWithKey, arcKeys, arcEntry}
 use Rattle.sequential.specs.Check.{shapeFault}
 
 -- ---- entries as numbers, 1 plus the index, and 0 where there is none
@@ -29,11 +29,6 @@ module _ (N : PetriNet) (sheet : List ℕ) (n : ℕ) where
 
   unfoldable pub countEntryCode : ℕ → ℕ
   countEntryCode p = entryCode (countEntry p)
-
--- the value of an entry that is told so
-unfoldable pub valueTold : List ℕ → ℕ → ℕ
-valueTold sheet zero = 0
-valueTold sheet (suc i) = entryValue sheet i
 
 -- ---- rows
 

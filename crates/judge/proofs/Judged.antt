@@ -1,12 +1,6 @@
 -- An accepted schedule is readable; 1 to 17, with 26 and 27, one after the other, and the await nodes of what is accepted.
-use Prim.Native.Nat.{ℕ}
-use native.Mathlib.Omega.{arith}
-use mathlib.Core.Path.{_≡_, refl, sym, ap, _∙_}
-use mathlib.Core.List.{List}
-use mathlib.Core.Bool.{Bool, true, false}
-use mathlib.Core.Option.{Option, none, some}
-use lib.Dec.{ltb}
-use Rattle.scan.specs.Scan.{orElse, first, bit, count}
+use Rattle.scan.proofs.Basics.{ℕ, arith, _≡_, refl, sym, ap, _∙_, ltb, Option, none, some, List}
+use Rattle.scan.specs.Scan.{orElse, first, count}
 use Rattle.scan.proofs.Count.{count-ext}
 use Rattle.scan.proofs.First.{orElse-left, orElse-right, orElse-assoc}
 use Rattle.row_starts.specs.RowStarts.{page}
@@ -28,6 +22,7 @@ use Rattle.choice.specs.Nodes.{nodesReply}
 use Rattle.choice.specs.declared.NodesAnswer.{NodesAnswer}
 use Rattle.choice.proofs.Right.{verdict-right, awaits-right}
 use Rattle.reach.specs.Reach.{isMarked, AwaitMarks, pathsReply}
+use Rattle.reach.proofs.Meaning.{bit-mark}
 use Rattle.reach.proofs.Demands.{paths-right}
 use Rattle.judge.specs.Answer.{Judged}
 
@@ -57,10 +52,6 @@ words-accepted net sheet h =
 
 -- ---- 10 to 17, with 27, one after the other
 
--- what comes after checks that refuse nothing
-pub answer-next : (a b : Option Refusal) {v w : Verdict} → v ≡ verdictOf a → v ≡ Accepted → w ≡ verdictOf b → w ≡ verdictOf (orElse a b)
-answer-next a b e h f = f ∙ sym (verdict-next a b (sym e ∙ h))
-
 module _ (N : PetriNet) (sheet : List ℕ) where
   -- 11 to 13 as one
   pub graph-chain : graphFault N sheet
@@ -72,11 +63,6 @@ module _ (N : PetriNet) (sheet : List ℕ) where
   chain-nodes h = orElse-left _ _ (orElse-right _ _ (sym graph-chain ∙ h))
 
 -- ---- the await nodes
-
-bit-mark : (b : Bool) → ltb 0 (bit b) ≡ b
-unfolding bit
-bit-mark true = refl
-bit-mark false = refl
 
 -- what is found at the nodes, and the marks that come where nothing is
 module _ {starts net sheet : List ℕ} (p : starts ≡ page) (r : Readable net sheet) {nodes : NodesAnswer} (told : nodes ≡ nodesReply starts net sheet) where

@@ -1,9 +1,12 @@
+-- an arc and a capacity, as the code reads them
+pub mod Reading
+-- a row that a loop stores
+pub mod Storing
 -- the nodes in the order in which they are found
 pub mod Searches
 pub mod ArcRows
 pub mod SearchTables
 -- a place's counts along it
-pub mod Reading
 pub mod Filling
 -- a node's row again, and what is written
 pub mod Climbing

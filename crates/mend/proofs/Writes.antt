@@ -1,17 +1,10 @@
 -- What is written: words that are copied, and the rows of a part, which are those of the counts that the arcs force and of what changes.
-use Prim.Native.Nat.{ℕ, zero, suc, _+_, _*_, _-_, _≤_, _<_}
-use native.Mathlib.Omega.{arith}
+use Rattle.scan.proofs.Basics.{ℕ, zero, suc, _+_, _-_, _*_, _≤_, _<_, arith, _≡_, refl, sym, ap, _∙_, not, ltb, eqb, Option, List, [], _∷_, _++_, length, getD, length-append}
 use native.Mathlib.Numerals.{add-one}
-use mathlib.Core.Path.{_≡_, refl, sym, ap, _∙_}
-use mathlib.Core.Bool.{not, and-false}
-use mathlib.Core.List.{List, [], _∷_, _++_}
-use mathlib.Core.Option.{Option}
-use lib.ListN.{length, getD, length-append}
-use lib.Dec.{ltb, eqb}
-use borrow.Author.Tests.{lt-ltb, le-ltb}
+use mathlib.Core.Bool.{and-false}
+use Rattle.scan.proofs.Tests.{lt-ltb, le-ltb, byTest}
 use Rattle.scan.specs.Scan.{when, count, tabulate}
 use Rattle.scan.specs.Placed.{placed}
-use Rattle.scan.proofs.Tests.{byTest}
 use Rattle.scan.proofs.Count.{count-le}
 use Rattle.scan.proofs.Tabulate.{tabulate-at}
 use Rattle.automaton.specs.Automaton.{Automaton}
@@ -67,13 +60,21 @@ module _ (net sheet : List ℕ) (part : Part) (section : Section) where
     row-count = rw e (filled-count section _ _ 32)
 
     -- how many entries one more row has
-    pub part-count : {entries k : ℕ} → entries ≡ length (partTo net sheet part section n) → k ≡ count (filledAt (row .cells)) 32
-        → (entries + k ≡ length (partTo net sheet part section (n + 1))) × (k ≤ 32)
+    pub part-count : {entries k : ℕ} → entries ≡ length (partTo net sheet part section n) → k ≡ count (filledAt (row .cells)) 32 → entries + k ≡ length (partTo net sheet part section (n + 1))
     unfolding partTo
-    part-count a q = (
-      rw (add-one n) (omega (arith, a, q, length-append (partTo net sheet part section n) (rowWords (partRow net sheet part n) section), row-count)),
-      omega (arith, count-le (filledAt (row .cells)) 32),
-    )
+    part-count a q = rw (add-one n) (omega (arith, a, q, length-append (partTo net sheet part section n) (rowWords (partRow net sheet part n) section), row-count))
+
+  -- a node has 32 entries at most
+  pub part-few : (n : ℕ) {entries : ℕ} → entries ≡ length (partTo net sheet part section n) → entries ≤ 32 * n
+  unfolding partTo
+  part-few zero e = omega arith
+  part-few (suc n) e = omega (
+    arith,
+    part-few n refl,
+    length-append (partTo net sheet part section n) (rowWords (partRow net sheet part n) section),
+    row-count n refl,
+    count-le (filledAt (partRow net sheet part n .cells)) 32,
+  )
 
 -- ---- one number: changed or not, and what is told of it
 
@@ -161,17 +162,22 @@ module _ (net sheet : List ℕ) (r : ArcsReadable net sheet) where
 
   pub change-keys : partOf net sheet Changes section.CountKeys ≡ changedKeys N sheet
   unfolding changedKeys changedKey changed
-  change-keys =
-      part-is Changes section.CountKeys (changedKey N sheet) (λ n l. changes-words n l section.CountKeys (changedKey N sheet n) (λ p. told-key (newCount N A n p) (countAt N sheet n p) _))
-      (nodeCount sheet) (omega arith)
+  change-keys = part-is Changes section.CountKeys (changedKey N sheet)
+      (λ n l. changes-words n l section.CountKeys (changedKey N sheet n) (λ p. told-key (newCount N A n p) (countAt N sheet n p) _)) _ (omega arith)
 
   pub change-counts : partOf net sheet Changes section.Numbers ≡ changedCounts N sheet
   unfolding changedCounts changedCount changed
-  change-counts =
-      part-is Changes section.Numbers (changedCount N sheet) (λ n l. changes-words n l section.Numbers (changedCount N sheet n) (λ p. told-number (newCount N A n p) (countAt N sheet n p)))
-      (nodeCount sheet) (omega arith)
+  change-counts = part-is Changes section.Numbers (changedCount N sheet)
+      (λ n l. changes-words n l section.Numbers (changedCount N sheet n) (λ p. told-number (newCount N A n p) (countAt N sheet n p))) _ (omega arith)
 
   -- ---- the whole
+
+  pub part-most : (part : Part) (section : Section) → length (partOf net sheet part section) ≤ 4096
+  part-most part section = omega (arith, part-few net sheet part section (nodeCount sheet) refl, r .sizes .few-nodes)
+
+  pub entries-most : entriesOf net sheet ≤ 8192
+  unfolding entriesOf
+  entries-most = omega (arith, whole.arcs-within N sheet (r .sizes .some-transition) (r .holds), r .sizes .few-entries, part-most Counts section.CountKeys)
 
   pub sheet-words : ((((nodeCount sheet ∷ []) ++ (entriesOf net sheet ∷ [])) ++ halfOf net sheet 2 section.CountKeys) ++ halfOf net sheet (2 + entryCount sheet) section.Counts)
       ≡ mendedWords net sheet

@@ -12,11 +12,10 @@ use Rattle.refusal.specs.declared.Verdict.the-variants.{Accepted}
 use Rattle.sequential.specs.Petri.{petriNet}
 use Rattle.sequential.specs.Words.{nodeCount}
 use Rattle.sequential.specs.Check.{nodeFault, rootFault, reachFault, returnFault}
-use Rattle.graph.specs.Readable.{arcsReply, ArcsReadable}
+use Rattle.graph.specs.Readable.{arcsReply}
 use Rattle.encoding.specs.declared.Section.the-variants.{CountKeys}
 use Rattle.mended.specs.Mend.{mendVerdict}
-use Rattle.mend.specs.Search.{Tree}
-use Rattle.mend.specs.Places.{AllFit}
+use Rattle.mend.specs.Rows.{Mendable}
 use Rattle.mend.specs.Writing.{partOf, entriesOf}
 use Rattle.mend.specs.declared.writer.Part.the-variants.{Changes}
 
@@ -29,13 +28,10 @@ arcsVerdict net sheet =
 
 -- where nothing is refused
 pub record Ready (net sheet finder : List ℕ) (entries changes : ℕ) : Type 0 where
-  pub readable : ArcsReadable net sheet
-  pub tree : Tree (petriNet net) sheet finder
-  pub fit : AllFit (petriNet net) sheet
+  pub mendable : Mendable net sheet finder
   pub entries-are : entries ≡ entriesOf net sheet
   pub few-entries : entries ≤ mostEntries
   pub changes-are : changes ≡ length (partOf net sheet Changes CountKeys)
-  pub few-changes : changes ≤ mostEntries
 
 pub record Measured (net sheet : List ℕ) (verdict : Verdict) (finder : List ℕ) (entries changes : ℕ) : Type 0 where
   pub reply : verdict ≡ mendVerdict net sheet

@@ -1,10 +1,7 @@
 // The arc that an entry says.
-ghost use mathlib.Core.Path.{_≡_};
-ghost use mathlib.Core.Bool.{true};
-ghost use Prim.Native.Nat.{_<_};
 ghost use Rattle.sequential.specs.Petri.{petriNet};
-ghost use Rattle.sequential.specs.Words.{entryCount, isArc};
 ghost use Rattle.graph.specs.Readable.{ArcsReadable};
+ghost use Rattle.mend.specs.Search.{IsArc};
 ghost use Rattle.mend.specs.Places.{ArcRead};
 
 pub(crate) struct Arc {
@@ -15,8 +12,7 @@ pub(crate) struct Arc {
 
 pub(crate) fn arc_at(net: &[u32], sheet: &[u32], e: usize) -> Arc
     requires { ⌜ ArcsReadable (now net) (now sheet) ⌝ }
-    requires { ⌜ e < entryCount (now sheet) ⌝ }
-    requires { ⌜ isArc (petriNet (now net)) (now sheet) e ≡ true ⌝ }
+    requires { ⌜ IsArc (petriNet (now net)) (now sheet) e ⌝ }
     ensures { λ r. ⌜ ArcRead (petriNet (now (net .entry))) (now (sheet .entry)) e (r .node) (r .transition) (r .target) ⌝ }
 {
     let transitions = net::transitions(net);

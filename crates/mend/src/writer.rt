@@ -5,15 +5,12 @@ ghost use lib.ListN.{length, getD};
 ghost use Rattle.scan.specs.Scan.{tabulate};
 ghost use Rattle.scan.specs.Placed.{placed};
 ghost use Rattle.refusal.specs.Limits.{mostPlaces, mostCount};
-ghost use Rattle.sequential.specs.Petri.{petriNet};
-ghost use Rattle.sequential.specs.Words.{nodeCount, entryCount};
-ghost use Rattle.graph.specs.Readable.{ArcsReadable};
+ghost use Rattle.sequential.specs.Words.{entryCount};
 ghost use Rattle.encoding.specs.Rows.{Appended};
 ghost use Rattle.mended.specs.Mend.{mendedWords};
 ghost use Rattle.mended.specs.Changes.{changes as changeWords};
-ghost use Rattle.mend.specs.Search.{Tree};
-ghost use Rattle.mend.specs.Places.{AllFit};
-ghost use Rattle.mend.specs.Rows.{rowOf};
+ghost use Rattle.mend.specs.Places.{Fitting};
+ghost use Rattle.mend.specs.Rows.{Mendable, KnownRow};
 ghost use Rattle.mend.specs.Writing.{copied, partRow, partOf, halfOf, entriesOf, changedNumber, changedCell};
 use super::rows;
 use encoding::Row;
@@ -64,10 +61,8 @@ fn changed_cells(row: [u32; 32], given: [u32; 32]) -> [u32; 32]
 
 // Node n's row in a part, by its counts. The keys of counts come behind those of all arcs, the keys of changes from 0 on.
 fn part_row(net: &[u32], sheet: &[u32], part: Part, n: u32, counts: [u32; 32]) -> Row
-    requires { ⌜ ArcsReadable (now net) (now sheet) ⌝ }
-    requires { ⌜ AllFit (petriNet (now net)) (now sheet) ⌝ }
-    requires { ⌜ n < nodeCount (now sheet) ⌝ }
-    requires { ⌜ counts ≡ rowOf (petriNet (now net)) (now sheet) n ⌝ }
+    requires { ⌜ Fitting (now net) (now sheet) ⌝ }
+    requires { ⌜ KnownRow (now net) (now sheet) n n counts ⌝ }
     ensures { λ r. ⌜ r ≡ partRow (now (net .entry)) (now (sheet .entry)) part n ⌝ }
 {
     match part {
@@ -92,10 +87,8 @@ fn part_row(net: &[u32], sheet: &[u32], part: Part, n: u32, counts: [u32; 32]) -
 
 // How many entries a part has.
 pub(crate) fn counted(net: &[u32], sheet: &[u32], finder: [u16; 128], part: Part) -> usize
-    requires { ⌜ ArcsReadable (now net) (now sheet) ⌝ }
-    requires { ⌜ Tree (petriNet (now net)) (now sheet) finder ⌝ }
-    requires { ⌜ AllFit (petriNet (now net)) (now sheet) ⌝ }
-    ensures { λ r. ⌜ (r ≡ length (partOf (now (net .entry)) (now (sheet .entry)) part Section.CountKeys)) × (r ≤ 4096) ⌝ }
+    requires { ⌜ Mendable (now net) (now sheet) finder ⌝ }
+    ensures { λ r. ⌜ r ≡ length (partOf (now (net .entry)) (now (sheet .entry)) part Section.CountKeys) ⌝ }
 {
     let nodes = sheet[0] as usize;
     let mut counts = net::start_row(net);
@@ -124,9 +117,7 @@ fn write_part(
     out: &mut [u32],
     at: usize,
 ) -> usize
-    requires { ⌜ ArcsReadable (now net) (now sheet) ⌝ }
-    requires { ⌜ Tree (petriNet (now net)) (now sheet) finder ⌝ }
-    requires { ⌜ AllFit (petriNet (now net)) (now sheet) ⌝ }
+    requires { ⌜ Mendable (now net) (now sheet) finder ⌝ }
     ensures { λ r. ⌜ Appended (now (out .entry)) at (partOf (now (net .entry)) (now (sheet .entry)) part section) r (now (out .exit)) ⌝ }
 {
     let nodes = sheet[0] as usize;
@@ -155,9 +146,7 @@ fn write_half(
     out: &mut [u32],
     at: usize,
 ) -> usize
-    requires { ⌜ ArcsReadable (now net) (now sheet) ⌝ }
-    requires { ⌜ Tree (petriNet (now net)) (now sheet) finder ⌝ }
-    requires { ⌜ AllFit (petriNet (now net)) (now sheet) ⌝ }
+    requires { ⌜ Mendable (now net) (now sheet) finder ⌝ }
     requires { ⌜ from + entryCount (now sheet) ≤ length (now sheet) ⌝ }
     ensures { λ r. ⌜ Appended (now (out .entry)) at (halfOf (now (net .entry)) (now (sheet .entry)) from section) r (now (out .exit)) ⌝ }
 {
@@ -174,11 +163,8 @@ pub(crate) fn write_sheet(
     entries: usize,
     out: &mut [u32],
 )
-    requires { ⌜ ArcsReadable (now net) (now sheet) ⌝ }
-    requires { ⌜ Tree (petriNet (now net)) (now sheet) finder ⌝ }
-    requires { ⌜ AllFit (petriNet (now net)) (now sheet) ⌝ }
+    requires { ⌜ Mendable (now net) (now sheet) finder ⌝ }
     requires { ⌜ entries ≡ entriesOf (now net) (now sheet) ⌝ }
-    requires { ⌜ entries ≤ 8192 ⌝ }
     ensures { λ _. ⌜ now (out .exit) ≡ placed (now (out .entry)) 0 (mendedWords (now (net .entry)) (now (sheet .entry))) ⌝ }
 {
     let given = sheet[1] as usize;
@@ -196,11 +182,8 @@ pub(crate) fn write_list(
     changes: usize,
     list: &mut [u32],
 )
-    requires { ⌜ ArcsReadable (now net) (now sheet) ⌝ }
-    requires { ⌜ Tree (petriNet (now net)) (now sheet) finder ⌝ }
-    requires { ⌜ AllFit (petriNet (now net)) (now sheet) ⌝ }
+    requires { ⌜ Mendable (now net) (now sheet) finder ⌝ }
     requires { ⌜ changes ≡ length (partOf (now net) (now sheet) Part.Changes Section.CountKeys) ⌝ }
-    requires { ⌜ changes ≤ 8192 ⌝ }
     ensures { λ _. ⌜ now (list .exit) ≡ placed (now (list .entry)) 0 (changeWords (now (net .entry)) (now (sheet .entry))) ⌝ }
 {
     let next = encoding::put(changes as u32, list, 0);

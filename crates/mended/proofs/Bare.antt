@@ -1,11 +1,5 @@
 -- What looks at nodes and arcs alone: following a list, the clauses of a schedule that speak of arcs, the routes, and with them the worked-out counts.
-use Prim.Native.Nat.{ℕ, zero, suc, _-_}
-use mathlib.Core.Path.{_≡_, refl, sym, ap, _∙_, subst}
-use mathlib.Core.List.{List, [], _∷_}
-use mathlib.Core.Bool.{cond}
-use mathlib.Core.Option.{Option, none, Option·getD}
-use lib.Dec.{ltb}
-use lib.ListN.{getD}
+use Rattle.scan.proofs.Basics.{ℕ, zero, suc, _-_, _≡_, refl, sym, ap, subst, _∙_, cond, ltb, Option, none, Option·getD, List, [], _∷_, getD}
 use Rattle.scan.specs.Scan.{found, foundOr, tabulate}
 use Rattle.automaton.specs.Automaton.{Automaton, follow, allows}
 use Rattle.automaton.specs.Reach.{Reachable, arcInto}

@@ -1,14 +1,8 @@
 -- The list of changes: exactly the counts that differ, by rising key; none where none does.
-use Prim.Native.Nat.{ℕ, zero, suc, _+_, _*_, _≤_, _<_}
-use native.Mathlib.Omega.{arith}
-use mathlib.Core.Path.{_≡_, refl, sym, ap, _∙_}
-use mathlib.Core.Logic.{_↔_}
-use mathlib.Core.List.{List, [], _∷_, _++_}
-use mathlib.Core.Bool.{true, false, not}
-use mathlib.Core.Option.{Option, none, some}
-use lib.ListN.{length, getD, length-append, List·getD-append}
+use Rattle.scan.proofs.Basics.{ℕ, zero, suc, _+_, _*_, _≤_, _<_, arith, _≡_, refl, sym, ap, _∙_, _↔_, true, false, not, Option, none, some, List, [], _∷_, _++_, length, getD, length-append}
+use lib.ListN.{List·getD-append}
 use lib.Seq.{getD-append-add}
-use borrow.Author.Tests.{not-true, eqb-false, ne-eqb, eq-eqb}
+use Rattle.scan.proofs.Tests.{eqb-false, eq-eqb, ne-eqb, not-true}
 use Rattle.scan.specs.Scan.{found}
 use Rattle.scan.proofs.First.{when-some, when-hit, when-miss}
 use Rattle.scan.proofs.Count.{pigeonhole}
@@ -52,10 +46,9 @@ module _ (ks vs : List ℕ) where
   list-value i = let q : 1 + length ks + i ≡ suc (length ks + i) = omega arith in rw q (getD-append-add ks vs i 0)
 
   listed↔ : (k v : ℕ) → Listed list k v ↔ Stands ks vs k v
-  unfolding Stands
   listed↔ k v = (
-    λ s. (s .index, s .below, sym (list-key (s .index) (s .below)) ∙ s .key, sym (list-value (s .index)) ∙ s .value),
-    λ (i, l, p, q). record { index = i; below = l; key = list-key i l ∙ p; value = list-value i ∙ q },
+    λ s. record { index = s .index; below = s .below; key = sym (list-key (s .index) (s .below)) ∙ s .key; value = sym (list-value (s .index)) ∙ s .value },
+    λ s. record { index = s .index; below = s .below; key = list-key (s .index) (s .below) ∙ s .key; value = list-value (s .index) ∙ s .value },
   )
 
 module _ (N : PetriNet) (sheet : List ℕ) where

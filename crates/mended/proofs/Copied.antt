@@ -1,18 +1,12 @@
 -- The entries of the arcs in the mended words are those of the given ones: code may copy them.
-use Prim.Native.Nat.{ℕ, suc, _+_, _*_, _≤_, _<_}
-use native.Mathlib.Omega.{arith}
+use Rattle.scan.proofs.Basics.{ℕ, suc, _+_, _*_, _≤_, _<_, arith, _≡_, refl, sym, ap, _∙_, inl, inr, _↔_, Bool, true, false, not, ltb, some, List, [], _∷_, _++_, length, getD, take, drop}
+use Rattle.scan.proofs.Basics.{length-append}
 use native.Mathlib.Nat.{mod-lt, div-add-mod'}
-use mathlib.Core.Path.{_≡_, refl, sym, ap, _∙_}
-use mathlib.Core.Logic.{_↔_, inl, inr}
-use mathlib.Core.List.{List, [], _∷_, _++_, append-nil}
-use mathlib.Core.Bool.{Bool, true, false, not}
-use mathlib.Core.Option.{some}
-use lib.Dec.{ltb}
-use lib.ListN.{length, getD, take, drop, length-append, List·getD-append}
+use mathlib.Core.List.{append-nil}
+use lib.ListN.{List·getD-append}
 use lib.Seq.{getD-append-add, take-at, drop-at}
-use borrow.Author.Tests.{ltb-true, ltb-false, lt-ltb, not-true, not-false}
+use Rattle.scan.proofs.Tests.{ltb-true, ltb-false, lt-ltb, not-true, not-false, byTest, true-false, not-true→false}
 use Rattle.scan.specs.Scan.{tabulate, least}
-use Rattle.scan.proofs.Tests.{byTest, true-false, not-true→false}
 use Rattle.scan.proofs.First.{when-miss}
 use Rattle.scan.proofs.Count.{count-prefix}
 use Rattle.scan.proofs.Least.{least-le, least-hit, least-low}

@@ -1,11 +1,6 @@
 -- Mending as an instance of what every call is: how its words are judged, what they hold that pass, and how long its results are.
-use Prim.Native.Nat.{ℕ, _+_, _*_, _≤_, _<_}
-use native.Mathlib.Omega.{arith}
+use Rattle.scan.proofs.Basics.{ℕ, _+_, _*_, _≤_, _<_, arith, _≡_, refl, true, List, [], _∷_, _++_, length}
 use native.Mathlib.Nat.{mul-le-mul}
-use mathlib.Core.Path.{_≡_, refl}
-use mathlib.Core.List.{List, [], _∷_, _++_}
-use mathlib.Core.Bool.{true}
-use lib.ListN.{length}
 use Rattle.refusal.specs.Limits.{mostEntries}
 use Rattle.refusal.specs.declared.Verdict.the-variants.{Accepted}
 use Rattle.refusal.proofs.Judges.{pass-append}

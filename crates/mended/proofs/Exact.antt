@@ -1,10 +1,5 @@
 -- Counts fit exactly where some schedule has these arcs, and then the mended words are the only ones that do; so the tests decide the checks.
-use Prim.Native.Nat.{ℕ, _<_}
-use native.Mathlib.Omega.{arith}
-use mathlib.Core.Path.{_≡_, refl, sym, ap, _∙_, subst}
-use mathlib.Core.Logic.{_↔_}
-use mathlib.Core.List.{List, _++_}
-use mathlib.Core.Bool.{true, not}
+use Rattle.scan.proofs.Basics.{ℕ, _<_, arith, _≡_, refl, sym, ap, subst, _∙_, _↔_, true, not, List, _++_}
 use Rattle.scan.specs.Scan.{orElse, when, first}
 use Rattle.scan.proofs.Tests.{decides-not}
 use Rattle.scan.proofs.First.{first-one}

@@ -1,5 +1,5 @@
 -- The rows of mended schedules hold: one computation of the definitions.
-use mathlib.Core.Path.{refl}
+use Rattle.scan.proofs.Basics.{refl}
 use Rattle.scan.specs.Scan.{orElse, when, found, first, all, any, passing, least, tabulate}
 use Rattle.table.specs.Table.{keyAt, valueAt, entryWith, entryOf}
 use Rattle.table.specs.Keys.{keyFails}

@@ -1,14 +1,7 @@
 -- The mended graph: a schedule where the counts fit, and the only one with these arcs.
-use Prim.Native.Nat.{ℕ, _≤_, _<_}
-use mathlib.Core.Path.{_≡_, refl, sym, ap, _∙_}
-use mathlib.Core.List.{List, [], _∷_}
-use mathlib.Core.Bool.{true}
-use mathlib.Core.Option.{some}
-use lib.ListN.{length, getD}
-use lib.Dec.{ltb}
-use borrow.Author.Tests.{lt-ltb, le-ltb, ltb-true, ltb-false, leb-true, le-leb, eqb-true, eq-eqb}
+use Rattle.scan.proofs.Basics.{ℕ, _≤_, _<_, _≡_, refl, sym, ap, _∙_, true, ltb, some, List, [], _∷_, length, getD}
+use Rattle.scan.proofs.Tests.{ltb-true, ltb-false, lt-ltb, le-ltb, leb-true, le-leb, eqb-true, eq-eqb, byTest, and-left, and-right, and-both}
 use Rattle.scan.specs.Scan.{all}
-use Rattle.scan.proofs.Tests.{byTest, and-left, and-right, and-both}
 use Rattle.scan.proofs.Every.{all-in, all-out}
 use Rattle.scan.proofs.Tabulate.{tabulate-at, tabulate-is, tabulate-length}
 use Rattle.automaton.specs.Automaton.{Automaton, Closed}

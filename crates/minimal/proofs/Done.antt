@@ -1,8 +1,5 @@
 -- The call as an instance of what every call is; and that what asks for words that can be read alone does the same for a schedule.
-use mathlib.Core.Path.{_≡_, refl, ap, _∙_}
-use mathlib.Core.List.{List, [], _∷_, _++_}
-use Prim.Native.Nat.{ℕ}
-use lib.ListN.{length}
+use Rattle.scan.proofs.Basics.{ℕ, _≡_, refl, ap, _∙_, List, [], _∷_, _++_, length}
 use Rattle.net.specs.Check.{netReply}
 use Rattle.net.specs.Checks.{netChecks}
 use Rattle.sequential.specs.Petri.{petriNet}

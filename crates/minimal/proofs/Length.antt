@@ -1,47 +1,62 @@
 -- The words of the minimal automaton have no more entries: each of its nodes has as many as the old one that stands for it.
-use Prim.Native.Nat.{ℕ, _≤_, _<_}
-use native.Mathlib.Omega.{arith}
-use mathlib.Core.Path.{_≡_, refl, ap, _∙_}
-use mathlib.Core.List.{List}
-use mathlib.Core.Option.{Option, none, some, Option·map}
-use lib.ListN.{length}
-use Rattle.scan.specs.Scan.{found}
+use Rattle.scan.proofs.Basics.{ℕ, _+_, _≤_, _<_, arith, _≡_, refl, sym, ap, _∙_, Bool, ltb, Option, none, some, Option·map, List, length, length-append}
+use Rattle.scan.specs.Scan.{found, count, sum}
 use Rattle.scan.proofs.Count.{count-ext}
-use Rattle.scan.proofs.Sum.{sum-ext}
+use Rattle.scan.proofs.Sum.{sum-ext, sum-plus}
 use Rattle.automaton.specs.Automaton.{Automaton, Closed}
 use Rattle.automaton.specs.Equivalence.{Fires}
 use Rattle.automaton.specs.Quotient.{minimal, number, representative}
 use Rattle.automaton.proofs.Quotient.{minimal-arc, minimal-label}
 use Rattle.automaton.proofs.Fewest.{minimal-sum}
 use Rattle.sequential.specs.Petri.{PetriNet}
-use Rattle.encoding.specs.Encoding.{held, keys}
-use Rattle.encoding.proofs.Gather.{finds}
-use Rattle.encoding.proofs.Length.{holdsSome, arcDegree, countDegree, keys-length}
+use Rattle.encoding.specs.Encoding.{gatherRows, keyOfArc, held, keyOfCount, keys}
+use Rattle.encoding.proofs.Gather.{finds, rows-length}
+use Rattle.encoding.proofs.Encoding.{found-when}
 
 found-map : (f : ℕ → ℕ) (o : Option ℕ) → found (Option·map f o) ≡ found o
 unfolding found
 found-map f none = refl
 found-map f (some a) = refl
 
-module _ (N : PetriNet) (fire : List ℕ → ℕ → List ℕ) (A : Automaton) (c : Closed A) (f : Fires fire A) where
-  minimal-arcDegree : (i : ℕ) → i < (minimal A) .nodes → arcDegree N (minimal A) i ≡ arcDegree N A (representative A i)
-  unfolding arcDegree
-  minimal-arcDegree i l =
-      count-ext (finds ((minimal A) .arc i)) (finds (A .arc (representative A i))) (N .transitions)
-      (λ t m. unfold finds in (ap found (minimal-arc A i t l) ∙ found-map (number A) (A .arc (representative A i) t)))
+-- ---- how many arcs and counts above 0 the nodes have together
 
-  minimal-countDegree : (i : ℕ) → i < (minimal A) .nodes → countDegree N (minimal A) i ≡ countDegree N A (representative A i)
-  unfolding countDegree
-  minimal-countDegree i l =
-      count-ext (holdsSome N (minimal A) i) (holdsSome N A (representative A i)) (N .places) (λ p m. unfold holdsSome held in (rw (minimal-label A i l)))
+module _ (N : PetriNet) (A : Automaton) where
+  unfoldable holdsSome : ℕ → ℕ → Bool
+  holdsSome n p = ltb 0 (held N A n p)
+
+  unfoldable degree : ℕ → ℕ
+  degree n = count (finds (A .arc n)) (N .transitions) + count (holdsSome n) (N .places)
+
+  rows-degree : (n : ℕ) → count (finds (keyOfArc N A n)) (N .transitions) + count (finds (keyOfCount N A n)) (N .places) ≡ degree n
+  unfolding degree
+  rows-degree n = rw (
+    count-ext (finds (keyOfArc N A n)) (finds (A .arc n)) (N .transitions) (λ t m. unfold finds keyOfArc in (found-when _ _)),
+    count-ext (finds (keyOfCount N A n)) (holdsSome n) (N .places) (λ p m. unfold finds keyOfCount holdsSome in (found-when _ _)),
+  )
+
+  keys-length : length (keys N A) ≡ sum degree (A .nodes)
+  unfolding keys
+  keys-length =
+      length-append (gatherRows (keyOfArc N A) (N .transitions) (A .nodes)) (gatherRows (keyOfCount N A) (N .places) (A .nodes))
+      ∙ rw (rows-length (keyOfArc N A) (N .transitions) (A .nodes), rows-length (keyOfCount N A) (N .places) (A .nodes)) (sym (sum-plus _ _ (A .nodes)))
+      ∙ sum-ext _ degree (A .nodes) (λ n l. rows-degree n)
+
+-- ---- each node as many as the one that stands for it
+
+module _ (N : PetriNet) (fire : List ℕ → ℕ → List ℕ) (A : Automaton) (c : Closed A) (f : Fires fire A) where
+  minimal-degree : (i : ℕ) → i < (minimal A) .nodes → degree N (minimal A) i ≡ degree N A (representative A i)
+  unfolding degree
+  minimal-degree i l = rw (
+    count-ext (finds ((minimal A) .arc i)) (finds (A .arc (representative A i))) (N .transitions)
+        (λ t m. unfold finds in (ap found (minimal-arc A i t l) ∙ found-map (number A) (A .arc (representative A i) t))),
+    count-ext (holdsSome N (minimal A) i) (holdsSome N A (representative A i)) (N .places) (λ p m. unfold holdsSome held in (rw (minimal-label A i l))),
+  )
 
   pub minimal-keys : length (keys N (minimal A)) ≤ length (keys N A)
   minimal-keys = omega (
     arith,
     keys-length N (minimal A),
     keys-length N A,
-    sum-ext (arcDegree N (minimal A)) (λ i. arcDegree N A (representative A i)) ((minimal A) .nodes) minimal-arcDegree,
-    sum-ext (countDegree N (minimal A)) (λ i. countDegree N A (representative A i)) ((minimal A) .nodes) minimal-countDegree,
-    minimal-sum fire A c f (arcDegree N A),
-    minimal-sum fire A c f (countDegree N A),
+    sum-ext (degree N (minimal A)) (λ i. degree N A (representative A i)) ((minimal A) .nodes) minimal-degree,
+    minimal-sum fire A c f (degree N A),
   )

@@ -1,11 +1,6 @@
 -- The minimal form of an accepted sheet: its graph is the minimal automaton, it is accepted, and two are equal exactly where the roots allow the same lists.
 -- ---- a schedule that a sheet can say
-use Prim.Native.Nat.{ℕ, _+_, _*_, _≤_, _<_}
-use native.Mathlib.Omega.{arith}
-use mathlib.Core.Path.{_≡_, refl, sym, ap, _∙_, subst}
-use mathlib.Core.Logic.{_↔_}
-use mathlib.Core.List.{List}
-use lib.ListN.{length}
+use Rattle.scan.proofs.Basics.{ℕ, _+_, _*_, _≤_, _<_, arith, _≡_, refl, sym, ap, subst, _∙_, _↔_, List, length}
 use Rattle.automaton.specs.Automaton.{Automaton, Closed, SameLists}
 use Rattle.automaton.specs.BreadthFirst.{BreadthFirst}
 use Rattle.automaton.specs.Equivalence.{Equivalent, Fires}
@@ -17,7 +12,7 @@ use Rattle.net.proofs.Laws.{sizes}
 use Rattle.sequential.specs.Petri.{PetriNet, petriNet, fire}
 use Rattle.sequential.specs.Words.{nodeCount, entryCount, graph}
 use Rattle.sequential.specs.Schedule.{IsSchedule}
-use Rattle.sequential.specs.Known.{WordsHold}
+use Rattle.sequential.specs.Known.{WordsHold, Accepts}
 use Rattle.refusal.specs.declared.Verdict.the-variants as verdict
 use Rattle.sequential.specs.Check.{scheduleReply}
 use Rattle.sequential.proofs.Accepted.{accepted-exactly, accepts, some-transition}
@@ -62,80 +57,80 @@ module _ (net sheet : List ℕ) (h : Accepted net sheet) where
   abbrev A : Automaton
   A = graph (petriNet net) sheet
 
-  some-place : 0 < petriNet net .places
-  some-place = sizes net (accepts net sheet h .net-accepted) .some-place
+  known : Accepts net sheet
+  known = accepts net sheet h
 
-  pub accepted-encodable : Encodable (petriNet net) (graph (petriNet net) sheet)
-  accepted-encodable = decoded-encodable N sheet (some-transition net sheet h) some-place (accepts net sheet h .words)
+  T : 0 < petriNet net .transitions
+  T = some-transition net sheet h
 
-  pub accepted-closed : Closed (graph (petriNet net) sheet)
-  accepted-closed = accepted-encodable .closed
+  P : 0 < petriNet net .places
+  P = sizes net (known .net-accepted) .some-place
 
-  pub accepted-fires : Fires (fire (petriNet net)) (graph (petriNet net) sheet)
-  accepted-fires = schedule-fires N A (accepts net sheet h .schedule)
+  encodable : Encodable (petriNet net) (graph (petriNet net) sheet)
+  encodable = decoded-encodable N sheet T P (known .words)
+
+  closed : Closed (graph (petriNet net) sheet)
+  closed = encodable .closed
+
+  fired : Fires (fire (petriNet net)) (graph (petriNet net) sheet)
+  fired = schedule-fires N A (known .schedule)
 
   form-encodable : Encodable N (minimal A)
-  form-encodable = minimal-encodable N A accepted-encodable (accepts net sheet h .schedule)
+  form-encodable = minimal-encodable N A encodable (known .schedule)
 
   -- the graph that the minimal form says is the minimal automaton
-  pub form-graph : graph (petriNet net) (minimalForm net sheet) ≡ minimal (graph (petriNet net) sheet)
+  form-graph : graph (petriNet net) (minimalForm net sheet) ≡ minimal (graph (petriNet net) sheet)
   unfolding minimalForm
-  form-graph = decode-encode N (minimal A) (some-transition net sheet h) form-encodable
+  form-graph = decode-encode N (minimal A) T form-encodable
 
   pub form-accepted : Accepted net (minimalForm net sheet)
   form-accepted = accepted-exactly net (minimalForm net sheet) .1 (record {
-    net-accepted = accepts net sheet h .net-accepted;
+    net-accepted = known .net-accepted;
     words = unfold minimalForm in (encoded-passes N (minimal A) form-encodable);
-    schedule = subst (IsSchedule N) (sym form-graph) (minimal-schedule N A accepted-encodable (accepts net sheet h .schedule));
+    schedule = subst (IsSchedule N) (sym form-graph) (minimal-schedule N A encodable (known .schedule));
   })
 
   pub form-lists : SameLists (graph (petriNet net) (minimalForm net sheet)) (graph (petriNet net) sheet) 0 0
-  form-lists = subst (λ (M : Automaton). SameLists M A 0 0) (sym form-graph) (minimal-equivalent (fire N) A accepted-closed accepted-fires .lists)
+  form-lists = subst (λ (M : Automaton). SameLists M A 0 0) (sym form-graph) (minimal-equivalent (fire N) A closed fired .lists)
 
   -- ---- its length
 
   form-entries : entryCount (minimalForm net sheet) ≤ entryCount sheet
   unfolding minimalForm
   form-entries =
-      omega (
-        arith,
-        encoded-entries N (minimal A),
-        minimal-keys N (fire N) A accepted-closed accepted-fires,
-        encoded-entries N A,
-        ap entryCount (encode-decode N sheet (some-transition net sheet h) some-place (accepts net sheet h .words)),
-      )
+      let same : entryCount (encode N A) ≡ entryCount sheet = ap entryCount (encode-decode N sheet T P (known .words)) in
+      omega (arith, encoded-entries N (minimal A), minimal-keys N (fire N) A closed fired, encoded-entries N A)
 
   form-length : length (minimalForm net sheet) ≡ 2 + 2 * entryCount (minimalForm net sheet)
   unfolding minimalForm
   form-length = encoded-length N (minimal A)
 
   pub form-no-longer : length (minimalForm net sheet) ≤ length sheet
-  form-no-longer = omega (arith, form-length, form-entries, accepts net sheet h .words .arcs .shape .whole)
+  form-no-longer = omega (arith, form-length, form-entries, known .words .arcs .shape .whole)
 
   pub form-short : length (minimalForm net sheet) ≤ 8194
-  form-short = omega (arith, form-length, form-entries, accepts net sheet h .words .arcs .shape .few-entries)
+  form-short = omega (arith, form-length, form-entries, known .words .arcs .shape .few-entries)
 
   -- ---- its graph
 
   pub form-quotient : QuotientForm (petriNet net) sheet (minimalForm net sheet)
   form-quotient = record {
     number = number A;
-    quotient = subst (λ (M : Automaton). Quotient A M (number A)) (sym form-graph) (quotient (fire N) A accepted-closed accepted-fires);
-    breadthFirst = subst BreadthFirst (sym form-graph) (minimal-breadth-first (fire N) A accepted-closed accepted-fires);
+    quotient = subst (λ (M : Automaton). Quotient A M (number A)) (sym form-graph) (quotient (fire N) A closed fired);
+    breadthFirst = subst BreadthFirst (sym form-graph) (minimal-breadth-first (fire N) A closed fired);
   }
 
   -- and no other words that pass 6 to 9 do
   pub form-unique : (form : List ℕ) → WordsHold (petriNet net) form → QuotientForm (petriNet net) sheet form → form ≡ minimalForm net sheet
   unfolding minimalForm
   form-unique form w q =
-      let E = decoded-encodable N form (some-transition net sheet h) some-place w in
-      sym (encode-decode N form (some-transition net sheet h) some-place w)
-      ∙ ap (encode N) (quotient-unique (fire N) A accepted-closed accepted-fires (graph N form) (q .number) (q .quotient) (q .breadthFirst)
-      (E .confined) (E .closed .bounded) (refl))
+      let E = decoded-encodable N form T P w in
+      sym (encode-decode N form T P w)
+      ∙ ap (encode N) (quotient-unique (fire N) A closed fired (graph N form) (q .number) (q .quotient) (q .breadthFirst) (E .confined) (E .closed .bounded) refl)
 
   pub form-twice : minimalForm net (minimalForm net sheet) ≡ minimalForm net sheet
   unfolding minimalForm
-  form-twice = ap (encode N) (ap minimal form-graph ∙ minimal-idempotent (fire N) A accepted-closed accepted-fires)
+  form-twice = ap (encode N) (ap minimal form-graph ∙ minimal-idempotent (fire N) A closed fired)
 
 -- ---- two accepted sheets
 
@@ -144,15 +139,10 @@ module _ (net x y : List ℕ) (hx : Accepted net x) (hy : Accepted net y) where
   G sheet = graph (petriNet net) sheet
 
   one-start : (G x) .label 0 ≡ (G y) .label 0
-  one-start = accepts net x hx .schedule .starts ∙ sym (accepts net y hy .schedule .starts)
-
-  one-net : (G x) .transitions ≡ (G y) .transitions
-  one-net = refl
+  one-start = known net x hx .schedule .starts ∙ sym (known net y hy .schedule .starts)
 
   automata : (minimal (G x) ≡ minimal (G y)) ↔ SameLists (G x) (G y) 0 0
-  automata =
-      minimal-equal↔lists (fire (petriNet net)) (G x) (G y) (accepted-closed net x hx) (accepted-closed net y hy) (accepted-fires net x hx) (accepted-fires net y hy)
-      one-net one-start
+  automata = minimal-equal↔lists (fire (petriNet net)) (G x) (G y) (closed net x hx) (closed net y hy) (fired net x hx) (fired net y hy) refl one-start
 
   -- equal words say equal graphs
   pub forms-equal : (minimalForm net x ≡ minimalForm net y) ↔ SameLists (graph (petriNet net) x) (graph (petriNet net) y) 0 0
@@ -163,23 +153,14 @@ module _ (net x y : List ℕ) (hx : Accepted net x) (hy : Accepted net y) where
 
   -- no sheet that allows the same lists has fewer nodes
   pub form-fewest : SameLists (graph (petriNet net) x) (graph (petriNet net) y) 0 0 → Fewest (petriNet net) (minimalForm net x) y
-  form-fewest s = record {
-    fewest = rw nodes fewer;
-    renumbered = λ e. (
-      number (G y),
-      subst (λ (M : Automaton). Renumbering (G y) M (number (G y))) (sym (form-graph net x hx))
-          (fewest-renumbering F (G x) (G y) (accepted-closed net x hx) (accepted-closed net y hy) (accepted-fires net x hx) (accepted-fires net y hy) one-net same ((e ∙ nodes))),
-    );
-  }
-    where
-      F : List ℕ → ℕ → List ℕ
-      F = fire (petriNet net)
-
-      same : Equivalent (G x) (G y) 0 0
-      same = record { labels = one-start; lists = s }
-
-      fewer : (minimal (G x)) .nodes ≤ nodeCount y
-      fewer = (minimal-fewest F (G x) (G y) (accepted-closed net x hx) (accepted-closed net y hy) (accepted-fires net x hx) (accepted-fires net y hy) same)
-
-      nodes : nodeCount (minimalForm net x) ≡ (minimal (G x)) .nodes
-      nodes = (ap (λ (M : Automaton). M .nodes) (form-graph net x hx))
+  form-fewest s =
+      let same : Equivalent (G x) (G y) 0 0 = record { labels = one-start; lists = s } in
+      let nodes : nodeCount (minimalForm net x) ≡ (minimal (G x)) .nodes = ap (λ (M : Automaton). M .nodes) (form-graph net x hx) in
+      record {
+        fewest = rw nodes (minimal-fewest (fire (petriNet net)) (G x) (G y) (closed net x hx) (closed net y hy) (fired net x hx) (fired net y hy) same);
+        renumbered = λ e. (
+          number (G y),
+          subst (λ (M : Automaton). Renumbering (G y) M (number (G y))) (sym (form-graph net x hx)) (fewest-renumbering (fire (petriNet net)) (G x) (G y)
+              (closed net x hx) (closed net y hy) (fired net x hx) (fired net y hy) refl same (e ∙ nodes)),
+        );
+      }

@@ -1,10 +1,7 @@
 -- The quotient of a schedule is a schedule of the same net.
 -- arcs of a schedule fire
-use Prim.Native.Nat.{ℕ, _<_}
-use mathlib.Core.Path.{_≡_, sym, ap, _∙_}
-use mathlib.Core.Logic.{_↔_}
-use mathlib.Core.List.{List}
-use mathlib.Core.Option.{some, Option·map, map-eq-some-iff}
+use Rattle.scan.proofs.Basics.{ℕ, _<_, _≡_, sym, ap, _∙_, _↔_, some, Option·map, List}
+use mathlib.Core.Option.{map-eq-some-iff}
 use Rattle.automaton.specs.Automaton.{Automaton, Closed, follow}
 use Rattle.automaton.specs.Reach.{Reachable}
 use Rattle.automaton.specs.Equivalence.{Fires}

@@ -1,16 +1,10 @@
 -- Tables of leaders: a loop that looks for a leader, a round that passes over nodes which do not lead, and the last round.
-use Prim.Native.Nat.{ℕ, zero, suc, _+_, _<_}
+use Rattle.scan.proofs.Basics.{ℕ, suc, _+_, _<_, arith, _≡_, refl, sym, ap, _∙_, Bool, true, false, List, length, getD, set}
 use native.Mathlib.Numerals.{add-one}
-use native.Mathlib.Omega.{arith}
-use mathlib.Core.Path.{_≡_, refl, sym, ap, _∙_}
-use mathlib.Core.List.{List}
-use mathlib.Core.Bool.{Bool, true, false}
-use lib.ListN.{length, getD, set, replicate}
-use borrow.Author.Tests.{eqb-true, eq-eqb, ne-eqb}
+use Rattle.scan.proofs.Tests.{eqb-true, eq-eqb, ne-eqb, true-false, not-true→false, and-left, and-right, and-both}
 use Rattle.scan.specs.Scan.{all, any, least}
-use Rattle.scan.proofs.Tests.{true-false, not-true→false, and-left, and-right, and-both}
 use Rattle.scan.proofs.Every.{all-in, all-out, any-before, any-more}
-use Rattle.scan.proofs.Least.{least-le, least-hit, least-found, least-none, least-ext}
+use Rattle.scan.proofs.Least.{least-le, least-hit, least-ext}
 use Rattle.scan.proofs.Tabulate.{stored-more}
 use Rattle.automaton.specs.Automaton.{Automaton, Closed}
 use Rattle.automaton.specs.Equivalence.{agree, sameIn, same, inClass, leaderBy, leader, sameClass, refined}
@@ -23,21 +17,10 @@ use Rattle.minimize.specs.Leaders.{LeadersBy, rowsAlike, split, sameEntr
 
 -- ---- a loop that looks for a leader
 
-pub leader-found : (r : ℕ → ℕ → Bool) (n m : ℕ) → any (inClass r n) m ≡ false → r m n ≡ true → m < n → m ≡ leaderBy r n
-unfolding leaderBy
-leader-found r n m h e l = sym (least-found (inClass r n) n m h (unfold inClass in e) l)
-
-pub leader-none : (r : ℕ → ℕ → Bool) (n m : ℕ) → any (inClass r n) m ≡ false → m ≡ n → n ≡ leaderBy r n
-unfolding leaderBy
-leader-none r n m h e = sym (least-none (inClass r n) n (rw e at h))
-
 pub leader-not : (r : ℕ → ℕ → Bool) (n m : ℕ) → any (inClass r n) m ≡ false → r m n ≡ false → any (inClass r n) (m + 1) ≡ false
 leader-not r n m h e = any-more (inClass r n) m h (unfold inClass in e)
 
 -- ---- a table that a loop fills
-
-pub leaders-start : (r : ℕ → ℕ → Bool) (classes : List ℕ) → LeadersBy r 0 classes
-leaders-start r classes = record { leads = λ n l. absurd (omega arith) }
 
 pub leaders-more : (r : ℕ → ℕ → Bool) (classes : List ℕ) (n v : ℕ) → LeadersBy r n classes → n < length classes → v ≡ leaderBy r n
     → LeadersBy r (n + 1) (set classes n v)
@@ -90,24 +73,14 @@ module _ (A : Automaton) (counts : Bool) (class : ℕ → ℕ) where
   unfolding split sameClass
   split-by-rows n m e = rw (eq-eqb (class n) (class m) e)
 
--- a table of zeros
-pub one-class : (n : ℕ) → classIn (replicate 128 0) n ≡ 0
-unfolding classIn
-one-class = zeros 128
-  where
-    zeros : (k n : ℕ) → getD {A = ℕ} (replicate k 0) n 0 ≡ 0
-    zeros zero n = refl
-    zeros (suc k) zero = refl
-    zeros (suc k) (suc n) = zeros k n
-
 -- by arcs it is the automaton's round, and by counts of nodes that are all of one class the first
 module _ (A : Automaton) (classes : List ℕ) where
   pub by-arcs : (next : List ℕ) → LeadersBy (split A false (classIn classes)) (A .nodes) next → LeadersBy (refined A (classIn classes)) (A .nodes) next
   unfolding split rowsAlike refined
   by-arcs next h = h
 
-  pub by-counts : (next : List ℕ) → ((n : ℕ) → classIn classes n ≡ 0) → LeadersBy (split A true (classIn classes)) (A .nodes) next → LeadersBy (sameIn A 0) (A .nodes) next
-  unfolding leaderBy
+  pub by-counts : (next : List ℕ) → ((n : ℕ) → getD classes n 0 ≡ 0) → LeadersBy (split A true (classIn classes)) (A .nodes) next → LeadersBy (sameIn A 0) (A .nodes) next
+  unfolding leaderBy classIn
   by-counts next z h = record {
     leads = λ n l. h .leads n l ∙ least-ext (inClass (split A true (classIn classes)) n) (inClass (sameIn A 0) n) n
         (λ m k. unfold inClass in (split-by-rows A true (classIn classes) m n (z m ∙ sym (z n)) ∙ unfold rowsAlike in refl));

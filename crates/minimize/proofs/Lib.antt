@@ -6,5 +6,4 @@ pub mod SearchState
 pub mod SearchArcs
 pub mod SearchOrder
 -- words
-pub mod NewNodes
 pub mod Writing

@@ -7,14 +7,13 @@ use mathlib.Core.Bool.{Bool, true, false, cond, _&&_}
 use mathlib.Core.Option.{Option, Option·map}
 use lib.Dec.{ltb, eqb}
 use lib.ListN.{length, getD}
-use Rattle.row_starts.specs.RowStarts.{page}
 use Rattle.table.specs.Table.{keyAt, Rising}
 use Rattle.table.specs.Bisection.{lowerBound}
 use Rattle.automaton.specs.Equivalence.{sameClass, equalArcs}
 use Rattle.sequential.specs.Words.{nodeCount, entryCount, entryValue, entryWithKey}
 use Rattle.net.specs.Net.{placeCount, transitionCount}
 use Rattle.graph.specs.Rows.{arcsStart, countsStart}
-use Rattle.minimize.specs.Tables.{classIn}
+use Rattle.minimize.specs.Tables.{Paged, classIn}
 use Rattle.minimize.specs.declared.classes.NodeRows.{NodeRows}
 
 -- counts agree where they are equal, targets of arcs where they have one class
@@ -34,8 +33,9 @@ module _ (sheet : List ℕ) where
   unfoldable pub keysAgree : (ℕ → ℕ → Bool) → ℕ → ℕ → ℕ → Bool
   keysAgree r a b t = equalArcs r (keyValue (a + t)) (keyValue (b + t))
 
-  -- entry i is there, and where it is an arc, a table has its target
+  -- entry i of whole words is there, and where it is an arc, a table has its target
   pub record Valued (classes : List ℕ) (counts : Bool) (i : ℕ) : Type 0 where
+    pub whole : length sheet ≡ 2 + 2 * entryCount sheet
     pub within : i < entryCount sheet
     pub target : counts ≡ false → entryValue sheet i < length classes
 
@@ -65,8 +65,13 @@ rowWidth net counts = cond counts (placeCount net) (transitionCount net)
 unfoldable pub firstEntry : List ℕ → List ℕ → List ℕ → Bool → ℕ → ℕ
 firstEntry starts net sheet counts n = lowerBound sheet 2 (entryCount sheet) (rowKey starts net sheet counts n)
 
-pub record RowsOf (starts net sheet : List ℕ) (counts : Bool) (rows : NodeRows) : Type 0 where
-  pub by-page : starts ≡ page
-  pub kind : rows .counts ≡ counts
-  pub wide : rows .width ≡ rowWidth net counts
-  pub start : (n : ℕ) → n < nodeCount sheet → getD (rows .starts) n 0 ≡ firstEntry starts net sheet counts n
+pub record RowsOf (starts net sheet : List ℕ) (rows : NodeRows) : Type 0 where
+  pub paged : Paged starts net sheet
+  pub wide : rows .width ≡ rowWidth net (rows .counts)
+  pub start : (n : ℕ) → n < nodeCount sheet → getD (rows .starts) n 0 ≡ firstEntry starts net sheet (rows .counts) n
+
+-- with two of the nodes
+pub record TwoRows (starts net sheet : List ℕ) (rows : NodeRows) (n m : ℕ) : Type 0 where
+  pub of : RowsOf starts net sheet rows
+  pub left : n < nodeCount sheet
+  pub right : m < nodeCount sheet

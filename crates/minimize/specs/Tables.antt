@@ -2,16 +2,22 @@
 use Prim.Native.Nat.{ℕ, _≤_, _<_}
 use mathlib.Core.Path.{_≡_}
 use mathlib.Core.List.{List}
-use lib.ListN.{length, getD, take}
+use lib.ListN.{length, getD}
 use Rattle.row_starts.specs.RowStarts.{page}
 use Rattle.automaton.specs.Automaton.{Automaton}
 use Rattle.automaton.specs.Equivalence.{same, sameClass}
-use Rattle.automaton.specs.BreadthFirst.{order}
-use Rattle.automaton.specs.Quotient.{minimal, number}
+use Rattle.automaton.specs.Quotient.{minimal}
 use Rattle.sequential.specs.Petri.{petriNet}
 use Rattle.sequential.specs.Words.{graph}
 use Rattle.graph.specs.Readable.{Readable}
+use Rattle.encoding.specs.Encoding.{keys}
 use Rattle.encoding.specs.Kept.{Kept}
+use Rattle.minimize.specs.declared.numbering.Numbers.{Numbers}
+
+-- words that can be read, and by the manual's page of row starts (§3.9)
+pub record Paged (starts net sheet : List ℕ) : Type 0 where
+  pub by-page : starts ≡ page
+  pub readable : Readable net sheet
 
 -- the class of a node in a table
 unfoldable pub classIn : List ℕ → ℕ → ℕ
@@ -22,16 +28,14 @@ pub record Classes (A : Automaton) (classes : List ℕ) : Type 0 where
   pub low : (n : ℕ) → n < A .nodes → classIn classes n < A .nodes
   pub right : (n m : ℕ) → n < A .nodes → m < A .nodes → sameClass (classIn classes) n m ≡ same A n m
 
--- the nodes that stand for the new ones, so many of them, and the new number of each old node
-pub record Numbered (A : Automaton) (reps numbers : List ℕ) (found : ℕ) : Type 0 where
-  pub size : found ≡ length (order (same A) A)
-  pub represent : take found reps ≡ order (same A) A
-  pub number : (n : ℕ) → n < A .nodes → number A n < found → getD numbers n 0 ≡ number A n
-
 -- the minimal form's nodes of words that can be read: the nodes that stand for them, so many, and the new number of each node that an arc of theirs leads to
-pub record NewNodes (starts net sheet reps numbers : List ℕ) (found : ℕ) : Type 0 where
-  pub by-page : starts ≡ page
-  pub readable : Readable net sheet
-  pub size : minimal (graph (petriNet net) sheet) .nodes ≡ found
-  pub few : found ≤ 128
-  pub kept : Kept (graph (petriNet net) sheet) (minimal (graph (petriNet net) sheet)) reps numbers
+pub record NewNodes (starts net sheet : List ℕ) (new : Numbers) : Type 0 where
+  pub paged : Paged starts net sheet
+  pub size : minimal (graph (petriNet net) sheet) .nodes ≡ new .found
+  pub few : new .found ≤ 128
+  pub kept : Kept (graph (petriNet net) sheet) (minimal (graph (petriNet net) sheet)) (new .reps) (new .numbers)
+
+-- how many entries the minimal form has
+pub record Counted (net sheet : List ℕ) (entries : ℕ) : Type 0 where
+  pub are : entries ≡ length (keys (petriNet net) (minimal (graph (petriNet net) sheet)))
+  pub few : entries ≤ 8192

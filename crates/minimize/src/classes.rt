@@ -1,17 +1,16 @@
 // Classes of equivalent nodes (§11.3): nodes with equal counts, refined round by round by where their arcs lead, each class known by its
 // least node.
 ghost use mathlib.Core.Path.{_≡_};
-ghost use Prim.Native.Nat.{_+_, _*_, _≤_, _<_};
+ghost use Prim.Native.Nat.{_+_, _*_, _≤_};
 ghost use lib.ListN.{length};
-ghost use Rattle.row_starts.specs.RowStarts as manual;
 ghost use Rattle.scan.specs.Scan.{all};
 ghost use Rattle.automaton.specs.Equivalence.{leaderBy};
 ghost use Rattle.sequential.specs.Petri.{petriNet};
 ghost use Rattle.sequential.specs.Words.{nodeCount, entryCount, entryValue, graph};
 ghost use Rattle.graph.specs.Readable.{Readable};
-ghost use Rattle.minimize.specs.Tables.{classIn, Classes};
-ghost use Rattle.minimize.specs.Agree.{hasKey, valuesAgree, keysAgree, Valued, Rows, rowKey, rowWidth, RowsOf};
-ghost use Rattle.minimize.specs.Leaders.{LeadersBy, rowsAlike, split, sameEntry};
+ghost use Rattle.minimize.specs.Tables.{Paged, classIn, Classes};
+ghost use Rattle.minimize.specs.Agree.{hasKey, valuesAgree, keysAgree, Valued, Rows, rowKey, rowWidth, RowsOf, TwoRows};
+ghost use Rattle.minimize.specs.Leaders.{LeadersBy, rowsAlike, split, RoundAt, sameEntry};
 
 // The rows of all nodes, of their counts or of their arcs: how many keys each has, and the entry at which it starts.
 struct NodeRows {
@@ -33,7 +32,6 @@ fn has_key(sheet: &[u32], i: usize, key: u32) -> bool
 
 // Whether the values of entries i and j agree: counts as they are, targets of arcs by their classes.
 fn values_agree(sheet: &[u32], classes: &[u8], counts: bool, i: usize, j: usize) -> bool
-    requires { ⌜ length (now sheet) ≡ 2 + 2 * entryCount (now sheet) ⌝ }
     requires { ⌜ Valued (now sheet) (now classes) counts i ⌝ }
     requires { ⌜ Valued (now sheet) (now classes) counts j ⌝ }
     ensures { λ r. ⌜ r ≡ valuesAgree (now (classes .entry)) counts (entryValue (now (sheet .entry)) i) (entryValue (now (sheet .entry)) j) ⌝ }
@@ -105,9 +103,9 @@ fn row_width(net: &[u32], counts: bool) -> u32
 
 // The rows of a kind.
 fn rows_of(net: &[u32], sheet: &[u32], page: &[u16; 4096], counts: bool) -> NodeRows
-    requires { ⌜ Readable (now net) (now sheet) ⌝ }
-    requires { ⌜ now page ≡ manual.page ⌝ }
-    ensures { λ r. ⌜ RowsOf (now (page .entry)) (now (net .entry)) (now (sheet .entry)) counts r ⌝ }
+    requires { ⌜ Paged (now page) (now net) (now sheet) ⌝ }
+    ensures { λ r. ⌜ r .counts ≡ counts ⌝ }
+    ensures { λ r. ⌜ RowsOf (now (page .entry)) (now (net .entry)) (now (sheet .entry)) r ⌝ }
 {
     let nodes = sheet[0];
     let entries = sheet[1] as usize;
@@ -136,10 +134,7 @@ fn nodes_agree(
     n: u32,
     m: u32,
 ) -> bool
-    requires { ⌜ Readable (now net) (now sheet) ⌝ }
-    requires { ⌜ n < nodeCount (now sheet) ⌝ }
-    requires { ⌜ m < nodeCount (now sheet) ⌝ }
-    requires { ⌜ RowsOf (now page) (now net) (now sheet) (rows .counts) rows ⌝ }
+    requires { ⌜ TwoRows (now page) (now net) (now sheet) rows n m ⌝ }
     ensures { λ r. ⌜ r ≡ rowsAlike (graph (petriNet (now (net .entry))) (now (sheet .entry))) (rows .counts) (classIn classes) n m ⌝ }
 {
     let counts = rows.counts;
@@ -161,10 +156,7 @@ fn leader(
     next: [u8; 128],
     n: u32,
 ) -> u32
-    requires { ⌜ Readable (now net) (now sheet) ⌝ }
-    requires { ⌜ n < nodeCount (now sheet) ⌝ }
-    requires { ⌜ RowsOf (now page) (now net) (now sheet) (rows .counts) rows ⌝ }
-    requires { ⌜ LeadersBy (split (graph (petriNet (now net)) (now sheet)) (rows .counts) (classIn classes)) n next ⌝ }
+    requires { ⌜ RoundAt (now page) (now net) (now sheet) rows classes next n ⌝ }
     ensures { λ r. ⌜ r ≡ leaderBy (split (graph (petriNet (now (net .entry))) (now (sheet .entry))) (rows .counts) (classIn classes)) n ⌝ }
 {
     let class = classes[n as usize];
@@ -191,8 +183,7 @@ fn round(
     rows: NodeRows,
     classes: [u8; 128],
 ) -> [u8; 128]
-    requires { ⌜ Readable (now net) (now sheet) ⌝ }
-    requires { ⌜ RowsOf (now page) (now net) (now sheet) (rows .counts) rows ⌝ }
+    requires { ⌜ RowsOf (now page) (now net) (now sheet) rows ⌝ }
     ensures { λ r. ⌜ LeadersBy (split (graph (petriNet (now (net .entry))) (now (sheet .entry))) (rows .counts) (classIn classes)) (nodeCount (now (sheet .entry))) r ⌝ }
 {
     let nodes = sheet[0];
@@ -223,8 +214,7 @@ fn same_tables(a: [u8; 128], b: [u8; 128], nodes: usize) -> bool
 
 // A table of classes in which two nodes have one entry exactly where they are equivalent.
 pub(crate) fn classes(net: &[u32], sheet: &[u32], page: &[u16; 4096]) -> [u8; 128]
-    requires { ⌜ Readable (now net) (now sheet) ⌝ }
-    requires { ⌜ now page ≡ manual.page ⌝ }
+    requires { ⌜ Paged (now page) (now net) (now sheet) ⌝ }
     ensures { λ r. ⌜ Classes (graph (petriNet (now (net .entry))) (now (sheet .entry))) r ⌝ }
 {
     let nodes = sheet[0] as usize;

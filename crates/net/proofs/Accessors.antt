@@ -1,40 +1,38 @@
 -- On a net that passes 1 to 4 the weight that bisection finds is the weight at the key, one by one and a row at once; so are capacities told.
-use Prim.Native.Nat.{ℕ, zero, suc, _+_, _*_, _≤_}
-use native.Mathlib.Omega.{arith}
-use mathlib.Core.Path.{_≡_, refl, sym, ap, _∙_}
-use mathlib.Core.List.{List}
-use mathlib.Core.Bool.{Bool, true, false, cond, _&&_}
-use mathlib.Core.Option.{Option, none, some, Option·map, Option·getD}
-use lib.ListN.{replicate}
-use lib.Dec.{ltb}
-use borrow.Author.Tests.{ne-eqb}
+use Rattle.scan.proofs.Basics.{ℕ, zero, suc, _+_, _*_, _≤_, arith, _≡_, refl, sym, ap, _∙_, Bool, true, false, cond, _&&_, ltb, Option, none, some, Option·map, Option·getD, List, replicate}
+use lib.ListN.{getD-replicate}
+use Rattle.scan.proofs.Tests.{ne-eqb}
 use Rattle.scan.specs.Scan.{found, foundOr, tabulate}
 use Rattle.scan.proofs.First.{none-some}
-use Rattle.scan.proofs.Tabulate.{tabulate-ext}
+use Rattle.scan.proofs.Tabulate.{tabulate-is}
 use Rattle.table.specs.Table.{entryOf}
 use Rattle.table.specs.Bisection.{foundOf}
 use Rattle.table.proofs.Table.{entry-some}
 use Rattle.table.proofs.Bisection.{look-up}
 use Rattle.table.proofs.Row.{value-row-is}
 use Rattle.refusal.specs.Limits.{mostCount}
+use Rattle.refusal.specs.Verdict.{verdictOf}
 use Rattle.refusal.specs.declared.Refusal.{Refusal}
+use Rattle.refusal.specs.declared.Verdict.{Verdict}
+use Rattle.refusal.specs.declared.Verdict.the-variants.{Accepted, Refused}
+use Rattle.refusal.proofs.Verdicts.{answer-none, answer-some}
 use Rattle.net.specs.Net.{placeCount, transitionCount, entryCount, weightAt, taken, put, start, capacity, entryWeight}
 use Rattle.net.specs.Check.{within, shapeFault}
 use Rattle.net.specs.Accessors.{capacityTold, capacityOfWord, wordAllows, weightFound, weightReply, shaped, rowReply, rowWeights, weightOrZero, rowOrZeros}
 use Rattle.net.specs.Accessors.{takenReply, putReply, startReply, capacityReply, takenRowReply, putRowReply, startRowReply, capacityRowReply}
 use Rattle.net.specs.Demands.{AccessorsRight}
-use Rattle.net.specs.declared.PlaceCapacity.the-variants.{Unlimited, AtMost}
+use Rattle.net.specs.declared.PlaceCapacity.the-variants.{AtMost}
 use Rattle.net.proofs.Shape.{shape-in}
 use Rattle.net.specs.Known.{EntriesPass}
 use Rattle.net.proofs.Entries.{entries-rise, entries-fit}
 
-pub shaped-true : (net : List ℕ) → shapeFault net ≡ none → shaped net ≡ true
+pub shaped-true : (net : List ℕ) {v : Verdict} → v ≡ verdictOf (shapeFault net) → v ≡ Accepted → shaped net ≡ true
 unfolding shaped found
-shaped-true net h = rw h
+shaped-true net e h = rw (answer-none (shapeFault net) (sym e ∙ h))
 
-pub shaped-false : (net : List ℕ) (r : Refusal) → shapeFault net ≡ some r → shaped net ≡ false
+pub shaped-false : (net : List ℕ) {v : Verdict} {r : Refusal} → v ≡ verdictOf (shapeFault net) → v ≡ Refused r → shaped net ≡ false
 unfolding shaped found
-shaped-false net r h = rw h
+shaped-false net {r = r} e h = rw (answer-some (shapeFault net) r (sym e ∙ h))
 
 found-weight : (net : List ℕ) (o : Option ℕ) → weightFound net (foundOf o) ≡ foundOr 0 (entryWeight net) o
 found-weight net none = refl
@@ -42,29 +40,19 @@ found-weight net (some i) = refl
 
 -- ---- words of the row of capacities, of which none is 0
 
-pub word-none : {n : ℕ} → n ≡ 0 → Unlimited ≡ capacityOfWord n
-word-none h = rw h
-
 pub word-some : (n : ℕ) → (n ≡ 0 → ⊥) → AtMost n ≡ capacityOfWord n
 word-some zero h = absurd (h refl)
 word-some (suc n) h = refl
 
-module _ (o : Option ℕ) (some-capacity : (c : ℕ) → o ≡ some c → 1 ≤ c) where
-  word-told : capacityOfWord (Option·getD o 0) ≡ capacityTold o
-  word-told = go o some-capacity
-    where
-      go : (o : Option ℕ) → ((c : ℕ) → o ≡ some c → 1 ≤ c) → capacityOfWord (Option·getD o 0) ≡ capacityTold o
-      go none h = refl
-      go (some zero) h = let z = h 0 refl in absurd (omega arith)
-      go (some (suc c)) h = refl
+word-told : (o : Option ℕ) → ((c : ℕ) → o ≡ some c → 1 ≤ c) → capacityOfWord (Option·getD o 0) ≡ capacityTold o
+word-told none h = refl
+word-told (some zero) h = let z = h 0 refl in absurd (omega arith)
+word-told (some (suc c)) h = refl
 
-  pub word-allows : (n : ℕ) → wordAllows (Option·getD o 0) n ≡ within o n
-  unfolding wordAllows
-  word-allows n = go o some-capacity
-    where
-      go : (o : Option ℕ) → ((c : ℕ) → o ≡ some c → 1 ≤ c) → wordAllows (Option·getD o 0) n ≡ within o n
-      go none h = refl
-      go (some c) h = let z = h c refl in rw (ne-eqb c 0 (λ e. omega arith))
+pub word-allows : (o : Option ℕ) → ((c : ℕ) → o ≡ some c → 1 ≤ c) → (n : ℕ) → wordAllows (Option·getD o 0) n ≡ within o n
+unfolding wordAllows
+word-allows none h n = refl
+word-allows (some c) h n = let z = h c refl in rw (ne-eqb c 0 (λ e. omega arith))
 
 -- the word is the weight at the key
 map-word : (net : List ℕ) (b : Bool) (o : Option ℕ) → Option·getD (cond b (Option·map (entryWeight net) o) none) 0 ≡ cond b (foundOr 0 (entryWeight net) o) 0
@@ -78,17 +66,9 @@ capacity-word net p = map-word net (ltb p (placeCount net)) (entryOf net 3 (entr
 
 -- ---- rows
 
--- no row
-abbrev nothing : ℕ → ℕ
-nothing p = 0
-
-zeros : replicate 32 0 ≡ tabulate nothing 32
-unfolding tabulate
-zeros = refl
-
 module _ (net : List ℕ) (e : EntriesPass net) where
   is-shaped : shaped net ≡ true
-  is-shaped = shaped-true net (shape-in net (e .shape))
+  is-shaped = shaped-true net refl (ap verdictOf (shape-in net (e .shape)))
 
   weight-right : (key : ℕ) → weightReply net key ≡ weightAt net key
   unfolding weightReply weightAt
@@ -106,7 +86,7 @@ module _ (net : List ℕ) (e : EntriesPass net) where
   unfolding rowOrZeros rowWeights weightAt entryWeight
   row-is true row f h =
       rw is-shaped (value-row-is net 3 (entryCount net) (row * placeCount net) (placeCount net) (entries-rise net e) (omega (arith, e .shape .whole)) f (λ p l. h p))
-  row-is false row f h = zeros ∙ tabulate-ext nothing f 32 (λ p l. sym (h p))
+  row-is false row f h = tabulate-is f 0 32 (replicate 32 0) refl (λ p l. getD-replicate {A = ℕ} 32 p 0 0 l ∙ sym (h p))
 
   -- a capacity is a weight: from 1 to the limit
   pub capacity-range : (p c : ℕ) → capacity net p ≡ some c → (1 ≤ c) × (c ≤ mostCount)

@@ -1,22 +1,14 @@
 -- The net's tests decide its clauses; so it is accepted exactly where all pass, and refused exactly by the one that fails first.
-use Prim.Native.Nat.{ℕ}
-use mathlib.Core.Path.{_≡_, refl, sym, ap, _∙_}
-use mathlib.Core.Logic.{_↔_}
-use mathlib.Core.List.{List}
-use mathlib.Core.Bool.{true, false, not}
-use mathlib.Core.Option.{Option, none, some}
-use borrow.Author.Tests.{ltb-false, le-ltb, leb-true, le-leb, eqb-true, eq-eqb}
+use Rattle.scan.proofs.Basics.{ℕ, _≡_, refl, sym, ap, _∙_, _↔_, true, false, not, Option, none, some, List}
+use Rattle.scan.proofs.Tests.{ltb-false, le-ltb, leb-true, le-leb, eqb-true, eq-eqb, decides-not}
 use Rattle.scan.specs.Scan.{orElse, when, first}
-use Rattle.scan.proofs.First.{none-some, orElse-next, orElse-assoc}
-use Rattle.scan.proofs.Tests.{decides-not}
+use Rattle.scan.proofs.First.{none-some, orElse-assoc}
 use Rattle.scan.proofs.Every.{all-in, all-out, any-in, any-out}
 use Rattle.table.proofs.Keys.{key-passes}
 use Rattle.refusal.specs.Refusal.{refusal}
-use Rattle.refusal.specs.Verdict.{verdictOf}
 use Rattle.refusal.specs.Finding.{foundAt, foundBy, lineFinds, finding}
 use Rattle.refusal.specs.declared.Position.the-variants.{Nothing}
-use Rattle.refusal.specs.declared.Refusal.{Refusal}
-use Rattle.refusal.proofs.Checks.{Decides, Decided, Lawful, finding-tells}
+use Rattle.refusal.proofs.Checks.{Decides, Decided, Lawful, finding-tells, _▸_}
 use Rattle.refusal.proofs.Judges.{Judges, judges-found}
 use Rattle.net.specs.Net.{placeCount, transitionCount, entryCount, keyLimit, takesNothing, isSource, hasSource, Within}
 use Rattle.net.specs.Checks.{HasSource, netChecks, IsNet}
@@ -39,48 +31,24 @@ module _ (net : List ℕ) where
 
   lawful : Lawful Unit (netChecks net) (netTests net)
   unfolding Lawful Decided Decides
-  lawful = (
-    λ h. (ltb-false _ _, le-ltb _ _),
-    (
-      λ h. decides-not _ (sizes-out net) (sizes-in net),
-      (
-        λ h. decides-not _ (eqb-true _ _) (eq-eqb _ _),
-        (
-          λ h i l. (key-passes net 3 (keyLimit net) i, λ k. ((weight-out net i, weight-in net i), λ p. tt)),
-          (
-            λ h p l. (decides-not _ (within↔ _ _ .0) (within↔ _ _ .1), λ x. tt),
-            (λ h. source-decided, tt),
-          ),
-        ),
-      ),
-    ),
-  )
+  lawful =
+      (λ h. (ltb-false _ _, le-ltb _ _))
+      ▸ (λ h. decides-not _ (sizes-out net) (sizes-in net))
+      ▸ (λ h. decides-not _ (eqb-true _ _) (eq-eqb _ _))
+      ▸ (λ h i l. (key-passes net 3 (keyLimit net) i, λ k. ((weight-out net i, weight-in net i), λ p. tt)))
+      ▸ (λ h p l. (decides-not _ (within↔ _ _ .0) (within↔ _ _ .1), λ x. tt))
+      ▸ (λ h. source-decided)
+      ▸ tt
 
   pub net-judged : Judges (netReply net) (netChecks net)
   unfolding netReply
   net-judged = judges-found _ (netChecks net) (finding-tells Unit (netChecks net) (netTests net) lawful tt)
 
   -- the functions' parts, one after the other
-  abbrev sourceFault : Option Refusal
-  sourceFault = when (not (hasSource net)) (refusal 5 Nothing)
-
   pub net-fault : finding (netChecks net) (netTests net)
-      ≡ orElse (shapeFault net) (orElse (first (entryFault net) (entryCount net)) (orElse (first (overfullFault net) (placeCount net)) sourceFault))
+      ≡ orElse (shapeFault net) (orElse (first (entryFault net) (entryCount net)) (orElse (first (overfullFault net) (placeCount net)) (when (not (hasSource net)) (refusal 5 Nothing))))
   unfolding finding foundBy lineFinds foundAt shapeFault entryFault overfullFault
   net-fault = sym (orElse-assoc _ _ _ ∙ ap (orElse _) (orElse-assoc _ _ _))
-
-  pub after-shape : shapeFault net ≡ none
-      → netReply net ≡ verdictOf (orElse (first (entryFault net) (entryCount net)) (orElse (first (overfullFault net) (placeCount net)) sourceFault))
-  unfolding netReply
-  after-shape s = ap verdictOf (net-fault ∙ orElse-next _ _ s)
-
-  pub after-entries : shapeFault net ≡ none → first (entryFault net) (entryCount net) ≡ none
-      → netReply net ≡ verdictOf (orElse (first (overfullFault net) (placeCount net)) sourceFault)
-  after-entries s e = after-shape s ∙ ap verdictOf (orElse-next _ _ e)
-
-  pub after-starts : shapeFault net ≡ none → first (entryFault net) (entryCount net) ≡ none → first (overfullFault net) (placeCount net) ≡ none
-      → netReply net ≡ verdictOf sourceFault
-  after-starts s e o = after-entries s e ∙ ap verdictOf (orElse-next _ _ o)
 
   -- a net is all that passes 1 to 4, starts within its capacities and has a source
   pub net-entries : IsNet net → EntriesPass net

@@ -1,16 +1,8 @@
 -- A net of more words than fit is answered as its first words are: the largest has 4,227.
-use Prim.Native.Nat.{ℕ, _+_, _*_, _≤_, _<_}
-use native.Mathlib.Omega.{arith}
-use mathlib.Core.Path.{_≡_, sym, ap, _∙_}
-use mathlib.Core.List.{List}
-use mathlib.Core.Bool.{true, false, cond}
-use mathlib.Core.Option.{some}
-use lib.Dec.{ltb, leb, eqb}
-use lib.ListN.{length, take}
+use Rattle.scan.proofs.Basics.{ℕ, _+_, _*_, _≤_, _<_, arith, _≡_, sym, ap, _∙_, true, false, cond, ltb, leb, eqb, some, List, length, take}
 use lib.Seq.{getD-take, take-all, length-take-le}
-use borrow.Author.Tests.{leb-true, leb-false, le-ltb, ne-eqb}
+use Rattle.scan.proofs.Tests.{le-ltb, leb-true, leb-false, ne-eqb, byTest}
 use Rattle.scan.specs.Scan.{orElse, when}
-use Rattle.scan.proofs.Tests.{byTest}
 use Rattle.scan.proofs.First.{orElse-hit}
 use Rattle.refusal.specs.Refusal.{refusal}
 use Rattle.net.specs.Net.{placeCount, transitionCount, entryCount}

@@ -1,14 +1,6 @@
 -- 3 and 4: the keys and weights of a net. Its keys rise, so each weight is found at its key.
-use Prim.Native.Nat.{ℕ, _+_, _≤_}
-use native.Mathlib.Omega.{arith}
-use mathlib.Core.Path.{_≡_, refl}
-use mathlib.Core.List.{List}
-use mathlib.Core.Bool.{false}
-use mathlib.Core.Option.{Option, none, some}
-use lib.ListN.{length}
-use lib.Dec.{eqb}
-use borrow.Author.Tests.{ltb-false, eqb-false, le-ltb, ne-eqb}
-use Rattle.scan.proofs.Tests.{or-none-left, or-none-right}
+use Rattle.scan.proofs.Basics.{ℕ, _+_, _≤_, arith, _≡_, refl, false, eqb, Option, none, some, List, length}
+use Rattle.scan.proofs.Tests.{ltb-false, le-ltb, eqb-false, ne-eqb, or-none-left, or-none-right}
 use Rattle.scan.proofs.First.{orElse-left, orElse-right, when-none, first-all}
 use Rattle.table.specs.Table.{Rising, entryOf}
 use Rattle.table.proofs.Table.{entry-some}
@@ -17,7 +9,7 @@ use Rattle.net.specs.Net.{entryCount, entryWeight, keyLimit, weightAt}
 use Rattle.table.proofs.Keys.{key-passes, keys-rise}
 use Rattle.refusal.specs.Finding.{foundAt, lineFinds}
 use Rattle.net.specs.Checks.{WeightPasses}
-use Rattle.net.specs.Known.{EntryPasses, EntriesPass}
+use Rattle.net.specs.Known.{EntriesPass}
 use Rattle.net.specs.Check.{weightFails, shapeFault, entryFault}
 use Rattle.net.proofs.Shape.{shape-out}
 use Rattle.scan.specs.Scan.{foundOr, first}
@@ -35,15 +27,13 @@ weight-in net i w =
     let a = w .some in
     rw (ne-eqb (entryWeight net i) 0 (λ e. omega arith), le-ltb mostCount (entryWeight net i) (w .most))
 
-pub entry-out : (net : List ℕ) (i : ℕ) → entryFault net i ≡ none → EntryPasses net i
-unfolding entryFault lineFinds foundAt
-entry-out net i h = record {
-  key = key-passes net 3 (keyLimit net) i .0 (when-none _ _ (orElse-left _ _ h));
-  weight = weight-out net i (when-none _ _ (orElse-right _ _ h));
-}
-
 pub entries-out : (net : List ℕ) → shapeFault net ≡ none → first (entryFault net) (entryCount net) ≡ none → EntriesPass net
-entries-out net s h = record { shape = shape-out net s; each = λ i l. entry-out net i (first-all _ _ h i l) }
+unfolding entryFault lineFinds foundAt
+entries-out net s h = record {
+  shape = shape-out net s;
+  each = λ i l. let e = first-all _ _ h i l in
+      record { key = key-passes net 3 (keyLimit net) i .0 (when-none _ _ (orElse-left _ _ e)); weight = weight-out net i (when-none _ _ (orElse-right _ _ e)) };
+}
 
 pub entries-rise : (net : List ℕ) → EntriesPass net → Rising net 3 (entryCount net)
 entries-rise net e = keys-rise net 3 (keyLimit net) (entryCount net) (λ i l. e .each i l .key)

@@ -1,5 +1,5 @@
 -- The table of worked nets holds: one computation of the definitions.
-use mathlib.Core.Path.{_≡_, refl}
+use Rattle.scan.proofs.Basics.{_≡_, refl}
 use Rattle.scan.specs.Scan.{orElse, when, found, first, all, any}
 use Rattle.table.specs.Table.{keyAt, valueAt, entryWith, entryOf}
 use Rattle.net.specs.Net.{placeCount, transitionCount, entryCount, entryWeight, keyLimit, weightAt, taken, start, capacity, takesNothing, isSource, hasSource}

@@ -1,14 +1,9 @@
 -- What the crates above use of a net: its sizes, the range of its weights and capacities, and that nothing else has any.
 -- They stand on these and on the accessors' contracts, and open no definition of the net.
-use Prim.Native.Nat.{ℕ, _≤_, _+_, _*_}
-use native.Mathlib.Omega.{arith}
+use Rattle.scan.proofs.Basics.{ℕ, _+_, _*_, _≤_, arith, _≡_, Bool, true, false, cond, _&&_, ltb, none, some, List}
 use native.Mathlib.Decide.{decLt}
-use mathlib.Core.Path.{_≡_}
-use mathlib.Core.List.{List}
-use mathlib.Core.Bool.{Bool, true, false, cond, _&&_, and-false}
-use mathlib.Core.Option.{none, some}
-use borrow.Author.Tests.{le-ltb}
-use Rattle.scan.proofs.Tests.{byTest}
+use mathlib.Core.Bool.{and-false}
+use Rattle.scan.proofs.Tests.{le-ltb, byTest}
 use Rattle.scan.proofs.First.{none-some}
 use Rattle.table.proofs.Table.{entry-absent}
 use Rattle.refusal.specs.Limits.{mostCount}
@@ -21,7 +16,6 @@ use Rattle.net.proofs.Accessors.{capacity-range, accessors-right}
 use Rattle.net.specs.Known.{EntriesPass}
 use Rattle.net.proofs.Entries.{weight-small}
 use Rattle.net.proofs.Checks.{net-judged, net-entries}
-use lib.Dec.{ltb}
 
 -- ---- outside the net
 

@@ -1,11 +1,5 @@
 -- 26 on a net that passes 1 to 4: what the rows of starts and of capacities say of a place.
-use Prim.Native.Nat.{ℕ, _+_, _*_, _<_}
-use native.Mathlib.Omega.{arith}
-use mathlib.Core.Path.{_≡_, ap, _∙_}
-use mathlib.Core.List.{List}
-use mathlib.Core.Bool.{true, not}
-use mathlib.Core.Option.{Option·getD}
-use lib.ListN.{getD}
+use Rattle.scan.proofs.Basics.{ℕ, _+_, _*_, _<_, arith, _≡_, ap, _∙_, true, not, Option·getD, List, getD}
 use Rattle.scan.specs.Scan.{when}
 use Rattle.scan.proofs.Tabulate.{tabulate-at}
 use Rattle.refusal.specs.Refusal.{refusal}

@@ -1,15 +1,8 @@
 -- 1 and 2: the sizes and the length of a net.
-use Prim.Native.Nat.{ℕ, _+_, _*_, _≤_}
-use native.Mathlib.Omega.{arith}
+use Rattle.scan.proofs.Basics.{ℕ, _+_, _*_, _≤_, arith, _≡_, true, none, List, length}
 use native.Mathlib.Nat.{mul-le-mul}
-use mathlib.Core.Path.{_≡_}
-use mathlib.Core.List.{List}
-use mathlib.Core.Bool.{true}
-use mathlib.Core.Option.{none}
-use lib.ListN.{length}
-use borrow.Author.Tests.{leb-true, eqb-true, not-false, le-leb, le-ltb, eq-eqb}
+use Rattle.scan.proofs.Tests.{le-ltb, leb-true, le-leb, eqb-true, eq-eqb, not-false, and-left, and-right, and-both}
 use Rattle.scan.specs.Scan.{orElse, when}
-use Rattle.scan.proofs.Tests.{and-left, and-right, and-both}
 use Rattle.scan.proofs.First.{orElse-left, orElse-right, when-none}
 use Rattle.net.specs.Net.{placeCount, transitionCount, entryCount, keyLimit}
 use Rattle.refusal.specs.Finding.{foundBy, finding}

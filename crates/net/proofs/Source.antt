@@ -1,12 +1,7 @@
 -- A transition is a source exactly when no key lies in its row; so where bisection ends at the row's start tells.
-use Prim.Native.Nat.{ℕ, _+_, _*_, _-_, _≤_, _<_}
-use native.Mathlib.Omega.{arith}
+use Rattle.scan.proofs.Basics.{ℕ, _+_, _-_, _*_, _≤_, _<_, arith, _≡_, sym, ap, _∙_, true, false, leb, List}
 use native.Mathlib.Decide.{decLt}
-use mathlib.Core.Path.{_≡_, sym, ap, _∙_}
-use mathlib.Core.List.{List}
-use mathlib.Core.Bool.{true, false}
-use lib.Dec.{leb}
-use borrow.Author.Tests.{lt-ltb, le-leb, lt-leb, eq-eqb, ne-eqb}
+use Rattle.scan.proofs.Tests.{lt-ltb, le-leb, lt-leb, eq-eqb, ne-eqb}
 use Rattle.scan.proofs.Every.{all-in, all-fails}
 use Rattle.table.specs.Table.{keyAt}
 use Rattle.table.specs.Bisection.{lowerBound}

@@ -22,6 +22,12 @@ pub record Known (net : List ℕ) : Type 0 where
   pub few-keys : keyCount (getD net 0 0) (getD net 1 0) ≤ 2112
   pub few-entries : getD net 2 0 ≤ 2112
 
+-- what 3 and 4 at entry i are told of the words
+pub record EntryAt (net : List ℕ) (entries limit i : ℕ) : Type 0 where
+  pub within : 3 + entries + i < length net
+  pub entries-are : entries ≡ entryCount net
+  pub limit-is : limit ≡ keyLimit net
+
 -- 3 and 4 refuse nothing at entry i
 pub record EntryPasses (net : List ℕ) (i : ℕ) : Type 0 where
   pub key : KeyPasses net 3 (keyLimit net) i

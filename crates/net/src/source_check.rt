@@ -7,8 +7,7 @@ ghost use Rattle.net.specs.Known.{Known, EntriesPass};
 // Whether t is a source (§2.9): no key lies in its row, from t × P to (t + 1) × P.
 fn is_source(net: &[u32], t: u32) -> bool
     requires { ⌜ Known (now net) ⌝ }
-    requires { ⌜ EntriesPass (now net) ⌝ }
-    requires { ⌜ t < transitionCount (now net) ⌝ }
+    requires { ⌜ EntriesPass (now net) × (t < transitionCount (now net)) ⌝ }
     ensures { λ r. ⌜ r ≡ isSource (now (net .entry)) t ⌝ }
 {
     let places = net[0];

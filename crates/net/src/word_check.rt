@@ -1,10 +1,9 @@
 // Refusals 1 to 4: the sizes and the length of the words, and their entries one by one.
 ghost use mathlib.Core.Path.{_≡_};
-ghost use Prim.Native.Nat.{_+_, _≤_, _<_};
-ghost use lib.ListN.{length};
+ghost use Prim.Native.Nat.{_≤_};
 ghost use Rattle.scan.specs.Scan.{first};
-ghost use Rattle.net.specs.Net.{keyCount, entryCount, keyLimit};
-ghost use Rattle.net.specs.Known.{Known};
+ghost use Rattle.net.specs.Net.{keyCount, entryCount};
+ghost use Rattle.net.specs.Known.{Known, EntryAt};
 ghost use Rattle.net.specs.Check.{sizesPass, shapeFault, weightFails, entryFault};
 ghost use Rattle.refusal.specs.Limits.{mostPlaces, mostTransitions};
 ghost use Rattle.refusal.specs.Verdict.{verdictOf};
@@ -70,9 +69,7 @@ fn weight_fails(weight: u32) -> bool
 
 // Refusals 3 and 4 at entry i.
 fn entry_fault(net: &[u32], entries: usize, limit: u32, i: usize) -> Verdict
-    requires { ⌜ 3 + entries + i < length (now net) ⌝ }
-    requires { ⌜ entries ≡ entryCount (now net) ⌝ }
-    requires { ⌜ limit ≡ keyLimit (now net) ⌝ }
+    requires { ⌜ EntryAt (now net) entries limit i ⌝ }
     ensures { λ r. ⌜ r ≡ verdictOf (entryFault (now (net .entry)) i) ⌝ }
 {
     if table::key_fails(net, 3, limit, i) {

@@ -1,11 +1,5 @@
 -- Marks and paths are what they are promised to be.
-use Prim.Native.Nat.{ℕ, _<_}
-use native.Mathlib.Omega.{arith}
-use mathlib.Core.Path.{_≡_, refl, sym, ap, _∙_}
-use mathlib.Core.Logic.{_↔_}
-use mathlib.Core.List.{List}
-use mathlib.Core.Bool.{Bool, true, false}
-use lib.ListN.{getD}
+use Rattle.scan.proofs.Basics.{ℕ, _<_, arith, _≡_, refl, sym, ap, _∙_, _↔_, Bool, true, false, List, getD}
 use Rattle.scan.specs.Scan.{orElse, first, bit}
 use Rattle.scan.proofs.Tabulate.{tabulate-at}
 use Rattle.refusal.specs.Verdict.{verdictOf}

@@ -1,11 +1,5 @@
 -- What checks in an order find is the one that fails first, and they find nothing exactly where all pass: where the tests decide the clauses.
-use Prim.Native.Nat.{ℕ, _<_}
-use native.Mathlib.Omega.{arith}
-use mathlib.Core.Path.{_≡_, refl, sym, ap, _∙_}
-use mathlib.Core.Logic.{_⊎_, _↔_, inl, inr, ⊎-elim}
-use mathlib.Core.Bool.{Bool, false}
-use mathlib.Core.List.{List, [], _∷_}
-use mathlib.Core.Option.{Option, none, some}
+use Rattle.scan.proofs.Basics.{ℕ, _<_, arith, _≡_, refl, sym, ap, _∙_, _⊎_, inl, inr, ⊎-elim, _↔_, Bool, false, Option, none, some, List, [], _∷_}
 use Rattle.scan.specs.Scan.{orElse, when, first}
 use Rattle.scan.proofs.Tests.{byTest, true-false}
 use Rattle.scan.proofs.First.{none-some, orElse-left, orElse-right, orElse-next, orElse-hit, orElse-cases, when-hit, when-miss, when-none, when-some, first-all, first-empty, first-at, first-hit}
@@ -112,6 +106,11 @@ Lawful H [] [] = Unit
 Lawful H [] (t ∷ tests) = ⊥
 Lawful H (c ∷ cs) [] = ⊥
 Lawful H (c ∷ cs) (t ∷ tests) = (H → Decided c t) × Lawful (H × Passes c) cs tests
+
+-- what is shown of each, in their order
+infixr 60 _▸_
+abbrev pub _▸_ : {A B : Type 0} → A → B → A × B
+a ▸ b = (a, b)
 
 pub finding-tells : (H : Type 0) (cs : List Check) (tests : List Tests) → Lawful H cs tests → H → Tells (finding cs tests) cs
 unfolding Lawful finding

@@ -1,15 +1,7 @@
 -- Verdicts that follow a list of checks, one list after the other, and the numbers that they refuse by.
-use Prim.Native.Nat.{ℕ, _≤_, _<_}
-use native.Mathlib.Omega.{arith}
-use mathlib.Core.Path.{_≡_, refl, ap, _∙_}
-use mathlib.Core.Logic.{_⊎_, _↔_, inl, inr, ⊎-elim}
-use mathlib.Core.Bool.{Bool, true, not, _&&_}
-use mathlib.Core.List.{List, [], _∷_, _++_}
-use mathlib.Core.Option.{Option}
-use lib.Dec.{eqb}
-use borrow.Author.Tests.{eqb-false, not-true}
+use Rattle.scan.proofs.Basics.{ℕ, _≤_, _<_, arith, _≡_, refl, ap, _∙_, _⊎_, inl, inr, ⊎-elim, _↔_, Bool, true, not, _&&_, eqb, Option, List, [], _∷_, _++_}
+use Rattle.scan.proofs.Tests.{eqb-false, not-true, and-left, and-right, and-both}
 use Rattle.scan.specs.Scan.{orElse}
-use Rattle.scan.proofs.Tests.{and-left, and-right, and-both}
 use Rattle.refusal.specs.Verdict.{verdictOf, andThen}
 use Rattle.refusal.specs.Checks.{Clause, Check, once, each, FailAt, Fails, AllPass, FirstFails}
 use Rattle.refusal.specs.declared.Position.{Position}

@@ -1,10 +1,5 @@
 -- Verdicts and what they tell: a finding that refuses, and one check after the other.
-use Prim.Native.Nat.{ℕ, _<_}
-use mathlib.Core.Path.{_≡_, refl, ap, sym, _∙_}
-use mathlib.Core.Logic.{_⊎_, inl, inr}
-use mathlib.Core.List.{[], _∷_, _++_}
-use mathlib.Core.Option.{Option, none, some}
-use lib.ListN.{replicate}
+use Rattle.scan.proofs.Basics.{ℕ, _<_, _≡_, refl, sym, ap, _∙_, _⊎_, inl, inr, Option, none, some, [], _∷_, _++_, replicate}
 use Rattle.scan.specs.Scan.{orElse, first}
 use Rattle.scan.proofs.First.{first-hit, orElse-hit, orElse-next}
 use Rattle.refusal.specs.Refusal.{positionTold, told, plainOf, numberOf, positionOf, kindOf, indexOf}
@@ -36,6 +31,9 @@ answer-first f i n a r h e k l = k ∙ ap verdictOf (sym (first-hit f i r h (ans
 -- what is accepted lets the next check speak
 pub verdict-next : (a b : Option Refusal) → verdictOf a ≡ Accepted → verdictOf (orElse a b) ≡ verdictOf b
 verdict-next a b h = ap verdictOf (orElse-next a b (answer-none a h))
+
+pub answer-next : (a b : Option Refusal) {v w : Verdict} → v ≡ verdictOf a → v ≡ Accepted → w ≡ verdictOf b → w ≡ verdictOf (orElse a b)
+answer-next a b e h f = f ∙ sym (verdict-next a b (sym e ∙ h))
 
 pub then-next : (v w : Verdict) → v ≡ Accepted → andThen v w ≡ w
 then-next v w h = rw h

@@ -1,9 +1,6 @@
 -- The replay as an instance of what every call is: how its words are judged, and the paths of its code.
-use Prim.Native.Nat.{ℕ}
-use mathlib.Core.Path.{_≡_, refl, sym, ap, _∙_}
-use mathlib.Core.List.{List, [], _∷_, _++_}
-use mathlib.Core.Option.{none}
-use lib.ListN.{length}
+use Rattle.scan.proofs.Basics.{ℕ, _≡_, refl, sym, ap, _∙_, none, List, [], _∷_, _++_, length}
+use Rattle.scan.specs.Scan.{tabulate}
 use Rattle.scan.proofs.First.{orElse-next}
 use Rattle.scan.proofs.Tabulate.{tabulate-length}
 use Rattle.refusal.specs.Verdict.{verdictOf}
@@ -60,26 +57,23 @@ module _ (net sheet log : List ℕ) {v : Verdict} {x : Index} where
 -- ---- the buffers: a row has room where P numbers have
 
 module _ (net sheet log taken put : List ℕ) (ok : replayVerdict net sheet log ≡ Accepted) {n : ℕ} (e : n ≡ placeCount net) where
-  taken-room : {v w : Verdict} → v ≡ roomFault (length taken) n → v ≡ w → roomFault (length taken) (length (takenRow (petriNet net) log)) ≡ w
-  unfolding takenRow
-  taken-room h k = rw (tabulate-length (moved (petriNet net .taken) log) (placeCount net), ← e) (sym h ∙ k)
-
-  put-room : {v w : Verdict} → v ≡ roomFault (length put) n → v ≡ w → roomFault (length put) (length (putRow (petriNet net) log)) ≡ w
-  unfolding putRow
-  put-room h k = rw (tabulate-length (moved (petriNet net .put) log) (placeCount net), ← e) (sym h ∙ k)
+  room : (moves : ℕ → ℕ → ℕ) (out : List ℕ) {v w : Verdict} → v ≡ roomFault (length out) n → v ≡ w → roomFault (length out) (length (tabulate (moved moves log) (placeCount net))) ≡ w
+  room moves out h k = rw (tabulate-length (moved moves log) (placeCount net), ← e) (sym h ∙ k)
 
   pub taken-short : {v : Verdict} {r : Refusal} → v ≡ roomFault (length taken) n → v ≡ Refused r → ReplayWritten net sheet log taken put (Stopped r) taken put
-  taken-short h k = refused-first refl ok (taken-room h k) refl
+  unfolding takenRow
+  taken-short h k = refused-first refl ok (room (petriNet net .taken) taken h k) refl
 
   pub put-short : {v : Verdict} {r : Refusal} → v ≡ roomFault (length put) n → v ≡ Refused r → ReplayWritten net sheet log taken put (Stopped r) taken put
-  put-short h k = refused-second refl ok (put-room h k) refl
+  unfolding putRow
+  put-short h k = refused-second refl ok (room (petriNet net .put) put h k) refl
 
   pub all-written : {v w : Verdict} {r : Totals} {x : Index} {taken′ put′ : List ℕ} → x ≡ lastEntry (petriNet net) sheet (firings log)
       → v ≡ roomFault (length taken) n → v ≡ Accepted → w ≡ roomFault (length put) n → w ≡ Accepted
       → Settled net log taken put r taken′ put′ → ReplayWritten net sheet log taken put (Done (record { totals = r; entry = x })) taken′ put′
   unfolding takenRow putRow
   all-written q h k i j s =
-      answered-two refl ok (unfold takenRow in (taken-room h k)) (unfold putRow in (put-room i j)) (rw (s .all, q))
+      answered-two refl ok (room (petriNet net .taken) taken h k) (room (petriNet net .put) put i j) (rw (s .all, q))
       (s .taken-written ∙ rw (tabulate-length (moved (petriNet net .taken) log) (placeCount net))) (s .put-written ∙ rw (tabulate-length (moved (petriNet net .put) log) (placeCount net)))
 
 -- ---- what the call shows of its core

@@ -1,11 +1,6 @@
 -- Following a log turn by turn: what is known after i firings, one firing more, and the firings at which it ends.
-use Prim.Native.Nat.{ℕ, _+_, _*_, _≤_, _<_}
-use native.Mathlib.Omega.{arith}
+use Rattle.scan.proofs.Basics.{ℕ, _+_, _≤_, _<_, arith, _≡_, refl, sym, ap, _∙_, none, some, List, length, getD}
 use native.Mathlib.Numerals.{add-one}
-use mathlib.Core.Path.{_≡_, refl, sym, ap, _∙_}
-use mathlib.Core.List.{List}
-use mathlib.Core.Option.{none, some}
-use lib.ListN.{length, getD}
 use Rattle.scan.proofs.Tabulate.{tabulate-length, tabulate-at}
 use Rattle.scan.specs.Scan.{first}
 use Rattle.scan.proofs.First.{first-none, first-more, first-hit}
@@ -47,23 +42,21 @@ module _ (log : List ℕ) where
 pub record Along (starts net sheet log : List ℕ) (n node : ℕ) (entry : Index) (i : ℕ) : Type 0 where
   pub by-page : starts ≡ page
   pub readable : ArcsReadable net sheet
-  pub whole : length log ≡ 1 + 2 * n
+  pub holds : LogHolds log
   pub all : n ≡ firingCount log
-  pub few : n ≤ 4096
   pub within : i ≤ n
   pub at-node : leads (petriNet net) sheet log i ≡ some node
   pub passed : first (firingFault (petriNet net) sheet log) i ≡ none
   pub as-run : node ≡ nodeAfter (petriNet net) sheet (firings log) i
   pub by-entry : entry ≡ indexFrom (entryAfter (petriNet net) sheet (firings log) i)
 
-pub sets-out : (starts net sheet log : List ℕ) → starts ≡ page → ArcsReadable net sheet → LogHolds log → Along starts net sheet log (getD log 0 0) 0 Missing 0
+pub sets-out : {starts net sheet log : List ℕ} → starts ≡ page → ArcsReadable net sheet → LogHolds log → Along starts net sheet log (getD log 0 0) 0 Missing 0
 unfolding firingCount
-sets-out starts net sheet log p r h = record {
+sets-out {net = net} {sheet = sheet} {log = log} p r h = record {
   by-page = p;
   readable = r;
-  whole = h .whole;
+  holds = h;
   all = refl;
-  few = h .few;
   within = omega arith;
   at-node = leads-none (petriNet net) sheet log;
   passed = first-none _;
@@ -93,7 +86,7 @@ module _ {starts net sheet log : List ℕ} {n node : ℕ} {entry : Index} {i : �
         → LogFollowed (petriNet net) sheet log v entry
     not-offered h = stopped 20 (firing-stops (petriNet net) sheet log i node (w .at-node) (unfold firedAt in (arc-missing (w .by-page) net sheet (w .readable) node _ h)))
 
-    module _ (k m : ℕ) (h : arcLookUp starts net sheet node (getD log (1 + i) 0) ≡ At k) (e : m ≡ entryValue sheet k) where
+    module _ {k m : ℕ} (h : arcLookUp starts net sheet node (getD log (1 + i) 0) ≡ At k) (e : m ≡ entryValue sheet k) where
       its-entry : arcEntry (petriNet net) sheet node (firedAt log i) ≡ some k
       unfolding firedAt
       its-entry = arc-found (w .by-page) net sheet (w .readable) node _ k h
@@ -116,9 +109,8 @@ module _ {starts net sheet log : List ℕ} {n node : ℕ} {entry : Index} {i : �
       goes-on q = record {
         by-page = w .by-page;
         readable = w .readable;
-        whole = w .whole;
+        holds = w .holds;
         all = w .all;
-        few = w .few;
         within = omega arith;
         at-node = rw (add-one, e) (leads-more (petriNet net) sheet log i node (w .at-node) k its-entry);
         passed = first-more _ i (w .passed) (firing-passes (petriNet net) sheet log i node (w .at-node) k its-entry (sym logged ∙ q ∙ e));

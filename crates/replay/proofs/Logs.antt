@@ -1,16 +1,7 @@
 -- The tests of a log decide its clauses: 23, and 20 and 24 at each firing. And one firing more, or the firing at which the replay stops.
-use Prim.Native.Nat.{ℕ, suc, _+_, _*_, _≤_, _<_}
-use native.Mathlib.Omega.{arith}
-use mathlib.Core.Path.{_≡_, refl, sym, ap, _∙_}
-use mathlib.Core.Logic.{_↔_, inl, inr}
-use mathlib.Core.List.{List}
-use mathlib.Core.Bool.{true, false, not}
-use mathlib.Core.Option.{Option, none, some}
-use lib.ListN.{length}
-use lib.Dec.{eqb}
-use borrow.Author.Tests.{ltb-false, le-ltb, eqb-true, eq-eqb, ne-eqb, not-false}
+use Rattle.scan.proofs.Basics.{ℕ, suc, _+_, _*_, _≤_, _<_, arith, _≡_, refl, sym, ap, _∙_, inl, inr, _↔_, true, false, not, eqb, Option, none, some, List, length}
+use Rattle.scan.proofs.Tests.{ltb-false, le-ltb, eqb-true, eq-eqb, ne-eqb, not-false, decides-not}
 use Rattle.scan.specs.Scan.{orElse, found, foundOr, first, tabulate}
-use Rattle.scan.proofs.Tests.{decides-not}
 use Rattle.scan.proofs.First.{orElse-assoc, orElse-hit, orElse-next, when-hit, when-miss}
 use Rattle.automaton.specs.Automaton.{follow, allows}
 use Rattle.automaton.proofs.Automaton.{follow-snoc}
@@ -68,16 +59,7 @@ module _ (N : PetriNet) (sheet log : List ℕ) where
 
   replay-lawful : Lawful Unit (replayChecks N sheet log) (replayTests N sheet log)
   unfolding Lawful Decided Decides
-  replay-lawful = (
-    λ h. (ltb-false _ _, le-ltb _ _),
-    (
-      λ h. (ltb-false _ _, le-ltb _ _),
-      (
-        λ h. decides-not _ (eqb-true _ _) (eq-eqb _ _),
-        (λ h i l. (decides-not _ (λ e. e) (λ e. e), λ a. (node-decided i, λ b. tt)), tt),
-      ),
-    ),
-  )
+  replay-lawful = let (a, (b, (c, u))) = log-lawful log in (a, (b, (c, (λ h i l. (decides-not _ (λ e. e) (λ e. e), λ a. (node-decided i, λ b. tt)), tt))))
 
   pub replay-tells : Tells (replayFault N sheet log) (replayChecks N sheet log)
   unfolding replayFault

@@ -1,10 +1,5 @@
 -- A log that passes is a run: each node that it names is where its firings lead, and what they take and put balances at every place.
-use Prim.Native.Nat.{ℕ, zero, suc, _+_, _-_, _≤_, _<_}
-use native.Mathlib.Omega.{arith}
-use mathlib.Core.Path.{_≡_, sym, ap, _∙_}
-use mathlib.Core.List.{List}
-use mathlib.Core.Option.{none, some}
-use lib.ListN.{getD}
+use Rattle.scan.proofs.Basics.{ℕ, zero, suc, _+_, _-_, _≤_, _<_, arith, _≡_, sym, ap, _∙_, none, some, List, getD}
 use Rattle.scan.specs.Scan.{sum}
 use Rattle.scan.proofs.Tabulate.{tabulate-at, take-tabulate}
 use Rattle.automaton.specs.Automaton.{follow}

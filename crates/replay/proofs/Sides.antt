@@ -1,61 +1,46 @@
 -- Counting and weighing turn by turn: what is known after i firings and after t transitions; and both sides of a log, from what the rows give.
-use Prim.Native.Nat.{ℕ, _+_, _*_, _≤_, _<_}
-use native.Mathlib.Omega.{arith}
-use mathlib.Core.Path.{_≡_, refl, ap, _∙_}
-use mathlib.Core.List.{List, _++_}
-use mathlib.Core.Bool.{Bool, true, false, cond}
-use lib.ListN.{length, getD, set, take, drop, replicate, length-set}
+use Rattle.scan.proofs.Basics.{ℕ, _+_, _≤_, _<_, arith, _≡_, refl, ap, _∙_, Bool, true, false, cond, List, _++_, length, getD, take, drop, set, replicate, length-set}
 use Rattle.scan.specs.Scan.{count, sum, tabulate}
 use Rattle.scan.proofs.Count.{count-le}
 use Rattle.scan.proofs.Sum.{sum-ext}
 use Rattle.scan.specs.Placed.{placed}
 use Rattle.scan.proofs.Placed.{placed-front}
 use Rattle.scan.proofs.Tabulate.{tabulate-length, tabulate-at, tabulate-is, tabulate-ext, take-tabulate}
-use Rattle.refusal.specs.declared.Verdict.the-variants.{Accepted}
 use Rattle.net.specs.Net.{placeCount, transitionCount}
-use Rattle.net.specs.Check.{netReply}
 use Rattle.net.specs.Accessors.{takenRowReply, putRowReply}
 use Rattle.net.proofs.Laws.{sizes}
 use Rattle.sequential.specs.Petri.{petriNet}
 use Rattle.replay.specs.Log.{firingCount, firedAt, moved}
 use Rattle.replay.specs.Calls.{totalsOf, takenRow, putRow}
-use Rattle.replay.specs.Tally.{LogHolds, fires, firedTimes, sideOf, weighed, added, at, AtMost, Countable, SideDone, Settled}
+use Rattle.replay.specs.Tally.{LogHolds, fires, firedTimes, sideOf, weighed, added, at, AtMost, Countable, Weighable, SideDone, Settled}
 use Rattle.replay.proofs.Sums.{weighed-is, times-none, times-more, times-most, weighed-none, weighed-more, weighed-most, side-most, side-row}
 
 -- ---- counting
 
 pub record Counting (log : List ℕ) (n : ℕ) (often : List ℕ) (i : ℕ) : Type 0 where
-  pub whole : length log ≡ 1 + 2 * n
+  pub holds : LogHolds log
   pub all : n ≡ firingCount log
-  pub few : n ≤ 4096
   pub low : (j : ℕ) → j < n → getD log (1 + j) 0 < 32
   pub within : i ≤ n
   pub long : length often ≡ 32
   pub times : (t : ℕ) → t < 32 → getD often t 0 ≡ count (fires log t) i
 
-pub counts-none : (log : List ℕ) → LogHolds log → ((i : ℕ) → i < firingCount log → firedAt log i < 32) → Counting log (getD log 0 0) (replicate 32 0) 0
+pub counts-none : {log : List ℕ} → LogHolds log → ((i : ℕ) → i < firingCount log → firedAt log i < 32) → Counting log (getD log 0 0) (replicate 32 0) 0
 unfolding firingCount firedAt
-counts-none log h l = record {
-  whole = h .whole;
-  all = refl;
-  few = h .few;
-  low = l;
-  within = omega arith;
-  long = refl;
-  times = times-none log;
-}
+counts-none {log} h l = record { holds = h; all = refl; low = l; within = omega arith; long = refl; times = times-none log }
 
 module _ {log often : List ℕ} {n i : ℕ} (w : Counting log n often i) where
   module _ (l : i < n) where
     -- no count is above the number of firings, so one more fits
-    pub times-fit : getD often (getD log (1 + i) 0) 0 ≤ 4096
-    times-fit = omega (arith, w .times (getD log (1 + i) 0) (w .low i l), count-le (fires log (getD log (1 + i) 0)) i, w .few)
+    pub counts-fit : (getD log (1 + i) 0 < 32) × (getD often (getD log (1 + i) 0) 0 ≤ 4096)
+    counts-fit =
+        let t = w .low i l in
+        (t, omega (arith, w .times (getD log (1 + i) 0) t, count-le (fires log (getD log (1 + i) 0)) i, w .all, w .holds .few))
 
     pub counts-more : Counting log n (set often (getD log (1 + i) 0) (getD often (getD log (1 + i) 0) 0 + 1)) (i + 1)
     counts-more = record {
-      whole = w .whole;
+      holds = w .holds;
       all = w .all;
-      few = w .few;
       low = w .low;
       within = omega arith;
       long = simp length-set (w .long);
@@ -70,44 +55,33 @@ module _ {log often : List ℕ} {n i : ℕ} (w : Counting log n often i) where
 
 -- ---- weighing
 
+-- no sum of a row is above 2 ^ 50
+row-most : {net often row : List ℕ} {t : ℕ} (putting : Bool) → Weighable net often → t ≤ 32 → row ≡ tabulate (weighed (sideOf (petriNet net) putting) often t) 32 → AtMost 1125899906842624 row
+row-most {often = often} {t = t} putting W l e p k =
+    rw (e, tabulate-at (weighed _ often t) 0 32 p k) (weighed-most _ often (side-most _ (W .accepted) putting) (W .most) t l p)
+
 pub record Weighing (net often : List ℕ) (putting : Bool) (transitions : ℕ) (sums : List ℕ) (t : ℕ) : Type 0 where
-  pub accepted : netReply net ≡ Accepted
+  pub weighable : Weighable net often
   pub all : transitions ≡ transitionCount net
   pub few : transitions ≤ 32
-  pub most : AtMost 4096 often
   pub within : t ≤ transitions
   pub so-far : sums ≡ tabulate (weighed (sideOf (petriNet net) putting) often t) 32
 
-pub weighs-none : (net often : List ℕ) (putting : Bool) (transitions : ℕ) → netReply net ≡ Accepted → AtMost 4096 often → transitions ≡ transitionCount net
-    → Weighing net often putting transitions (replicate 32 0) 0
-weighs-none net often putting transitions a m e = record {
-  accepted = a;
-  all = e;
-  few = let s = sizes net a in omega arith;
-  most = m;
-  within = omega arith;
-  so-far = weighed-none _ _;
-}
-
--- no sum of a row is above 2 ^ 50
-row-most : (net often : List ℕ) (putting : Bool) (t : ℕ) (row : List ℕ) → netReply net ≡ Accepted → AtMost 4096 often → t ≤ 32
-    → row ≡ tabulate (weighed (sideOf (petriNet net) putting) often t) 32 → AtMost 1125899906842624 row
-row-most net often putting t row a m l e p k =
-    rw (e, tabulate-at (weighed (sideOf (petriNet net) putting) often t) 0 32 p k) (weighed-most _ often (side-most net a putting) m t l p)
+pub weighs-none : {net often : List ℕ} {putting : Bool} {transitions : ℕ} → Weighable net often → transitions ≡ transitionCount net → Weighing net often putting transitions (replicate 32 0) 0
+weighs-none W e = let s = sizes _ (W .accepted) in record { weighable = W; all = e; few = omega arith; within = omega arith; so-far = weighed-none _ _ }
 
 module _ {net often sums : List ℕ} {putting : Bool} {transitions t : ℕ} (w : Weighing net often putting transitions sums t) where
   pub weighs-fit : t < transitions → (getD often t 0 ≤ 4096) × AtMost 1125899906842624 sums
-  weighs-fit l = (w .most t (omega (arith, w .few)), row-most net often putting t sums (w .accepted) (w .most) (omega (arith, w .few)) (w .so-far))
+  weighs-fit l = (w .weighable .most t (omega (arith, w .few)), row-most putting (w .weighable) (omega (arith, w .few)) (w .so-far))
 
-  pub weighs-more : (row next : List ℕ) → t < transitions → row ≡ cond putting (putRowReply net t) (takenRowReply net t)
+  pub weighs-more : {row next : List ℕ} → t < transitions → row ≡ cond putting (putRowReply net t) (takenRowReply net t)
       → next ≡ tabulate (added sums row (getD often t 0)) 32 → Weighing net often putting transitions next (t + 1)
-  weighs-more row next l r e = record {
-    accepted = w .accepted;
+  weighs-more {row} l r e = record {
+    weighable = w .weighable;
     all = w .all;
     few = w .few;
-    most = w .most;
     within = omega arith;
-    so-far = e ∙ weighed-more _ often sums row t (w .so-far) (r ∙ side-row net (w .accepted) putting t);
+    so-far = e ∙ weighed-more _ often sums row t (w .so-far) (r ∙ side-row net (w .weighable .accepted) putting t);
   }
 
   pub weighs-all : transitions ≤ t → sums ≡ tabulate (weighed (sideOf (petriNet net) putting) often (transitionCount net)) 32
@@ -117,18 +91,18 @@ module _ {net often sums : List ℕ} {putting : Bool} {transitions t : ℕ} (w :
 
 -- ---- one side, and both
 
-module _ (net often row : List ℕ) (putting : Bool) (places : ℕ) (a : netReply net ≡ Accepted) (m : AtMost 4096 often) (e : places ≡ placeCount net)
+module _ {net often row : List ℕ} {places : ℕ} (putting : Bool) (W : Weighable net often) (e : places ≡ placeCount net)
     (r : row ≡ tabulate (weighed (sideOf (petriNet net) putting) often (transitionCount net)) 32) where
   abbrev sums : ℕ → ℕ
   sums = weighed (sideOf (petriNet net) putting) often (transitionCount net)
 
   pub side-fits : (places ≤ 32) × AtMost 1125899906842624 row
-  side-fits = let s = sizes net a in (omega arith, row-most net often putting _ row a m (s .few-transitions) r)
+  side-fits = let s = sizes net (W .accepted) in (omega arith, row-most putting W (s .few-transitions) r)
 
   pub side-done : {out out′ : List ℕ} {all : ℕ} → placeCount net ≤ length out → out′ ≡ placed out 0 (take places row) → all ≡ sum (at row) places
       → SideDone (sideOf (petriNet net) putting) often (transitionCount net) (placeCount net) out all out′
   side-done {out} l w t =
-      let s = sizes net a in
+      let s = sizes net (W .accepted) in
       let n = tabulate-length sums (placeCount net) in
       record {
         written = w ∙ rw (e, r, take-tabulate sums (placeCount net) 32 (s .few-places)) (placed-front (tabulate sums (placeCount net)) out (omega arith) ∙ rw n);
@@ -136,30 +110,27 @@ module _ (net often row : List ℕ) (putting : Bool) (places : ℕ) (a : netRepl
       }
 
 module _ {net log often : List ℕ} (c : Countable net log) (o : often ≡ tabulate (firedTimes log) 32) where
-  few-times : AtMost 4096 often
-  few-times = rw o (times-most log (c .holds .few))
-
-  pub often-fits : (netReply net ≡ Accepted) × AtMost 4096 often
-  often-fits = (c .accepted, few-times)
+  pub weighable : Weighable net often
+  weighable = record { accepted = c .accepted; most = rw o (times-most log (c .holds .few)) }
 
   abbrev P : ℕ
   P = placeCount net
 
   module _ (moves : ℕ → ℕ → ℕ) where
-    weighs : (p : ℕ) → weighed moves often (transitionCount net) p ≡ moved moves log p
-    weighs p = rw o (weighed-is moves log (transitionCount net) (sizes net (c .accepted) .few-transitions) (c .low) p)
+    weighs : (p : ℕ) → p < P → weighed moves often (transitionCount net) p ≡ moved moves log p
+    weighs p l = rw o (weighed-is moves log (transitionCount net) (sizes net (c .accepted) .few-transitions) (c .low) p)
 
-    weighs-row : tabulate (weighed moves often (transitionCount net)) P ≡ tabulate (moved moves log) P
-    weighs-row = tabulate-ext _ (moved moves log) P (λ p l. weighs p)
+    weighs-row : (out : List ℕ) → tabulate (weighed moves often (transitionCount net)) P ++ drop P out ≡ tabulate (moved moves log) P ++ drop P out
+    weighs-row out = rw (tabulate-ext _ (moved moves log) P weighs)
 
     weighs-total : sum (weighed moves often (transitionCount net)) P ≡ sum (moved moves log) P
-    weighs-total = sum-ext _ (moved moves log) P (λ p l. weighs p)
+    weighs-total = sum-ext _ (moved moves log) P weighs
 
   pub settled : {taken put taken′ put′ : List ℕ} {x y : ℕ} → SideDone (sideOf (petriNet net) false) often (transitionCount net) P taken x taken′
       → SideDone (sideOf (petriNet net) true) often (transitionCount net) P put y put′ → Settled net log taken put (record { taken = x; put = y }) taken′ put′
   unfolding totalsOf takenRow putRow
   settled {taken} {put} s t = record {
     all = rw (s .total ∙ weighs-total (petriNet net .taken), t .total ∙ weighs-total (petriNet net .put));
-    taken-written = s .written ∙ ap (λ (r : List ℕ). r ++ drop P taken) (weighs-row (petriNet net .taken));
-    put-written = t .written ∙ ap (λ (r : List ℕ). r ++ drop P put) (weighs-row (petriNet net .put));
+    taken-written = s .written ∙ weighs-row (petriNet net .taken) taken;
+    put-written = t .written ∙ weighs-row (petriNet net .put) put;
   }

@@ -1,17 +1,10 @@
 -- The sum over the firings of a log is the sum over the transitions, each as often as it fires. And how far such sums go.
-use Prim.Native.Nat.{ℕ, zero, suc, _+_, _*_, _≤_, _<_, zero-le}
+use Rattle.scan.proofs.Basics.{ℕ, zero, suc, _+_, _*_, _≤_, _<_, arith, _≡_, refl, sym, ap, _∙_, ⊎-elim, Bool, true, false, cond, eqb, List, length, getD, set, replicate}
+use Prim.Native.Nat.{zero-le}
 use native.Mathlib.Nat.{add-mul, mul-le-mul, suc-mul, zero-mul, one-mul}
-use native.Mathlib.Omega.{arith}
-use mathlib.Core.Path.{_≡_, refl, sym, ap, _∙_}
-use mathlib.Core.Logic.{⊎-elim}
-use mathlib.Core.List.{List}
-use mathlib.Core.Bool.{Bool, true, false, cond}
-use lib.ListN.{length, getD, set, replicate}
-use lib.Dec.{eqb}
 use lib.Seq.{getD-set-same, getD-set-other}
-use borrow.Author.Tests.{eqb-true, eqb-false, eq-eqb, ne-eqb}
+use Rattle.scan.proofs.Tests.{eqb-true, eqb-false, eq-eqb, ne-eqb, byTest, lt-suc-cases}
 use Rattle.scan.specs.Scan.{bit, count, sum, tabulate}
-use Rattle.scan.proofs.Tests.{byTest, lt-suc-cases}
 use Rattle.scan.proofs.Sum.{sum-more, sum-ext, sum-plus}
 use Rattle.scan.proofs.Count.{count-more, count-le}
 use Rattle.scan.proofs.Tabulate.{tabulate-at, tabulate-ext}
@@ -32,9 +25,7 @@ sum-most f b zero h = zero-le
 sum-most f b (suc n) h = rw (suc-mul n b) (omega (arith, h n (omega arith), sum-most f b n (λ i l. h i (omega arith))))
 
 sum-zeros : (f : ℕ → ℕ) (n : ℕ) → ((i : ℕ) → i < n → f i ≡ 0) → sum f n ≡ 0
-unfolding sum
-sum-zeros f zero h = refl
-sum-zeros f (suc n) h = omega (arith, h n (omega arith), sum-zeros f n (λ i l. h i (omega arith)))
+sum-zeros f n h = omega (arith, sum-most f 0 n (λ i l. omega (arith, h i l)))
 
 -- f at x alone
 one : (ℕ → ℕ) → ℕ → ℕ → ℕ

@@ -57,6 +57,16 @@ pub record Countable (net log : List ℕ) : Type 0 where
   pub holds : LogHolds log
   pub low : (i : ℕ) → i < firingCount log → firedAt log i < transitionCount net
 
+-- what one side asks: a net, and how often each transition fires, 4,096 times at most
+pub record Weighable (net often : List ℕ) : Type 0 where
+  pub accepted : netReply net ≡ Accepted
+  pub most : AtMost 4096 often
+
+-- both buffers have room for a number for each place
+pub record Rooms (net taken put : List ℕ) : Type 0 where
+  pub taken-room : placeCount net ≤ length taken
+  pub put-room : placeCount net ≤ length put
+
 -- one side written by place, and its total
 pub record SideDone (moves : ℕ → ℕ → ℕ) (often : List ℕ) (transitions places : ℕ) (out : List ℕ) (r : ℕ) (out′ : List ℕ) : Type 0 where
   pub written : out′ ≡ tabulate (weighed moves often transitions) places ++ drop places out

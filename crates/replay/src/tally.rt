@@ -6,12 +6,10 @@ ghost use lib.ListN.{length, take};
 ghost use Rattle.scan.specs.Scan.{tabulate, sum};
 ghost use Rattle.scan.specs.Placed.{placed};
 ghost use Rattle.net.specs.Net.{placeCount, transitionCount};
-ghost use Rattle.net.specs.Check.{netReply};
 ghost use Rattle.net.specs.Accessors.{takenRowReply, putRowReply};
-ghost use Rattle.refusal.specs.declared.Verdict.the-variants.{Accepted};
 ghost use Rattle.sequential.specs.Petri.{petriNet};
 ghost use Rattle.replay.specs.Log.{firingCount, firedAt};
-ghost use Rattle.replay.specs.Tally.{LogHolds, firedTimes, sideOf, weighed, added, at, AtMost, Countable, SideDone, Settled};
+ghost use Rattle.replay.specs.Tally.{LogHolds, firedTimes, sideOf, weighed, added, at, AtMost, Countable, Weighable, Rooms, SideDone, Settled};
 use super::Totals;
 
 // How often each transition fires.
@@ -62,8 +60,7 @@ fn add_row(sums: [u64; 32], row: [u32; 32], times: u32) -> [u64; 32]
 
 // What all firings put into each place, or take from it, 0 from P on.
 fn weigh(net: &[u32], often: [u32; 32], putting: bool) -> [u64; 32]
-    requires { ⌜ netReply (now net) ≡ Accepted ⌝ }
-    requires { ⌜ AtMost 4096 often ⌝ }
+    requires { ⌜ Weighable (now net) often ⌝ }
     ensures { λ r. ⌜ r ≡ tabulate (weighed (sideOf (petriNet (now (net .entry))) putting) often (transitionCount (now (net .entry)))) 32 ⌝ }
 {
     let transitions = net::transitions(net);
@@ -112,8 +109,7 @@ fn write_row(row: [u64; 32], out: &mut [u64], n: usize)
 
 // One side: what is moved written by place, and its total.
 fn side(net: &[u32], often: [u32; 32], putting: bool, out: &mut [u64]) -> u64
-    requires { ⌜ netReply (now net) ≡ Accepted ⌝ }
-    requires { ⌜ AtMost 4096 often ⌝ }
+    requires { ⌜ Weighable (now net) often ⌝ }
     requires { ⌜ placeCount (now net) ≤ length (now out) ⌝ }
     ensures { λ r. ⌜ SideDone (sideOf (petriNet (now (net .entry))) putting) often (transitionCount (now (net .entry))) (placeCount (now (net .entry))) (now (out .entry)) r (now (out .exit)) ⌝ }
 {
@@ -126,8 +122,7 @@ fn side(net: &[u32], often: [u32; 32], putting: bool, out: &mut [u64]) -> u64
 // Both sides.
 pub(crate) fn settle(net: &[u32], log: &[u32], taken: &mut [u64], put: &mut [u64]) -> Totals
     requires { ⌜ Countable (now net) (now log) ⌝ }
-    requires { ⌜ placeCount (now net) ≤ length (now taken) ⌝ }
-    requires { ⌜ placeCount (now net) ≤ length (now put) ⌝ }
+    requires { ⌜ Rooms (now net) (now taken) (now put) ⌝ }
     ensures { λ r. ⌜ Settled (now (net .entry)) (now (log .entry)) (now (taken .entry)) (now (put .entry)) r (now (taken .exit)) (now (put .exit)) ⌝ }
 {
     let often = fired_times(log);

@@ -1,13 +1,6 @@
 -- The number of the page for each n and T.
-use Prim.Native.Nat.{ℕ, zero, suc, _+_, _*_, _-_, _≤_, _<_}
-use native.Mathlib.Omega.{arith}
-use mathlib.Core.Path.{_≡_, sym, _∙_}
-use mathlib.Core.List.{List}
-use mathlib.Core.Bool.{true, _&&_}
-use lib.ListN.{getD}
-use lib.Dec.{ltb, leb}
-use borrow.Author.Tests.{ltb-true, leb-true, lt-ltb, le-ltb, le-leb, lt-leb}
-use Rattle.scan.proofs.Tests.{byTest, and-left, and-right}
+use Rattle.scan.proofs.Basics.{ℕ, zero, suc, _+_, _-_, _*_, _≤_, _<_, arith, _≡_, sym, _∙_, true, _&&_, ltb, leb, List, getD}
+use Rattle.scan.proofs.Tests.{ltb-true, lt-ltb, le-ltb, leb-true, le-leb, lt-leb, byTest, and-left, and-right}
 use Rattle.row_starts.specs.RowStarts.{onPage, rowStart, printed, line, lines, page}
 
 -- ---- the rule, from how the page is made

@@ -1,16 +1,11 @@
 -- How many indices pass: subsets, proper subsets, rows, and the pigeonhole principle.
-use Prim.Native.Nat.{ℕ, zero, suc, _+_, _≤_, _<_, zero-le}
+use Rattle.scan.proofs.Basics.{ℕ, zero, suc, _+_, _≤_, _<_, arith, _≡_, refl, ⊎-elim, Bool, true, false, eqb}
+use Prim.Native.Nat.{zero-le}
 use native.Mathlib.Nat.{add-zero, add-suc}
 use native.Mathlib.Numerals.{add-one}
-use native.Mathlib.Omega.{arith}
 use native.Mathlib.Decide.{decLt}
-use mathlib.Core.Path.{_≡_, refl}
-use mathlib.Core.Logic.{⊎-elim}
-use mathlib.Core.Bool.{Bool, true, false}
-use lib.Dec.{eqb}
-use borrow.Author.Tests.{eqb-true, eqb-false, eq-eqb}
+use Rattle.scan.proofs.Tests.{eqb-true, eqb-false, eq-eqb, byTest, true-false, not-true→false, lt-suc-cases}
 use Rattle.scan.specs.Scan.{any, bit, count}
-use Rattle.scan.proofs.Tests.{byTest, true-false, not-true→false, lt-suc-cases}
 use Rattle.scan.proofs.Every.{any-in, any-out}
 
 pub bit-le : (b : Bool) → bit b ≤ 1

@@ -1,12 +1,8 @@
 -- Every index passes, some index passes.
-use Prim.Native.Nat.{ℕ, zero, suc, _+_, _<_}
+use Rattle.scan.proofs.Basics.{ℕ, zero, suc, _+_, _<_, arith, _≡_, refl, ⊎-elim, Bool, true, false}
 use native.Mathlib.Numerals.{add-one}
-use native.Mathlib.Omega.{arith}
-use mathlib.Core.Path.{_≡_, refl}
-use mathlib.Core.Logic.{⊎-elim}
-use mathlib.Core.Bool.{Bool, true, false}
 use Rattle.scan.specs.Scan.{all, any}
-use Rattle.scan.proofs.Tests.{and-left, and-right, and-both, or-left, or-right, or-cases, true-false, lt-suc-cases, not-true→false}
+use Rattle.scan.proofs.Tests.{true-false, not-true→false, and-left, and-right, and-both, or-left, or-right, or-cases, lt-suc-cases}
 
 pub all-out : (f : ℕ → Bool) (n : ℕ) → all f n ≡ true → (i : ℕ) → i < n → f i ≡ true
 unfolding all

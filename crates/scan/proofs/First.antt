@@ -1,12 +1,7 @@
 -- The first finding of a scan: what each turn of a loop shows, what a loop that runs out shows, what one left early shows.
-use Prim.Native.Nat.{ℕ, zero, suc, _+_, _≤_, _<_}
+use Rattle.scan.proofs.Basics.{ℕ, zero, suc, _+_, _≤_, _<_, arith, _≡_, refl, _⊎_, inl, inr, ⊎-elim, Bool, true, false, Option, none, some}
 use native.Mathlib.Numerals.{add-one}
 use native.Mathlib.Decide.{le-ind}
-use native.Mathlib.Omega.{arith}
-use mathlib.Core.Path.{_≡_, refl}
-use mathlib.Core.Logic.{_⊎_, inl, inr, ⊎-elim}
-use mathlib.Core.Bool.{Bool, true, false}
-use mathlib.Core.Option.{Option, none, some}
 use Rattle.scan.specs.Scan.{orElse, when, found, first}
 use Rattle.scan.proofs.Tests.{lt-suc-cases}
 

@@ -1,10 +1,8 @@
 -- A buffer whose front is cleared.
 -- a front that the buffer has
-use Prim.Native.Nat.{ℕ, _+_, min, _≤_, _<_}
-use native.Mathlib.Omega.{arith}
-use mathlib.Core.Path.{_≡_, sym, ap, _∙_}
-use mathlib.Core.List.{List, _++_}
-use lib.ListN.{length, set, drop, replicate, length-append, length-replicate, length-drop, drop-of-length-le}
+use Rattle.scan.proofs.Basics.{ℕ, _+_, _≤_, _<_, arith, _≡_, sym, ap, _∙_, List, _++_, length, drop, set, replicate, length-append, length-replicate}
+use Prim.Native.Nat.{min}
+use lib.ListN.{length-drop, drop-of-length-le}
 use borrow.Author.Fill.{fill-none, fill-more}
 use Rattle.scan.specs.Front.{cleared}
 

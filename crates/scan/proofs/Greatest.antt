@@ -1,11 +1,9 @@
 -- The greatest value: a bound on each, and attained.
 -- a turn of a loop
-use Prim.Native.Nat.{ℕ, zero, suc, _+_, _≤_, _<_, max}
+use Rattle.scan.proofs.Basics.{ℕ, zero, suc, _+_, _≤_, _<_, arith, _≡_, ⊎-elim}
+use Prim.Native.Nat.{max}
 use native.Mathlib.Numerals.{add-one}
-use native.Mathlib.Omega.{arith}
 use native.Mathlib.Decide.{decLt}
-use mathlib.Core.Path.{_≡_}
-use mathlib.Core.Logic.{⊎-elim}
 use Rattle.scan.specs.Scan.{greatest}
 use Rattle.scan.proofs.Tests.{lt-suc-cases}
 

@@ -1,13 +1,7 @@
 -- The least index that passes.
-use Prim.Native.Nat.{ℕ, _≤_, _<_}
-use native.Mathlib.Omega.{arith}
-use mathlib.Core.Path.{_≡_, refl, ap}
-use mathlib.Core.Bool.{Bool, true, false}
-use mathlib.Core.Option.{Option, none, some, Option·getD}
-use lib.Dec.{ltb, leb}
-use borrow.Author.Tests.{ltb-true, ltb-false, leb-true, leb-false}
+use Rattle.scan.proofs.Basics.{ℕ, _≤_, _<_, arith, _≡_, refl, ap, Bool, true, false, ltb, leb, Option, none, some, Option·getD}
+use Rattle.scan.proofs.Tests.{ltb-true, ltb-false, leb-true, leb-false, byTest, true-false}
 use Rattle.scan.specs.Scan.{any, first, passing, least}
-use Rattle.scan.proofs.Tests.{byTest, true-false}
 use Rattle.scan.proofs.Every.{any-before}
 use Rattle.scan.proofs.First.{when-some, when-none, first-at, first-all, first-ext}
 

@@ -1,16 +1,11 @@
 -- Words written one after the other from a place on: more words, one more, and a buffer that is full.
-use Prim.Native.Nat.{ℕ, suc, _+_, _≤_, _<_}
-use native.Mathlib.Omega.{arith}
+use Rattle.scan.proofs.Basics.{ℕ, suc, _+_, _≤_, _<_, arith, _≡_, refl, sym, ap, _∙_, leb, List, [], _∷_, _++_, length, getD, take, drop, set, length-append}
 use native.Mathlib.Nat.{add-zero, zero-add}
 use native.Mathlib.Numerals.{add-one}
-use mathlib.Core.Path.{_≡_, refl, sym, ap, _∙_}
-use mathlib.Core.List.{List, [], _∷_, _++_}
-use lib.Dec.{leb}
-use lib.ListN.{length, getD, set, take, drop, length-append, take-append-drop}
+use lib.ListN.{take-append-drop}
 use lib.Seq.{sets, sets-eq, length-sets, set-out, take-suc, take-take, take-all, length-take-le}
-use borrow.Author.Tests.{leb-true, leb-false}
+use Rattle.scan.proofs.Tests.{leb-true, leb-false, byTest}
 use Rattle.scan.specs.Placed.{placed, nextPlace}
-use Rattle.scan.proofs.Tests.{byTest}
 
 sets-append : (xs ys out : List ℕ) (at : ℕ) → sets (sets out at xs) (at + length xs) ys ≡ sets out at (xs ++ ys)
 sets-append [] ys out at = rw (add-zero at)

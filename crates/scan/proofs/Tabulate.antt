@@ -1,10 +1,6 @@
 -- A function's values as a list: its length, its elements, and the table that a loop fills.
-use Prim.Native.Nat.{ℕ, zero, suc, _+_, _≤_, _<_}
-use native.Mathlib.Omega.{arith}
-use mathlib.Core.Path.{_≡_, refl, sym, _∙_}
-use mathlib.Core.Logic.{⊎-elim}
-use mathlib.Core.List.{List, [], _∷_}
-use lib.ListN.{length, getD, set, take, length-append, List·getD-append}
+use Rattle.scan.proofs.Basics.{ℕ, zero, suc, _+_, _≤_, _<_, arith, _≡_, refl, sym, _∙_, ⊎-elim, List, [], _∷_, length, getD, take, set, length-append}
+use lib.ListN.{List·getD-append}
 use lib.Seq.{getD-at, ext-getD, getD-set-same, getD-set-other, getD-take, length-take-le}
 use borrow.Author.Count.{below-more}
 use Rattle.scan.specs.Scan.{tabulate}

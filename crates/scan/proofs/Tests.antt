@@ -1,15 +1,18 @@
 -- Tests and their truth: how a Bool is taken apart and put together.
--- both outcomes of a test, each with its equation
-use Prim.Native.Nat.{ℕ, suc, _<_}
+use Rattle.scan.proofs.Basics.{ℕ, suc, _≤_, _<_, arith, _≡_, refl, sym, ap, _⊎_, inl, inr, _↔_, Bool, true, false, not, _&&_, _||_, ltb, eqb}
 use native.Mathlib.Nat.{eq-or-lt-of-le, le-of-suc-le-suc}
-use native.Mathlib.Omega.{arith}
-use mathlib.Core.Path.{_≡_, refl, sym, ap}
-use mathlib.Core.Logic.{_⊎_, _↔_, inl, inr}
-use mathlib.Core.Bool.{Bool, true, false, not, _&&_, _||_}
+pub use borrow.Author.Tests.{ltb-true, ltb-false, lt-ltb, le-ltb, leb-true, leb-false, le-leb, lt-leb, eqb-true, eqb-false, eq-eqb, ne-eqb, not-true, not-false}
 
+-- both outcomes of a test, each with its equation
 pub byTest {ℓ} : {C : Type ℓ} (b : Bool) → (b ≡ true → C) → (b ≡ false → C) → C
 byTest true f g = f refl
 byTest false f g = g refl
+
+pub byLess {ℓ} : {C : Type ℓ} (a b : ℕ) → (a < b → C) → (b ≤ a → C) → C
+byLess a b f g = byTest (ltb a b) (λ e. f (ltb-true a b e)) (λ e. g (ltb-false a b e))
+
+pub byEqual {ℓ} : {C : Type ℓ} (a b : ℕ) → (a ≡ b → C) → ((a ≡ b → ⊥) → C) → C
+byEqual a b f g = byTest (eqb a b) (λ e. f (eqb-true a b e)) (λ e. g (eqb-false a b e))
 
 pub true-false {ℓ} : {C : Type ℓ} (b : Bool) → b ≡ true → b ≡ false → C
 true-false b p q = let z : _≡_ {A = ℕ} 0 1 = cc in absurd (omega arith)

@@ -1,12 +1,13 @@
 -- The calls as instances of what every call is: the schedule check's answer, and how each call's words are judged.
-use Prim.Native.Nat.{ℕ}
-use mathlib.Core.Path.{_≡_, refl, ap, _∙_}
-use mathlib.Core.List.{List, [], _∷_, _++_}
-use lib.ListN.{length}
+use Rattle.scan.proofs.Basics.{ℕ, _≡_, refl, ap, _∙_, Option, List, [], _∷_, _++_, length}
 use Rattle.refusal.specs.Refusal.{plainOf}
+use Rattle.refusal.specs.Checks.{Check}
+use Rattle.refusal.specs.Verdict.{verdictOf, andThen}
+use Rattle.refusal.specs.declared.Refusal.{Refusal}
 use Rattle.refusal.specs.declared.Verdict.{Verdict}
 use Rattle.refusal.specs.declared.Verdict.the-variants.{Accepted, Refused}
-use Rattle.refusal.proofs.Judges.{judges-found, judges-then}
+use Rattle.refusal.proofs.Checks.{Tells}
+use Rattle.refusal.proofs.Judges.{Judges, judges-found, judges-then}
 use Rattle.net.specs.Checks.{netChecks}
 use Rattle.sequential.specs.Petri.{petriNet}
 use Rattle.sequential.specs.Checks.{sheetChecks}
@@ -39,29 +40,24 @@ check-words net sheet r h = go (scheduleReply net sheet) refl
 -- ---- what each call shows of its core
 
 module _ (net sheet : List ℕ) where
-  pub check-law : Lawful (checkCore net sheet) plainCheck 3 (countsOf net sheet .nodes ∷ countsOf net sheet .arcs ∷ countsOf net sheet .awaits ∷ []) (netChecks net ++ sheetChecks (petriNet net) sheet)
+  abbrev checks : List Check
+  checks = netChecks net ++ sheetChecks (petriNet net) sheet
+
+  -- the checks of the schedule, and then a call's own
+  then-own : {found : Option Refusal} {own : List Check} → Tells found own → Judges (andThen (scheduleReply net sheet) (verdictOf found)) (checks ++ own)
+  then-own h = judges-then _ _ checks _ (schedule-judged net sheet) (λ p. judges-found _ _ h)
+
+  pub check-law : Lawful (checkCore net sheet) plainCheck 3 (countsOf net sheet .nodes ∷ countsOf net sheet .arcs ∷ countsOf net sheet .awaits ∷ []) checks
   check-law = record { judged = schedule-judged net sheet; proper = refl; plain-accepted = refl; own-length = refl; plain-refused = λ r. refl }
 
-  pub bounds-law : Lawful (boundsCore net sheet) plainOf 0 [] (netChecks net ++ sheetChecks (petriNet net) sheet)
+  pub bounds-law : Lawful (boundsCore net sheet) plainOf 0 [] checks
   bounds-law = record { judged = schedule-judged net sheet; proper = refl; plain-accepted = refl; own-length = refl; plain-refused = λ r. refl }
 
   pub fire-law : (w : Walker) (t : ℕ) → Lawful (fireCore net sheet w t) (λ a. plainFire (a .0)) 1 (plainIndex (Known (entryFired (petriNet net) sheet w t)) ∷ [])
-      ((netChecks net ++ sheetChecks (petriNet net) sheet) ++ walkerChecks (petriNet net) sheet w t)
-  fire-law w t = record {
-    judged = judges-then _ _ (netChecks net ++ sheetChecks (petriNet net) sheet) _ (schedule-judged net sheet) (λ p. judges-found _ _ (step-tells (petriNet net) sheet w t));
-    proper = refl;
-    plain-accepted = refl;
-    own-length = refl;
-    plain-refused = λ r. refl;
-  }
+      (checks ++ walkerChecks (petriNet net) sheet w t)
+  fire-law w t = record { judged = then-own (step-tells (petriNet net) sheet w t); proper = refl; plain-accepted = refl; own-length = refl; plain-refused = λ r. refl }
 
   pub run-law : (firings : List ℕ) → Lawful (runCore net sheet firings) plainRun 3
       (length firings ∷ nodeAfter (petriNet net) sheet firings (length firings) ∷ plainIndex (lastEntry (petriNet net) sheet firings) ∷ [])
-      ((netChecks net ++ sheetChecks (petriNet net) sheet) ++ runChecks (petriNet net) sheet firings)
-  run-law firings = record {
-    judged = judges-then _ _ (netChecks net ++ sheetChecks (petriNet net) sheet) _ (schedule-judged net sheet) (λ p. judges-found _ _ (run-tells (petriNet net) sheet firings));
-    proper = refl;
-    plain-accepted = refl;
-    own-length = refl;
-    plain-refused = λ r. refl;
-  }
+      (checks ++ runChecks (petriNet net) sheet firings)
+  run-law firings = record { judged = then-own (run-tells (petriNet net) sheet firings); proper = refl; plain-accepted = refl; own-length = refl; plain-refused = λ r. refl }

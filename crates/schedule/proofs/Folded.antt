@@ -1,9 +1,5 @@
 -- Single firings one after the other, each with the walker that the one before handed back, go as the graph's arcs do.
-use Prim.Native.Nat.{ℕ}
-use mathlib.Core.Path.{_≡_, refl, sym, ap, _∙_}
-use mathlib.Core.List.{List, [], _∷_}
-use mathlib.Core.Option.{none, some}
-use lib.ListN.{length}
+use Rattle.scan.proofs.Basics.{ℕ, _≡_, refl, sym, ap, _∙_, none, some, List, [], _∷_, length}
 use Rattle.scan.specs.Scan.{foundOr}
 use Rattle.automaton.specs.Automaton.{follow}
 use Rattle.automaton.proofs.Automaton.{follow-first}
@@ -14,7 +10,7 @@ use Rattle.sequential.specs.Check.{scheduleReply}
 use Rattle.schedule.specs.Firing.{walkerFault, follows}
 use Rattle.schedule.specs.Walks.{Chain, stays, goes}
 use Rattle.schedule.specs.declared.Walker.{Walker}
-use Rattle.schedule.proofs.Walkers.{walker-out, step-tells, step-passes, follows-node, follows-length, handed-back}
+use Rattle.schedule.proofs.Walkers.{walker-out, step-tells, step-passes, handed-back}
 
 module _ (net sheet : List ℕ) (accepted : scheduleReply net sheet ≡ Accepted) where
   -- what stays true of the walker
@@ -25,13 +21,9 @@ module _ (net sheet : List ℕ) (accepted : scheduleReply net sheet ≡ Accepted
 
   kept-next : (w : Walker) (n t m : ℕ) → Kept w n → arc (petriNet net) sheet n t ≡ some m → Kept (follows (petriNet net) sheet w t) m
   kept-next w n t m k e =
-      let p = walker-out (petriNet net) sheet w (k .passes) in
       let q = ap (λ (x : ℕ). arc (petriNet net) sheet x t) (k .node) ∙ e in
-      record {
-        passes = handed-back net sheet accepted w t m p q .passes;
-        node = follows-node net sheet accepted w t m p q;
-        counts = follows-length net sheet accepted w t m p q;
-      }
+      let h = handed-back net sheet accepted w t m (walker-out (petriNet net) sheet w (k .passes)) q in
+      record { passes = h .passes; node = cc (h .target); counts = h .stands .counts }
 
   -- along the arcs
   pub chain-along : (σ : List ℕ) (w : Walker) (n m : ℕ) → Kept w n → follow (graph (petriNet net) sheet) n σ ≡ some m

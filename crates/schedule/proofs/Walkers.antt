@@ -1,23 +1,16 @@
 -- Walkers: what 18 to 20 say, a fresh walker, the walker that follows, and that it passes again.
-use Prim.Native.Nat.{ℕ, _+_, _-_, _≤_, _<_}
-use native.Mathlib.Omega.{arith}
-use mathlib.Core.Path.{_≡_, refl, sym, ap, _∙_}
-use mathlib.Core.Logic.{_↔_, _⊎_, inl, inr, ⊎-elim}
-use mathlib.Core.List.{List}
-use mathlib.Core.Bool.{true, not, and-false}
-use mathlib.Core.Option.{none, some}
-use lib.ListN.{length, getD}
-use lib.Dec.{ltb}
-use borrow.Author.Tests.{ltb-true, ltb-false, le-ltb, leb-false, lt-leb, eqb-true, eq-eqb}
-use Rattle.scan.specs.Scan.{orElse, when, found}
-use Rattle.scan.proofs.Tests.{byTest, decides-not}
+use Rattle.scan.proofs.Basics.{ℕ, _+_, _-_, _≤_, _<_, arith, _≡_, refl, sym, ap, _∙_, _↔_, true, not, ltb, none, some, List, length, getD}
+use native.Mathlib.Decide.{decLt}
+use mathlib.Core.Bool.{and-false}
+use Rattle.scan.proofs.Tests.{le-ltb, leb-false, lt-leb, eqb-true, eq-eqb, decides-not}
+use Rattle.scan.specs.Scan.{orElse, when, found, tabulate}
 use Rattle.scan.proofs.First.{orElse-assoc, found-some}
-use Rattle.scan.proofs.Tabulate.{tabulate-length, tabulate-at}
+use Rattle.scan.proofs.Tabulate.{tabulate-length, tabulate-at, tabulate-ext}
 use Rattle.refusal.specs.Refusal.{refusal}
 use Rattle.refusal.specs.Finding.{foundBy, finding}
 use Rattle.refusal.specs.declared.Position.the-variants.{Nothing}
 use Rattle.refusal.specs.declared.Verdict.the-variants.{Accepted}
-use Rattle.refusal.proofs.Checks.{Decides, Decided, Lawful, Tells, finding-tells}
+use Rattle.refusal.proofs.Checks.{Decides, Decided, Lawful, Tells, finding-tells, _▸_}
 use Rattle.net.specs.Check.{netReply}
 use Rattle.net.proofs.Laws.{sizes, put-no-place, start-no-place}
 use Rattle.sequential.specs.Petri.{PetriNet, petriNet, initial, firedCount, fire, Enabled}
@@ -26,13 +19,10 @@ use Rattle.sequential.specs.Schedule.{Offers}
 use Rattle.sequential.specs.Check.{scheduleReply}
 use Rattle.sequential.proofs.Entries.{marking-at}
 use Rattle.sequential.proofs.Accepted.{accepts, closed}
-use Rattle.schedule.specs.Walker.{standChecks, walkerChecks}
+use Rattle.schedule.specs.Walker.{walker, standChecks, walkerChecks}
 use Rattle.schedule.specs.Firing.{freshWalker, standTests, walkerFault, walkerTests, stepFault, follows}
 use Rattle.schedule.specs.Walks.{HandedBack}
 use Rattle.schedule.specs.declared.Walker.{Walker}
-
-below-or-not : (a b : ℕ) → (a < b) ⊎ (b ≤ a)
-below-or-not a b = byTest (ltb a b) (λ e. inl (ltb-true a b e)) (λ e. inr (ltb-false a b e))
 
 -- ---- 18 to 20
 
@@ -56,13 +46,9 @@ module _ (N : PetriNet) (sheet : List ℕ) (w : Walker) where
 
   step-lawful : (t : ℕ) → Lawful Unit (walkerChecks N sheet w t) (walkerTests N sheet w t)
   unfolding Lawful Decided Decides
-  step-lawful t = (
-    λ h. (leb-false _ _, lt-leb _ _),
-    (
-      λ h p l. (decides-not _ (eqb-true _ _) (eq-eqb _ _), λ x. tt),
-      (λ h. decides-not _ (offered↔ N sheet (w .node) t .0) (offered↔ N sheet (w .node) t .1), tt),
-    ),
-  )
+  step-lawful t =
+      (λ h. (leb-false _ _, lt-leb _ _)) ▸ (λ h p l. (decides-not _ (eqb-true _ _) (eq-eqb _ _), λ x. tt))
+      ▸ (λ h. decides-not _ (offered↔ N sheet (w .node) t .0) (offered↔ N sheet (w .node) t .1)) ▸ tt
 
   pub step-tells : (t : ℕ) → Tells (stepFault N sheet w t) (walkerChecks N sheet w t)
   unfolding stepFault
@@ -96,15 +82,12 @@ module _ (net sheet : List ℕ) (accepted : scheduleReply net sheet ≡ Accepted
   -- the counts of node 0 are the starting ones, at every place
   start-count : (p : ℕ) → petriNet net .start p ≡ countAt (petriNet net) sheet 0 p
   unfolding initial
-  start-count p = ⊎-elim inside outside (below-or-not p (petriNet net .places))
-    where
-      inside : p < petriNet net .places → petriNet net .start p ≡ countAt (petriNet net) sheet 0 p
-      inside l =
-          sym (tabulate-at (petriNet net .start) 0 (petriNet net .places) p l) ∙ ap (λ (x : List ℕ). getD x p 0) (sym (accepts net sheet accepted .schedule .starts))
-          ∙ marking-at (petriNet net) sheet 0 p (closed net sheet accepted .root) l
-
-      outside : petriNet net .places ≤ p → petriNet net .start p ≡ countAt (petriNet net) sheet 0 p
-      outside l = start-no-place net p l ∙ sym (count-past (petriNet net) sheet 0 p l)
+  start-count p = elim (decLt p (petriNet net .places)) [
+    | yes l ↦
+        sym (tabulate-at (petriNet net .start) 0 (petriNet net .places) p l) ∙ ap (λ (x : List ℕ). getD x p 0) (sym (accepts net sheet accepted .schedule .starts))
+        ∙ marking-at (petriNet net) sheet 0 p (closed net sheet accepted .root) l
+    | no l ↦ start-no-place net p (omega arith) ∙ sym (count-past (petriNet net) sheet 0 p (omega arith))
+  ]
 
   pub fresh-passes : walkerFault (petriNet net) sheet (freshWalker (netReply net) net) ≡ none
   fresh-passes = rw (accepts net sheet accepted .net-accepted) (walker-in (petriNet net) sheet (freshWalker Accepted net) (record {
@@ -136,49 +119,35 @@ module _ (net sheet : List ℕ) (accepted : scheduleReply net sheet ≡ Accepted
     -- the target's counts are what firing gives, at every place
     target-count : (p : ℕ) → p < 32 → firedCount (petriNet net) (w .counts) t p ≡ countAt (petriNet net) sheet m p
     unfolding firedCount fire
-    target-count p k = ⊎-elim inside outside (below-or-not p (petriNet net .places))
-      where
-        inside : p < petriNet net .places → getD (w .counts) p 0 - petriNet net .taken t p + petriNet net .put t p ≡ countAt (petriNet net) sheet m p
-        inside l =
-            ap (λ (x : ℕ). x - petriNet net .taken t p + petriNet net .put t p) (held p l)
-            ∙ sym (tabulate-at (firedCount (petriNet net) (marking (petriNet net) sheet (w .node)) t) 0 (petriNet net .places) p l)
-            ∙ ap (λ (x : List ℕ). getD x p 0) (sym (accepts net sheet accepted .schedule .lands (w .node) t m (passes .node) e))
-            ∙ marking-at (petriNet net) sheet m p target-node l
+    target-count p k = elim (decLt p (petriNet net .places)) [
+      | yes l ↦
+          ap (λ (x : ℕ). x - petriNet net .taken t p + petriNet net .put t p) (held p l)
+          ∙ sym (tabulate-at (firedCount (petriNet net) (marking (petriNet net) sheet (w .node)) t) 0 (petriNet net .places) p l)
+          ∙ ap (λ (x : List ℕ). getD x p 0) (sym (accepts net sheet accepted .schedule .lands (w .node) t m (passes .node) e))
+          ∙ marking-at (petriNet net) sheet m p target-node l
+      | no l ↦
+          let a = passes .holds p k ∙ count-past (petriNet net) sheet (w .node) p (omega arith) in
+          let b = put-no-place net t p (omega arith) in
+          let c = count-past (petriNet net) sheet m p (omega arith) in
+          omega arith
+    ]
 
-        outside : petriNet net .places ≤ p → getD (w .counts) p 0 - petriNet net .taken t p + petriNet net .put t p ≡ countAt (petriNet net) sheet m p
-        outside l =
-            let a = passes .holds p k ∙ count-past (petriNet net) sheet (w .node) p l in
-            let b = put-no-place net t p l in
-            let c = count-past (petriNet net) sheet m p l in
-            omega arith
-
-    pub follows-node : follows (petriNet net) sheet w t .node ≡ m
+    pub follows-is : follows (petriNet net) sheet w t ≡ walker m (tabulate (countAt (petriNet net) sheet m) 32)
     unfolding follows
-    follows-node = rw e
-
-    follows-count : (p : ℕ) → p < 32 → getD (follows (petriNet net) sheet w t .counts) p 0 ≡ firedCount (petriNet net) (w .counts) t p
-    unfolding follows
-    follows-count p l = tabulate-at (firedCount (petriNet net) (w .counts) t) 0 32 p l
-
-    pub follows-length : length (follows (petriNet net) sheet w t .counts) ≡ 32
-    unfolding follows
-    follows-length = tabulate-length (firedCount (petriNet net) (w .counts) t) 32
-
-    follows-passes : WalkerPasses (petriNet net) sheet (follows (petriNet net) sheet w t)
-    follows-passes = record {
-      node = rw follows-node target-node;
-      holds = λ p l. follows-count p l ∙ target-count p l ∙ ap (λ (n : ℕ). countAt (petriNet net) sheet n p) (sym follows-node);
-    }
+    follows-is = rw e (ap (walker m) (tabulate-ext _ _ 32 target-count))
 
     pub handed-back : HandedBack (petriNet net) sheet w t (follows (petriNet net) sheet w t)
-    handed-back = record {
-      target = e ∙ ap some (sym follows-node);
-      enabled = fires-enabled;
-      stands = record {
-        node = refl;
-        counts = follows-length;
-        holds = λ p l. follows-count p (omega (arith, few-places)) ∙ unfold firedCount in (refl);
-        zeros = λ p l k. follows-count p k ∙ target-count p k ∙ count-past (petriNet net) sheet m p l;
-      };
-      passes = walker-in (petriNet net) sheet (follows (petriNet net) sheet w t) follows-passes;
-    }
+    unfolding firedCount
+    handed-back =
+        let count : (p : ℕ) → p < 32 → getD (tabulate (countAt (petriNet net) sheet m) 32) p 0 ≡ countAt (petriNet net) sheet m p = tabulate-at _ 0 32 in
+        rw follows-is (record {
+          target = e;
+          enabled = fires-enabled;
+          stands = record {
+            node = refl;
+            counts = tabulate-length _ 32;
+            holds = λ p l. let k : p < 32 = omega (arith, few-places) in count p k ∙ sym (target-count p k);
+            zeros = λ p l k. count p k ∙ count-past (petriNet net) sheet m p l;
+          };
+          passes = walker-in (petriNet net) sheet (walker m (tabulate (countAt (petriNet net) sheet m) 32)) (record { node = target-node; holds = count });
+        })

@@ -1,28 +1,17 @@
 -- Walks along the arcs: where an arc's entry leads, the faults of a walker, a single firing, and a list of firings from node 0.
-use Prim.Native.Nat.{ℕ, _+_, _*_, _≤_, _<_}
-use native.Mathlib.Omega.{arith}
+use Rattle.scan.proofs.Basics.{ℕ, _+_, _*_, _≤_, _<_, arith, _≡_, refl, sym, ap, _∙_, not, _&&_, ltb, Option, none, some, Option·map, List, [], getD}
 use native.Mathlib.Numerals.{add-one}
-use native.Mathlib.Decide.{decLt}
-use mathlib.Core.Path.{_≡_, refl, sym, ap, _∙_}
-use mathlib.Core.List.{List, []}
-use mathlib.Core.Bool.{not, _&&_}
-use mathlib.Core.Option.{Option, none, some, Option·map}
-use lib.ListN.{getD}
-use lib.Dec.{ltb}
-use borrow.Author.Tests.{le-leb, lt-leb, leb-false, eq-eqb, ne-eqb, eqb-true, not-false}
-use Rattle.scan.specs.Scan.{found, first, tabulate}
-use Rattle.scan.proofs.Tests.{byTest}
-use Rattle.scan.proofs.First.{none-some, orElse-left, orElse-right, orElse-next, orElse-hit, when-hit, when-miss, when-none, first-hit, first-all}
-use Rattle.scan.proofs.Tabulate.{tabulate-at, tabulate-ext}
+use Rattle.scan.proofs.Tests.{le-leb, lt-leb, eq-eqb, ne-eqb, byTest}
+use Rattle.scan.specs.Scan.{found, first}
+use Rattle.scan.proofs.First.{none-some, orElse-next, orElse-hit, when-hit, when-miss, first-hit}
+use Rattle.scan.proofs.Tabulate.{tabulate-at}
 use Rattle.table.proofs.Table.{entry-some}
-use Rattle.net.specs.Net.{placeCount}
 use Rattle.refusal.specs.Refusal.{refusal}
 use Rattle.refusal.specs.declared.Position.the-variants.{Nothing, Place, Record}
 use Rattle.refusal.specs.declared.Refusal.{Refusal}
 use Rattle.refusal.specs.declared.Verdict.{Verdict}
 use Rattle.refusal.specs.declared.Verdict.the-variants.{Accepted, Refused}
-use Rattle.net.proofs.Laws.{put-no-place, sizes}
-use Rattle.sequential.specs.Petri.{PetriNet, petriNet, fire, firedCount}
+use Rattle.sequential.specs.Petri.{PetriNet, petriNet}
 use Rattle.sequential.specs.Words.{nodeCount, entryCount, entryKey, entryValue, entryWithKey, arcEntry, arc, countAt}
 use Rattle.sequential.specs.Check.{scheduleReply}
 use Rattle.sequential.specs.Known.{ArcsHold}
@@ -38,12 +27,11 @@ use Rattle.call.specs.declared.Index.the-variants.{Known, Missing}
 use Rattle.call.proofs.Laws.{refused-words, answered-none}
 use Rattle.schedule.specs.Calls.{fireCore}
 use Rattle.schedule.specs.Walker.{walker}
-use Rattle.schedule.specs.Firing.{countFault, walkerFault, stepFault, follows, entryFired, nodeAfter, entryAfter, firingFault}
+use Rattle.schedule.specs.Firing.{countFault, walkerFault, stepFault, entryFired, nodeAfter, entryAfter, firingFault}
 use Rattle.schedule.specs.declared.Walker.{Walker}
 use Rattle.schedule.specs.declared.FireAnswer.the-variants.{Done, Stopped}
-use Rattle.sequential.proofs.Entries.{graph-closed, marking-at}
-use Rattle.sequential.proofs.Accepted.{accepts}
-use Rattle.schedule.proofs.Walkers.{count-past, step-fault}
+use Rattle.sequential.proofs.Entries.{graph-closed}
+use Rattle.schedule.proofs.Walkers.{step-fault, walker-out, step-passes, follows-is}
 use Rattle.refusal.specs.Finding.{foundAt, foundBy, lineFinds, finding}
 
 pub refused-accepted {ℓ} : {C : Type ℓ} (v : Verdict) (r : Refusal) → v ≡ Refused r → v ≡ Accepted → C
@@ -90,29 +78,15 @@ module _ (N : PetriNet) (sheet : List ℕ) (w : Walker) where
   unfolding countFault lineFinds foundAt
   count-right p e = when-miss _ _ (ap not (eq-eqb _ _ e))
 
-  pub count-astray : (p : ℕ) → (getD (w .counts) p 0 ≡ countAt N sheet (w .node) p → ⊥) → countFault N sheet w p ≡ some (refusal 19 (Place p))
-  unfolding countFault lineFinds foundAt
-  count-astray p e = when-hit _ _ (ap not (ne-eqb _ _ e))
-
   -- the scan of the counts is left at p, or runs out
   pub astray-at : w .node < nodeCount sheet → (p : ℕ) → first (countFault N sheet w) p ≡ none → p < 32 → (getD (w .counts) p 0 ≡ countAt N sheet (w .node) p → ⊥)
       → walkerFault N sheet w ≡ some (refusal 19 (Place p))
   unfolding walkerFault countFault finding foundBy lineFinds foundAt
-  astray-at l p h m e = orElse-next _ _ (when-miss _ _ (lt-leb _ _ l)) ∙ first-hit _ p _ h (count-astray p e) 32 m
+  astray-at l p h m e = orElse-next _ _ (when-miss _ _ (lt-leb _ _ l)) ∙ first-hit _ p _ h (when-hit _ _ (ap not (ne-eqb _ _ e))) 32 m
 
   pub walker-right : w .node < nodeCount sheet → first (countFault N sheet w) 32 ≡ none → walkerFault N sheet w ≡ none
   unfolding walkerFault countFault finding foundBy lineFinds foundAt
   walker-right l h = orElse-next _ _ (when-miss _ _ (lt-leb _ _ l)) ∙ h
-
-  -- where neither refuses, the walker stands at a node and has its counts
-  module _ (h : walkerFault N sheet w ≡ none) where
-    pub walker-node : w .node < nodeCount sheet
-    unfolding walkerFault countFault finding foundBy lineFinds foundAt
-    walker-node = leb-false _ _ (when-none _ _ (orElse-left _ _ h))
-
-    pub walker-counts : (p : ℕ) → p < 32 → getD (w .counts) p 0 ≡ countAt N sheet (w .node) p
-    unfolding walkerFault countFault finding foundBy lineFinds foundAt
-    walker-counts p l = eqb-true _ _ (not-false _ (when-none _ _ (first-all _ _ (orElse-right _ _ h) p l)))
 
 -- what the code reads of a node
 pub held-at : (net sheet : List ℕ) → Readable net sheet → (n : ℕ) → n < nodeCount sheet → (held : List ℕ) → held ≡ markingRow net sheet n
@@ -125,47 +99,6 @@ pub entry-fired : (N : PetriNet) (sheet : List ℕ) (w : Walker) (t i : ℕ) →
 unfolding entryFired
 entry-fired N sheet w t i e = rw e
 
-module _ (N : PetriNet) (sheet : List ℕ) (w : Walker) (t : ℕ) (h : walkerFault N sheet w ≡ none) where
-  pub step-refused : arcEntry N sheet (w .node) t ≡ none → stepFault N sheet w t ≡ some (refusal 20 Nothing)
-  unfolding found
-  step-refused e = step-fault N sheet w t ∙ orElse-next _ _ h ∙ when-hit _ _ (rw (entry-stays N sheet (w .node) t e))
-
-  pub step-goes : (i : ℕ) → arcEntry N sheet (w .node) t ≡ some i → stepFault N sheet w t ≡ none
-  unfolding found
-  step-goes i e = step-fault N sheet w t ∙ orElse-next _ _ h ∙ when-miss _ _ (rw (entry-leads N sheet (w .node) t i e))
-
-module _ (net sheet : List ℕ) (w : Walker) (t : ℕ) (a : scheduleReply net sheet ≡ Accepted) (h : walkerFault (petriNet net) sheet w ≡ none) where
-  -- the target's counts are what firing gives
-  counts-fired : (m : ℕ) → m < nodeCount sheet → arc (petriNet net) sheet (w .node) t ≡ some m → (p : ℕ) → p < 32
-      → countAt (petriNet net) sheet m p ≡ firedCount (petriNet net) (w .counts) t p
-  unfolding firedCount fire
-  counts-fired m k e p l =
-      let N = petriNet net in
-      let n = walker-node N sheet w h in
-      let c = walker-counts N sheet w h p l in
-      elim (decLt p (placeCount net)) [
-        | yes q ↦
-            let s = accepts net sheet a .schedule .lands (w .node) t m n e in
-            sym (marking-at N sheet m p k q) ∙ ap (λ (x : List ℕ). getD x p 0) s ∙ tabulate-at _ 0 (placeCount net) p q
-            ∙ rw (marking-at N sheet (w .node) p n q, c)
-        | no q ↦
-            let z = count-past N sheet m p (omega arith) in
-            let y = count-past N sheet (w .node) p (omega arith) in
-            let x = put-no-place net t p (omega arith) in
-            rw (z, x, c, y) (omega arith)
-      ]
-
-  pub step-lands : (i : ℕ) → arcEntry (petriNet net) sheet (w .node) t ≡ some i
-      → walker (entryValue sheet i) (tabulate (countAt (petriNet net) sheet (entryValue sheet i)) 32) ≡ follows (petriNet net) sheet w t
-  unfolding follows
-  step-lands i e =
-      let N = petriNet net in
-      let b = accepts net sheet a in
-      let k = target-node N sheet (w .node) t (sizes net (b .net-accepted) .some-transition) (b .words .arcs) (walker-node N sheet w h) i e in
-      rw (entry-leads N sheet (w .node) t i e) (ap (walker (entryValue sheet i)) (tabulate-ext _ _ 32 (counts-fired (entryValue sheet i) k (entry-leads N sheet (w .node) t i e))))
-
--- ---- a single firing without scratch
-
 module _ (net sheet : List ℕ) (w : Walker) (t : ℕ) (a : scheduleReply net sheet ≡ Accepted) where
   step-refuses : (r : Refusal) → stepFault (petriNet net) sheet w t ≡ some r → WordsDone (fireCore net sheet w t) [] (Stopped r, w) []
   step-refuses r f = refused-words (then-next _ _ a ∙ ap verdictOf f) refl
@@ -175,16 +108,18 @@ module _ (net sheet : List ℕ) (w : Walker) (t : ℕ) (a : scheduleReply net sh
 
   module _ (h : walkerFault (petriNet net) sheet w ≡ none) where
     pub not-offered : arcEntry (petriNet net) sheet (w .node) t ≡ none → WordsDone (fireCore net sheet w t) [] (Stopped (refusal 20 Nothing), w) []
-    not-offered q = step-refuses _ (step-refused (petriNet net) sheet w t h q)
+    unfolding found
+    not-offered q = step-refuses _ (step-fault (petriNet net) sheet w t ∙ orElse-next _ _ h ∙ when-hit _ _ (rw (entry-stays (petriNet net) sheet (w .node) t q)))
 
     pub follows-on : (i m : ℕ) (counts : List ℕ) → arcEntry (petriNet net) sheet (w .node) t ≡ some i → m ≡ entryValue sheet i
         → counts ≡ markingRow net sheet m → WordsDone (fireCore net sheet w t) [] (Done i, walker m counts) []
     follows-on i m counts q e k =
-        let r = accepted-readable net sheet a in
-        let l = target-node (petriNet net) sheet (w .node) t (r .arcs .sizes .some-transition) (r .arcs .holds) (walker-node (petriNet net) sheet w h) i q in
-        answered-none refl (then-next _ _ a ∙ ap verdictOf (step-goes (petriNet net) sheet w t h i q))
-        (rw (entry-fired (petriNet net) sheet w t i q) (ap (λ (x : Walker). (Done i, x))
-        (rw (k, e) (ap (walker (entryValue sheet i)) (marking-right net sheet (r .arcs) _ l) ∙ step-lands net sheet w t a h i q))))
+        let r = accepted-readable net sheet a .arcs in
+        let p = walker-out (petriNet net) sheet w h in
+        let o = entry-leads (petriNet net) sheet (w .node) t i q in
+        let l = target-node (petriNet net) sheet (w .node) t (r .sizes .some-transition) (r .holds) (p .node) i q in
+        answered-none refl (then-next _ _ a ∙ ap verdictOf (step-passes (petriNet net) sheet w t p (_, o)))
+        (rw (entry-fired (petriNet net) sheet w t i q, follows-is net sheet a w t _ p o, k, e, marking-right net sheet r (entryValue sheet i) l))
 
 -- ---- a list of firings
 

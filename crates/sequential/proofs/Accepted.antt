@@ -1,10 +1,5 @@
 -- Accepted exactly where all checks pass, and so exactly where the net is one, the words pass, and the graph that they say is a schedule.
-use Prim.Native.Nat.{ℕ, _<_}
-use native.Mathlib.Omega.{arith}
-use mathlib.Core.Path.{_≡_}
-use mathlib.Core.Logic.{_↔_}
-use mathlib.Core.List.{List, _++_}
-use mathlib.Core.Option.{some}
+use Rattle.scan.proofs.Basics.{ℕ, _<_, arith, _≡_, _↔_, some, List, _++_}
 use Rattle.automaton.specs.Automaton.{Closed}
 use Rattle.refusal.specs.Checks.{AllPass}
 use Rattle.refusal.specs.declared.Verdict.the-variants.{Accepted}

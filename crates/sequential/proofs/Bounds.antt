@@ -1,10 +1,5 @@
 -- The bound of a place: the greatest count over all nodes is the least number that no allowed list exceeds.
-use Prim.Native.Nat.{ℕ, _≤_, _<_}
-use mathlib.Core.Path.{_≡_, refl, ap, _∙_}
-use mathlib.Core.List.{List}
-use mathlib.Core.Bool.{true}
-use mathlib.Core.Option.{some}
-use lib.ListN.{length, getD}
+use Rattle.scan.proofs.Basics.{ℕ, _≤_, _<_, _≡_, refl, ap, _∙_, true, some, List, length, getD}
 use Rattle.scan.proofs.Greatest.{greatest-bounds, greatest-attained}
 use Rattle.scan.proofs.Tabulate.{tabulate-at, tabulate-length}
 use Rattle.automaton.specs.Automaton.{follow, allows}

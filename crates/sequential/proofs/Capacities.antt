@@ -1,11 +1,6 @@
 -- Capacities: firing enabled transitions keeps every place within its own; and what enabling is where there are none.
-use Prim.Native.Nat.{ℕ, _<_}
-use native.Mathlib.Omega.{arith}
-use native.Mathlib.Decide.{decLt}
-use mathlib.Core.Path.{_≡_}
-use mathlib.Core.List.{List, [], _∷_}
-use mathlib.Core.Option.{none}
-use lib.ListN.{getD}
+use Rattle.scan.proofs.Basics.{ℕ, _<_, arith, _≡_, none, List, [], _∷_, getD}
+use Rattle.scan.proofs.Tests.{byLess}
 use Rattle.scan.proofs.First.{none-some}
 use Rattle.scan.proofs.Tabulate.{tabulate-at}
 use Rattle.automaton.specs.Automaton.{Automaton, Closed}
@@ -27,10 +22,7 @@ module _ (N : PetriNet) where
 
   pub fire-within : (m : List ℕ) (t : ℕ) → WithinCapacities N m → Enabled N m t → WithinCapacities N (fire N m t)
   unfolding firedCount
-  fire-within m t w e p l c h = rw (fired-at m t p l) (elim (decLt 0 (N .put t p)) [
-    | yes k ↦ omega (arith, e .room p l k c h)
-    | no k ↦ omega (arith, w p l c h)
-  ])
+  fire-within m t w e p l c h = rw (fired-at m t p l) (byLess 0 (N .put t p) (λ k. omega (arith, e .room p l k c h)) (λ k. omega (arith, w p l c h)))
 
   pub fires-within : (m σ : List ℕ) → WithinCapacities N m → FiresEnabled N m σ → StaysWithin N m σ
   unfolding StaysWithin

@@ -1,15 +1,9 @@
 -- Sources and choice sets: all that is used of their definitions. Choice sets are the classes of an equivalence, the sources are one of them, and a class
 -- that is not alone is closed.
-use Prim.Native.Nat.{ℕ, _<_}
-use native.Mathlib.Omega.{arith}
-use mathlib.Core.Path.{_≡_, refl, sym, _∙_}
-use mathlib.Core.Logic.{_↔_, inl, inr, ⊎-elim}
-use mathlib.Core.Bool.{true, false, _&&_}
-use lib.Dec.{ltb, eqb}
-use borrow.Author.Tests.{ltb-true, lt-ltb, eqb-true, eq-eqb}
-use Rattle.scan.proofs.Tests.{byTest, true-false, iff→eq, and-left, and-right, and-both, or-left, or-right, or-cases}
-use Rattle.scan.proofs.Every.{all-in, all-out, any-in, any-out}
+use Rattle.scan.proofs.Basics.{ℕ, _<_, arith, _≡_, refl, sym, _∙_, inl, inr, ⊎-elim, _↔_, true, false, _&&_, eqb}
+use Rattle.scan.proofs.Tests.{eqb-true, eq-eqb, true-false, decides-not, and-left, and-right, and-both, or-left, or-right, or-cases}
 use Rattle.automaton.specs.Equivalence.{leaderBy}
+use Rattle.scan.proofs.Decide.{eqb↔, ltb↔, all↔, any↔, and↔, unless↔, equal↔}
 use Rattle.automaton.proofs.Leader.{IsEquivalence, leader-ext, leader-member}
 use Rattle.sequential.specs.Petri.{PetriNet, Source, TakesSame, SharesPlace, FreeChoice, SameChoice}
 use Rattle.sequential.specs.Tests.{takesNothing, isSource, takesAlike, takesSame, bothDraw, sharesPlace, sharesAlike, freeChoice, sameChoice}
@@ -19,35 +13,21 @@ module _ (N : PetriNet) where
 
   pub source↔ : (t : ℕ) → (isSource N t ≡ true) ↔ Source N t
   unfolding isSource takesNothing
-  source↔ t = (
-    λ e p l. eqb-true _ _ (all-out (takesNothing N t) (N .places) e p l),
-    λ h. all-in (takesNothing N t) (N .places) (λ p l. eq-eqb _ _ (h p l)),
-  )
+  source↔ t = all↔ (takesNothing N t) (N .places) (λ p l. eqb↔ _ _)
 
   takes↔ : (t u : ℕ) → (takesSame N t u ≡ true) ↔ TakesSame N t u
   unfolding takesSame takesAlike
-  takes↔ t u = (
-    λ e p l. eqb-true _ _ (all-out (takesAlike N t u) (N .places) e p l),
-    λ h. all-in (takesAlike N t u) (N .places) (λ p l. eq-eqb _ _ (h p l)),
-  )
+  takes↔ t u = all↔ (takesAlike N t u) (N .places) (λ p l. eqb↔ _ _)
 
   shares↔ : (t u : ℕ) → (sharesPlace N t u ≡ true) ↔ SharesPlace N t u
   unfolding sharesPlace bothDraw
-  shares↔ t u = (
-    λ e.
-        let (p, l, q) = any-out (bothDraw N t u) (N .places) e in
-        let a = ltb 0 (N .taken t p) in
-        (p, l, ltb-true _ _ (and-left a _ q), ltb-true _ _ (and-right a _ q)),
-    λ (p, l, a, b). any-in (bothDraw N t u) (N .places) p l (and-both _ _ (lt-ltb _ _ a) (lt-ltb _ _ b)),
-  )
+  shares↔ t u =
+      let (f, g) = any↔ {P = λ p. (0 < N .taken t p) × (0 < N .taken u p)} (bothDraw N t u) (N .places) (λ p l. and↔ _ _ (ltb↔ _ _) (ltb↔ _ _)) in
+      (λ e. let (p, l, (a, b)) = f e in (p, l, a, b), λ (p, l, a, b). g (p, l, (a, b)))
 
   pub free↔ : (t : ℕ) → (freeChoice N t ≡ true) ↔ FreeChoice N t
   unfolding freeChoice sharesAlike
-  free↔ t = (
-    λ e u l s. takes↔ t u .0 (rw (shares↔ t u .1 s) at (all-out (sharesAlike N t) (N .transitions) e u l)),
-    λ h. all-in (sharesAlike N t) (N .transitions)
-        (λ u l. byTest (sharesPlace N t u) (λ e. rw e (takes↔ t u .1 (h u l (shares↔ t u .0 e)))) (λ e. rw e)),
-  )
+  free↔ t = all↔ (sharesAlike N t) (N .transitions) (λ u l. unless↔ _ _ (decides-not _ (shares↔ t u .0) (shares↔ t u .1)) (takes↔ t u))
 
   pub choice↔ : (t u : ℕ) → (sameChoice N t u ≡ true) ↔ SameChoice N t u
   unfolding sameChoice
@@ -116,9 +96,7 @@ module _ (N : PetriNet) where
   }
 
   pub source-choice : (t u : ℕ) → isSource N t ≡ true → sameChoice N t u ≡ isSource N u
-  source-choice t u h =
-      let (f, g) = choice-source t u (source↔ t .0 h) in
-      iff→eq (sameChoice N t u) (isSource N u) (λ e. source↔ u .1 (f (choice↔ t u .0 e))) (λ e. choice↔ t u .1 (g (source↔ u .0 e)))
+  source-choice t u h = equal↔ _ _ (choice↔ t u) (source↔ u) (choice-source t u (source↔ t .0 h))
 
   pub source-is-free : (t : ℕ) → isSource N t ≡ true → freeChoice N t ≡ true
   source-is-free t h = free↔ t .1 (source-free t (source↔ t .0 h))
@@ -130,13 +108,12 @@ module _ (N : PetriNet) where
   leader-free t =
       let c = leaderBy (takesSame N) t in
       let a = takes↔ c t .0 (leader-member (takesSame N) takes-equivalence t) in
-      iff→eq (freeChoice N c) (freeChoice N t) (λ h. free↔ t .1 (free-alike c t a (free↔ c .0 h))) (λ h. free↔ c .1 (free-alike t c (takes-sym c t a) (free↔ t .0 h)))
+      equal↔ _ _ (free↔ c) (free↔ t) (free-alike c t a, free-alike t c (takes-sym c t a))
 
   -- where it is free the least of them is that of the choice set, and where not a transition is its own
   pub leader-together : (t : ℕ) → freeChoice N t ≡ true → leaderBy (sameChoice N) t ≡ leaderBy (takesSame N) t
-  leader-together t c = leader-ext (sameChoice N) (takesSame N) t (λ u l. iff→eq (sameChoice N u t) (takesSame N u t)
-      (λ e. takes↔ u t .1 (choice-takes u t (choice↔ u t .0 e)))
-      (λ e. let a = takes↔ u t .0 e in choice↔ u t .1 (inr (a, free-alike t u (takes-sym u t a) (free↔ t .0 c)))))
+  leader-together t c = leader-ext (sameChoice N) (takesSame N) t
+      (λ u l. equal↔ _ _ (choice↔ u t) (takes↔ u t) (choice-takes u t, λ a. inr (a, free-alike t u (takes-sym u t a) (free↔ t .0 c))))
 
   pub leader-alone : (t : ℕ) → freeChoice N t ≡ false → leaderBy (sameChoice N) t ≡ t
   leader-alone t o =

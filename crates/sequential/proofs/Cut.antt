@@ -1,16 +1,8 @@
 -- A net or a sheet of more words than fit is answered as its first words are: the longest sheet has 8,194.
-use Prim.Native.Nat.{ℕ, _+_, _*_, _≤_, _<_}
-use native.Mathlib.Omega.{arith}
-use mathlib.Core.Path.{_≡_, sym, ap, _∙_}
-use mathlib.Core.List.{List}
-use mathlib.Core.Bool.{true, false, cond}
-use mathlib.Core.Option.{some}
-use lib.Dec.{ltb, leb, eqb}
-use lib.ListN.{length, take}
+use Rattle.scan.proofs.Basics.{ℕ, _+_, _*_, _≤_, _<_, arith, _≡_, sym, ap, _∙_, true, false, cond, ltb, eqb, some, List, length, take}
 use lib.Seq.{getD-take, take-all, length-take-le}
-use borrow.Author.Tests.{leb-true, leb-false, le-ltb, ne-eqb}
+use Rattle.scan.proofs.Tests.{le-ltb, ne-eqb, byTest, byLess}
 use Rattle.scan.specs.Scan.{orElse, when}
-use Rattle.scan.proofs.Tests.{byTest}
 use Rattle.scan.proofs.First.{orElse-hit}
 use Rattle.refusal.specs.Refusal.{refusal}
 use Rattle.refusal.specs.declared.Position.the-variants.{Nothing}
@@ -21,7 +13,7 @@ use Rattle.sequential.specs.Petri.{PetriNet, petriNet}
 use Rattle.sequential.specs.Words.{nodeCount, entryCount}
 use Rattle.sequential.specs.Check.{sizesPass, shapeFault, scheduleFault, scheduleReply}
 use Rattle.refusal.proofs.Verdicts.{then-refused}
-use Rattle.sequential.proofs.Words.{sizes-out, words-fault}
+use Rattle.sequential.proofs.Words.{sizes↔, words-fault}
 
 -- what more words than fit are refused by: sizes, or else the length
 unfoldable overlongFault : ℕ → ℕ → Refusal
@@ -30,7 +22,7 @@ overlongFault v k = cond (sizesPass v k) (refusal 6 Nothing) (refusal 7 Nothing)
 module _ (N : PetriNet) (sheet : List ℕ) (l : 8195 ≤ length sheet) where
   not-whole : sizesPass (nodeCount sheet) (entryCount sheet) ≡ true → eqb (length sheet) (2 + 2 * entryCount sheet) ≡ false
   not-whole h =
-      let (a, b, c) = sizes-out (nodeCount sheet) (entryCount sheet) h in
+      let (a, b, c) = sizes↔ (nodeCount sheet) (entryCount sheet) .0 h in
       ne-eqb (length sheet) (2 + 2 * entryCount sheet) (λ e. omega (arith, e, c))
 
   shape-overlong : shapeFault sheet ≡ some (overlongFault (nodeCount sheet) (entryCount sheet))
@@ -51,9 +43,7 @@ module _ (N : PetriNet) (m : ℕ) (l : 8195 ≤ m) (sheet : List ℕ) where
       ∙ rw (getD-take m sheet 0 0 (omega arith), getD-take m sheet 1 0 (omega arith)) (sym (sheet-overlong N sheet (omega arith)))
 
   cut-fault : scheduleFault N (take m sheet) ≡ scheduleFault N sheet
-  cut-fault =
-      byTest (leb (length sheet) m) (λ h. ap (scheduleFault N) (take-all m sheet (leb-true (length sheet) m h)))
-      (λ h. cut-overlong (leb-false (length sheet) m h))
+  cut-fault = byLess m (length sheet) cut-overlong (λ h. ap (scheduleFault N) (take-all m sheet h))
 
 module _ (n m : ℕ) (a : 4228 ≤ n) (b : 8195 ≤ m) (net sheet : List ℕ) where
   whole-net : length net ≤ n → scheduleReply (take n net) (take m sheet) ≡ scheduleReply net sheet
@@ -69,4 +59,4 @@ module _ (n m : ℕ) (a : 4228 ≤ n) (b : 8195 ≤ m) (net sheet : List ℕ) wh
 
   -- the first 4,228 words of a net and 8,195 of a sheet tell the answer
   pub cut-reply-both : scheduleReply (take n net) (take m sheet) ≡ scheduleReply net sheet
-  cut-reply-both = byTest (leb (length net) n) (λ h. whole-net (leb-true (length net) n h)) (λ h. overlong-net (leb-false (length net) n h))
+  cut-reply-both = byLess n (length net) overlong-net whole-net

@@ -1,17 +1,8 @@
 -- The entries of arcs and the arcs of the graph are the same thing, and counts are in range.
-use Prim.Native.Nat.{ℕ, _+_, _*_, _/_, _%_, _≤_, _<_}
-use native.Mathlib.Omega.{arith}
-use native.Mathlib.Decide.{decLt}
+use Rattle.scan.proofs.Basics.{ℕ, _+_, _*_, _/_, _%_, _≤_, _<_, arith, _≡_, refl, sym, ap, _∙_, Bool, true, false, cond, _&&_, ltb, Option, none, some, Option·map, List, getD}
 use native.Mathlib.Nat.{div-lt-iff-lt-mul, mul-add-div-right, mul-add-mod-self-right, div-eq-of-lt, mod-eq-of-lt, mod-lt, add-zero, mul-le-mul-right, div-add-mod'}
-use mathlib.Core.Path.{_≡_, refl, sym, ap, _∙_}
-use mathlib.Core.List.{List}
-use mathlib.Core.Bool.{Bool, true, false, cond, _&&_}
-use mathlib.Core.Option.{Option, none, some, Option·map}
-use lib.ListN.{getD}
-use lib.Dec.{ltb}
-use borrow.Author.Tests.{lt-ltb, le-ltb, ltb-true}
+use Rattle.scan.proofs.Tests.{ltb-true, lt-ltb, le-ltb, byTest, byLess}
 use Rattle.scan.specs.Scan.{tabulate, foundOr}
-use Rattle.scan.proofs.Tests.{byTest}
 use Rattle.scan.proofs.First.{none-some}
 use Rattle.scan.proofs.Tabulate.{tabulate-at}
 use Rattle.table.specs.Table.{keyAt}
@@ -88,10 +79,9 @@ module _ (N : PetriNet) (sheet : List ℕ) (T : 0 < N .transitions) (w : ArcsHol
   -- the keys rise, so after a key of a count come only counts
   pub counts-follow : (i : ℕ) → arcKeys N sheet ≤ entryKey sheet i → (j : ℕ) → i ≤ j → j < entryCount sheet → isArc N sheet j ≡ false
   unfolding isArc entryKey
-  counts-follow i h j l m = elim (decLt i j) [
-    | yes p ↦ le-ltb (keyAt sheet 2 j) (arcKeys N sheet) (let z = rising sheet 2 (entryCount sheet) (words-rise N sheet w) i j p m in omega arith)
-    | no p ↦ let e : j ≡ i = omega arith in rw e (le-ltb _ _ h)
-  ]
+  counts-follow i h j l m =
+      byLess i j (λ p. le-ltb (keyAt sheet 2 j) (arcKeys N sheet) (let z = rising sheet 2 (entryCount sheet) (words-rise N sheet w) i j p m in omega arith))
+      (λ p. let e : j ≡ i = omega arith in rw e (le-ltb _ _ h))
 
   -- ---- the graph is closed
 

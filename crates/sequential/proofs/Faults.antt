@@ -1,16 +1,8 @@
 -- 10 to 17, with 27: the tests decide the clauses.
-use Prim.Native.Nat.{ℕ, _-_, _<_}
-use mathlib.Core.Path.{_≡_, sym, ap, _∙_}
-use mathlib.Core.Logic.{_↔_}
-use mathlib.Core.List.{List}
-use mathlib.Core.Bool.{true, false, not}
-use mathlib.Core.Option.{none}
-use lib.ListN.{getD}
-use borrow.Author.Tests.{ltb-true, lt-ltb, eqb-true, eq-eqb}
+use Rattle.scan.proofs.Basics.{ℕ, _-_, _<_, _≡_, sym, ap, _∙_, _↔_, true, false, not, none, List, getD}
+use Rattle.scan.proofs.Tests.{eqb-true, eq-eqb, decides-not, decides-unless}
 use Rattle.scan.specs.Scan.{orElse, when, first}
-use Rattle.scan.proofs.Tests.{decides-not, decides-unless}
 use Rattle.scan.proofs.First.{first-one}
-use Rattle.scan.proofs.Every.{all-in, all-out}
 use Rattle.scan.proofs.Tabulate.{tabulate-at, tabulate-ext}
 use Rattle.automaton.specs.Automaton.{Automaton}
 use Rattle.automaton.specs.Reach.{Reachable, Leads, reachedIn, leadsIn}
@@ -21,6 +13,7 @@ use Rattle.refusal.specs.Refusal.{refusal}
 use Rattle.refusal.specs.Finding.{foundAt, foundBy, lineFinds, finding}
 use Rattle.refusal.specs.declared.Position.the-variants.{Entry}
 use Rattle.refusal.proofs.Checks.{Decides, Decided, Lawful, Tells, finding-tells}
+use Rattle.scan.proofs.Decide.{eqb↔, ltb↔, all↔}
 use Rattle.sequential.specs.Petri.{PetriNet, initial, fire, firedCount, HoldsTaken, HasRoom}
 use Rattle.sequential.specs.Words.{nodeCount, entryCount, entryValue, countAt, marking, graph, isArc, arcNode, arcTransition, entryKey, arcKeys}
 use Rattle.sequential.specs.Schedule.{Offers, ToAwait}
@@ -58,7 +51,7 @@ module _ (N : PetriNet) (sheet : List ℕ) where
 
   pub isArc↔ : (i : ℕ) → (isArc N sheet i ≡ true) ↔ entryKey sheet i < arcKeys N sheet
   unfolding isArc
-  isArc↔ i = (ltb-true _ _, lt-ltb _ _)
+  isArc↔ i = ltb↔ _ _
 
   arcHolds↔ : (i : ℕ) → (arcHolds N sheet i ≡ true) ↔ HoldsTaken N (marking N sheet (arcNode N sheet i)) (arcTransition N sheet i)
   unfolding arcHolds
@@ -91,10 +84,9 @@ module _ (N : PetriNet) (sheet : List ℕ) where
         → (arcLands N sheet i ≡ true) ↔ (marking N sheet (entryValue sheet i) ≡ fire N (marking N sheet (arcNode N sheet i)) (arcTransition N sheet i))
     unfolding arcLands landsAt
     arcLands↔ i l a =
-        let (f, g) = fired-marking (entryValue sheet i) (arcTransition N sheet i) (marking N sheet (arcNode N sheet i)) (entry-target N sheet T w i l (isArc↔ i .1 a)) in (
-          λ e. g (λ p k. eqb-true _ _ (all-out (landsAt N sheet i) (N .places) e p k)),
-          λ h. all-in (landsAt N sheet i) (N .places) (λ p k. eq-eqb _ _ (f h p k)),
-        )
+        let (f, g) = fired-marking (entryValue sheet i) (arcTransition N sheet i) (marking N sheet (arcNode N sheet i)) (entry-target N sheet T w i l (isArc↔ i .1 a)) in
+        let (h, k) = all↔ (landsAt N sheet i) (N .places) (λ p l. eqb↔ _ _) in
+        (λ e. g (h e), λ e. k (f e))
 
     offers-in : (n t : ℕ) → Offers N (graph N sheet) n t → offersSome N (graph N sheet) n ≡ true
     offers-in n t (m, e) = some-in N (graph N sheet) n t (arc-transition (graph N sheet) (graph-closed N sheet T w) n t m e) (m, e)

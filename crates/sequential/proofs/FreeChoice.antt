@@ -1,13 +1,7 @@
 -- The published free-choice sets are the choice sets: §5.5.
-use Prim.Native.Nat.{ℕ, _<_}
-use native.Mathlib.Omega.{arith}
-use mathlib.Core.Path.{_≡_, refl, sym, _∙_}
-use mathlib.Core.Logic.{_↔_, inl, inr}
-use mathlib.Core.Bool.{Bool}
-use lib.Dec.{ltb, eqb}
-use borrow.Author.Tests.{ltb-true, ltb-false, eqb-true, eqb-false}
+use Rattle.scan.proofs.Basics.{ℕ, _<_, arith, _≡_, refl, sym, _∙_, inl, inr, _↔_, Bool, ltb, eqb}
+use Rattle.scan.proofs.Tests.{ltb-true, ltb-false, eqb-true, eqb-false, byTest, true-false, iff→eq}
 use Rattle.scan.specs.Scan.{any}
-use Rattle.scan.proofs.Tests.{byTest, true-false, iff→eq}
 use Rattle.scan.proofs.Every.{any-out, any-before}
 use Rattle.sequential.specs.Petri.{PetriNet, Source, SharesPlace, SameChoice}
 use Rattle.sequential.specs.Tests.{sameChoice}

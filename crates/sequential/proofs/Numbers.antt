@@ -1,17 +1,12 @@
 -- The number of arc entries is the number of arcs of the graph.
-use Prim.Native.Nat.{ℕ, zero, suc, _+_, _*_, _/_, _%_, _<_}
-use native.Mathlib.Omega.{arith}
+use Rattle.scan.proofs.Basics.{ℕ, zero, suc, _+_, _*_, _/_, _%_, _<_, arith, _≡_, refl, sym, _∙_, ⊎-elim, Bool, true, false, ltb, eqb, List}
+use Prim.Native.Nat.{zero-le}
 use native.Mathlib.Nat.{div-add-mod'}
-use mathlib.Core.Path.{_≡_, refl, sym, _∙_}
-use mathlib.Core.Logic.{⊎-elim}
-use mathlib.Core.List.{List}
-use mathlib.Core.Bool.{Bool, true, false, or-false}
-use lib.Dec.{ltb, eqb}
-use borrow.Author.Tests.{ltb-true, ltb-false, eqb-true, eq-eqb, ne-eqb}
+use mathlib.Core.Bool.{or-false}
+use Rattle.scan.proofs.Tests.{ltb-true, ltb-false, eqb-true, eq-eqb, ne-eqb, byTest, iff→eq, lt-suc-cases}
 use Rattle.scan.specs.Scan.{any, bit, count}
-use Rattle.scan.proofs.Tests.{byTest, iff→eq, lt-suc-cases}
 use Rattle.scan.proofs.Every.{any-in, any-out, any-none, any-none-yet}
-use Rattle.scan.proofs.Count.{count-ext}
+use Rattle.scan.proofs.Count.{count-prefix, count-ext}
 use Rattle.table.proofs.Table.{rising}
 use Rattle.sequential.specs.Petri.{PetriNet}
 use Rattle.sequential.specs.Words.{nodeCount, entryCount, entryKey, arcKeys, graph, isArc, arcNode, arcTransition}
@@ -24,11 +19,6 @@ use Rattle.sequential.proofs.Clauses.{offers↔}
 use Rattle.sequential.proofs.Faults.{isArc↔}
 
 -- ---- counting
-
-count-none : (f : ℕ → Bool) (n : ℕ) → ((i : ℕ) → i < n → f i ≡ false) → count f n ≡ 0
-unfolding count bit
-count-none f zero h = refl
-count-none f (suc n) h = rw (h n (omega arith), count-none f n (λ i l. h i (omega arith)))
 
 -- g passes at one index more than f
 count-one-more : (f g : ℕ → Bool) (n x : ℕ) → x < n → f x ≡ false → g x ≡ true → ((i : ℕ) → i < n → (i ≡ x → ⊥) → f i ≡ g i) → count g n ≡ count f n + 1
@@ -54,7 +44,7 @@ module _ (key : ℕ → ℕ) where
 
   keys-below : (limit k : ℕ) → ((i j : ℕ) → i < j → j < k → key i < key j) → count (λ i. ltb (key i) limit) k ≡ count (isKey k) limit
   unfolding count bit
-  keys-below limit zero r = sym (count-none (isKey 0) limit (λ v l. any-none-yet (is v)))
+  keys-below limit zero r = sym (count-prefix (isKey 0) limit 0 zero-le (λ v l. absurd (omega arith)) (λ v z l. any-none-yet (is v)))
   keys-below limit (suc k) r =
       let h = keys-below limit k (λ i j m l. r i j m (omega arith)) in
       let new : isKey k (key k) ≡ false = any-none (is (key k)) k (λ i m. ne-eqb (key i) (key k) (λ q. omega (arith, r i k m (omega arith)))) in

@@ -1,6 +1,5 @@
 -- Paths of at most V - 1 firings: to every node that is reached, and to an await node where there is one.
-use Prim.Native.Nat.{ℕ, _<_}
-use mathlib.Core.List.{List}
+use Rattle.scan.proofs.Basics.{ℕ, _<_, List}
 use Rattle.automaton.proofs.Reach.{reachable-short}
 use Rattle.automaton.proofs.Lead.{leads-short}
 use Rattle.sequential.specs.Petri.{PetriNet}

@@ -1,13 +1,9 @@
 -- The published definition and §6.1: a schedule is one in the published sense (§6.12), and one of those whose states are all reached is a schedule.
-use Prim.Native.Nat.{ℕ, _<_}
-use mathlib.Core.Path.{_≡_}
-use mathlib.Core.Logic.{_↔_}
-use mathlib.Core.List.{List, [], _∷_}
-use mathlib.Core.Option.{some}
+use Rattle.scan.proofs.Basics.{ℕ, _<_, _≡_, _↔_, some, List, [], _∷_}
 use Rattle.automaton.specs.Automaton.{Automaton, Closed, follow}
 use Rattle.automaton.specs.Reach.{Reachable}
-use Rattle.automaton.proofs.Automaton.{arc-transition, follow-first, follow-lands}
-use Rattle.sequential.specs.Petri.{PetriNet, initial, fireAll, FiresEnabled, Source, SameChoice}
+use Rattle.automaton.proofs.Automaton.{follow-first, follow-lands}
+use Rattle.sequential.specs.Petri.{PetriNet, Source, SameChoice}
 use Rattle.sequential.specs.Schedule.{Offers, Await, OneChoiceSet, IsSchedule}
 use Rattle.sequential.specs.Published.{InFCS, SequentialSchedule}
 use Rattle.sequential.proofs.Choices.{choice-sym, choice-trans, choice-source}
@@ -17,25 +13,19 @@ use Rattle.sequential.proofs.Runs.{arc-below, from-root}
 -- ---- a schedule in the published sense
 
 module _ (N : PetriNet) (A : Automaton) (c : Closed A) (same : A .transitions ≡ N .transitions) (s : IsSchedule N A) where
-  marking-reached : (n : ℕ) → n < A .nodes → (σ : List ℕ) × FiresEnabled N (initial N) σ × (fireAll N (initial N) σ ≡ A .label n)
-  unfolding Reachable
-  marking-reached n l =
-      let (σ, e) = s .reached n l in
-      let (f, h) = from-root N A c same s σ n e in
-      (σ, f, h)
-
   -- whichever member of the choice set is offered, the others are those of its own
   one-choice : (n t u : ℕ) → n < A .nodes → u < N .transitions → Offers N A n t → Offers N A n u ↔ InFCS N t u
   one-choice n t u l k (m, e) =
       let (v, j, h) = s .choices n l in
-      let i = arc-below N A c same s n t m e in
+      let i = arc-below N A c same n t m e in
       let q : SameChoice N v t = h t i .0 (m, e) in
       let (f, g) = choice-fcs N t u i k in
       (λ o. f (choice-trans N t v u (choice-sym N v t q) (h u k .0 o)), λ x. h u k .1 (choice-trans N v t u q (g x)))
 
   pub sequential : SequentialSchedule N A
+  unfolding Reachable
   sequential = record {
-    maps = marking-reached;
+    maps = λ n l. let (σ, e) = s .reached n l in let (f, h) = from-root N A c same s σ n e in (σ, f, h);
     maps-root = s .starts;
     fires = λ n t m l e. (s .enables n t m l e, s .lands n t m l e);
     chooses = one-choice;
@@ -52,13 +42,10 @@ module _ (N : PetriNet) (A : Automaton) (c : Closed A) (same : A .transitions �
   offers-first [] n m t e o = let z : n ≡ m = unfold follow in (cc) in (t, rw z o)
   offers-first (u ∷ σ) n m t e o = let (x, a, f) = follow-first A n u m σ e in (u, (x, a))
 
-  below : (n t m : ℕ) → A .arc n t ≡ some m → t < N .transitions
-  below n t m e = rw same at (arc-transition A c n t m e)
-
   chosen : (n t u : ℕ) → n < A .nodes → u < N .transitions → Offers N A n t → Offers N A n u ↔ SameChoice N t u
   chosen n t u l j (m, e) =
       let (f, g) = q .chooses n t u l j (m, e) in
-      let (h, k) = choice-fcs N t u (below n t m e) j in
+      let (h, k) = choice-fcs N t u (arc-below N A c same n t m e) j in
       (λ x. k (f x), λ y. g (h y))
 
   choices : (n : ℕ) → n < A .nodes → OneChoiceSet N A n
@@ -66,7 +53,7 @@ module _ (N : PetriNet) (A : Automaton) (c : Closed A) (same : A .transitions �
       let (t, k, s) = some-source in
       let (σ, m, e, o) = q .serves n t l k s in
       let (u, (x, a)) = offers-first σ n m t e o in
-      (u, below n u x a, λ v j. chosen n u v l j (x, a))
+      (u, arc-below N A c same n u x a, λ v j. chosen n u v l j (x, a))
 
   -- a node that offers a source offers exactly the sources
   awaits : (n t : ℕ) → n < A .nodes → Source N t → Offers N A n t → Await N A n

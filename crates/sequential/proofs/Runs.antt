@@ -1,9 +1,5 @@
 -- Lists that a schedule allows: they fire from the initial marking, go on by one choice set, and lead on to an await node.
-use Prim.Native.Nat.{ℕ, _<_}
-use mathlib.Core.Path.{_≡_, sym, ap, _∙_}
-use mathlib.Core.List.{List, [], _∷_, _++_}
-use mathlib.Core.Bool.{true}
-use mathlib.Core.Option.{some}
+use Rattle.scan.proofs.Basics.{ℕ, _<_, _≡_, sym, ap, _∙_, true, some, List, [], _∷_, _++_}
 use Rattle.automaton.specs.Automaton.{Automaton, Closed, follow, allows}
 use Rattle.automaton.proofs.Automaton.{arc-transition, follow-first, follow-on, follow-snoc, follow-lands, allows-follow, follow-allows}
 use Rattle.sequential.specs.Petri.{PetriNet, initial, SameChoice, fireAll, FiresEnabled, fires-none, fires-first}
@@ -11,11 +7,11 @@ use Rattle.sequential.specs.Schedule.{Await, IsSchedule}
 use Rattle.sequential.specs.Runs.{Runs, GoesOn}
 use Rattle.sequential.proofs.Choices.{choice-refl}
 
-module _ (N : PetriNet) (A : Automaton) (c : Closed A) (same : A .transitions ≡ N .transitions) (s : IsSchedule N A) where
-  -- only a transition of the net has an arc
-  pub arc-below : (n t m : ℕ) → A .arc n t ≡ some m → t < N .transitions
-  arc-below n t m e = rw same at (arc-transition A c n t m e)
+-- only a transition of the net has an arc
+pub arc-below : (N : PetriNet) (A : Automaton) → Closed A → A .transitions ≡ N .transitions → (n t m : ℕ) → A .arc n t ≡ some m → t < N .transitions
+arc-below N A c same n t m e = rw same at (arc-transition A c n t m e)
 
+module _ (N : PetriNet) (A : Automaton) (c : Closed A) (same : A .transitions ≡ N .transitions) (s : IsSchedule N A) where
   -- ---- firing along a list
 
   along : (σ : List ℕ) (n m : ℕ) → n < A .nodes → follow A n σ ≡ some m → FiresEnabled N (A .label n) σ × (fireAll N (A .label n) σ ≡ A .label m)
@@ -25,7 +21,7 @@ module _ (N : PetriNet) (A : Automaton) (c : Closed A) (same : A .transitions �
       let (x, a, f) = follow-first A n t m σ e in
       let (g, h) = along σ x m (c .lands n t x l a) f in
       let q = s .lands n t x l a in
-      (fires-first _ t σ (arc-below n t x a) (s .enables n t x l a) (rw q at g), rw (← q) h)
+      (fires-first _ t σ (arc-below N A c same n t x a) (s .enables n t x l a) (rw q at g), rw (← q) h)
 
   pub from-root : (σ : List ℕ) (m : ℕ) → follow A 0 σ ≡ some m → FiresEnabled N (initial N) σ × (fireAll N (initial N) σ ≡ A .label m)
   from-root σ m e = rw (s .starts) at (along σ 0 m (c .root) e)
@@ -52,7 +48,7 @@ module _ (N : PetriNet) (A : Automaton) (c : Closed A) (same : A .transitions �
         extended = λ u. (
           λ b. let (x, f) = allows-follow A 0 (σ ++ (u ∷ [])) b in
               let q = sym (follow-snoc A σ 0 m u e) ∙ f in
-              let k = arc-below m u x q in
+              let k = arc-below N A c same m u x q in
               (k, h u k .0 (x, q)),
           λ (k, q). by u k q,
         );

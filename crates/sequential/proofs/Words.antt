@@ -1,65 +1,51 @@
 -- 6 to 9: the tests decide the clauses, and what a schedule's words hold that pass.
-use Prim.Native.Nat.{ℕ, _+_, _≤_}
-use native.Mathlib.Omega.{arith}
-use mathlib.Core.Path.{_≡_, sym, ap, _∙_}
-use mathlib.Core.Logic.{_↔_}
-use mathlib.Core.List.{List, [], _∷_, _++_}
-use mathlib.Core.Bool.{Bool, true, false}
-use mathlib.Core.Option.{none}
-use lib.ListN.{length}
-use lib.Dec.{ltb, eqb}
-use borrow.Author.Tests.{leb-true, leb-false, ltb-true, ltb-false, eqb-true, eqb-false, lt-ltb, le-ltb, le-leb, lt-leb, eq-eqb, ne-eqb}
+use Rattle.scan.proofs.Basics.{ℕ, _+_, _≤_, _<_, arith, _≡_, sym, ap, _∙_, _↔_, Bool, true, false, ltb, eqb, none, List, [], _∷_, _++_, length}
+use Rattle.scan.proofs.Tests.{ltb-true, ltb-false, lt-ltb, le-ltb, leb-false, lt-leb, eqb-true, eqb-false, eq-eqb, ne-eqb, byTest, decides-not, or-none-left, or-none-right}
 use Rattle.scan.specs.Scan.{orElse, first}
-use Rattle.scan.proofs.Tests.{byTest, decides-not, and-left, and-right, and-both, or-none-left, or-none-right}
 use Rattle.scan.proofs.First.{orElse-assoc}
 use Rattle.table.specs.Table.{KeyPasses, Rising}
+use Rattle.table.specs.Keys.{keyFails}
 use Rattle.table.proofs.Keys.{key-passes, keys-rise}
-use Rattle.refusal.specs.Limits.{mostCount}
+use Rattle.refusal.specs.Limits.{mostNodes, mostEntries, mostCount}
 use Rattle.refusal.specs.Checks.{_else_, Check, each, AllPass}
 use Rattle.refusal.specs.Finding.{foundAt, foundBy, finding}
 use Rattle.refusal.specs.declared.Position.the-variants.{Entry}
 use Rattle.refusal.proofs.Checks.{Decides, Decided, Lawful, Tells, finding-tells}
+use Rattle.refusal.proofs.Judges.{pass-append, tells-append}
+use Rattle.scan.proofs.Decide.{leb↔, and↔}
 use Rattle.sequential.specs.Petri.{PetriNet}
 use Rattle.sequential.specs.Words.{nodeCount, entryCount, entryKey, entryValue, arcKeys, keyLimit}
-use Rattle.sequential.specs.Checks.{SizesPass, ArcValuePasses, ValuePasses, shapeChecks, wordChecks, arcWordChecks, WordsPass}
+use Rattle.sequential.specs.Checks.{ArcValuePasses, ValuePasses, shapeChecks, wordChecks, arcWordChecks, WordsPass}
 use Rattle.sequential.specs.Check.{sizesPass, shapeTests, targetFails, countFails, valueFails, arcValueFails, shapeFault, entryFault, wordTests, wordsFault, arcWordsFault}
 use Rattle.sequential.specs.Known.{ShapePasses, ArcsHold, WordsHold}
 
 -- ---- sizes and length
 
-pub sizes-out : (v k : ℕ) → sizesPass v k ≡ true → (1 ≤ v) × (v ≤ 128) × (k ≤ 4096)
+pub sizes↔ : (v k : ℕ) → (sizesPass v k ≡ true) ↔ ((1 ≤ v) × (v ≤ mostNodes) × (k ≤ mostEntries))
 unfolding sizesPass
-sizes-out v k h = (leb-true _ _ (search (and-left, and-right)), leb-true _ _ (search (and-left, and-right)), leb-true _ _ (search (and-left, and-right)))
-
-pub sizes-in : (v k : ℕ) → 1 ≤ v → v ≤ 128 → k ≤ 4096 → sizesPass v k ≡ true
-unfolding sizesPass
-sizes-in v k a b c = let p = le-leb _ _ a in let q = le-leb _ _ b in let r = le-leb _ _ c in search and-both
+sizes↔ v k =
+    let (f, g) = and↔ {B = (v ≤ mostNodes) × (k ≤ mostEntries)} _ _ (leb↔ _ _) (and↔ _ _ (leb↔ _ _) (leb↔ _ _)) in
+    (λ e. let (a, (b, c)) = f e in (a, b, c), λ (a, b, c). g (a, (b, c)))
 
 module _ (sheet : List ℕ) where
-  sizes-decided : (sizesPass (nodeCount sheet) (entryCount sheet) ≡ true) ↔ SizesPass sheet
-  sizes-decided = (sizes-out _ _, λ (a, b, c). sizes-in _ _ a b c)
-
-  shape-lawful : Lawful Unit (shapeChecks sheet) (shapeTests sheet)
-  unfolding Lawful Decided
-  shape-lawful = (
+  shape-tells : Tells (shapeFault sheet) (shapeChecks sheet)
+  unfolding shapeFault Lawful Decided
+  shape-tells = finding-tells Unit (shapeChecks sheet) (shapeTests sheet) (
     λ h. (ltb-false _ _, le-ltb _ _),
-    (
-      λ h. decides-not _ (sizes-decided .0) (sizes-decided .1),
-      (λ h. decides-not _ (eqb-true _ _) (eq-eqb _ _), tt),
-    ),
+    (λ h. decides-not _ (sizes↔ _ _ .0) (sizes↔ _ _ .1), (λ h. decides-not _ (eqb-true _ _) (eq-eqb _ _), tt)),
+  ) tt
+
+  shape-hold : AllPass (shapeChecks sheet) ↔ ShapePasses sheet
+  shape-hold = (
+    λ (a, (b, (c, u))). record { some-node = b .0; few-nodes = b .1; few-entries = b .2; whole = c },
+    λ s. let w = s .whole in (omega arith, ((s .some-node, s .few-nodes, s .few-entries), (w, tt))),
   )
 
-  shape-tells : Tells (shapeFault sheet) (shapeChecks sheet)
-  unfolding shapeFault
-  shape-tells = finding-tells Unit (shapeChecks sheet) (shapeTests sheet) shape-lawful tt
-
   pub shape-out : shapeFault sheet ≡ none → ShapePasses sheet
-  shape-out h =
-      let (a, (b, (c, u))) = shape-tells .passes .0 h in
-      record { some-node = b .0; few-nodes = b .1; few-entries = b .2; whole = c }
+  shape-out h = shape-hold .0 (shape-tells .passes .0 h)
 
   pub shape-in : ShapePasses sheet → shapeFault sheet ≡ none
-  shape-in s = let w = s .whole in shape-tells .passes .1 (omega arith, ((s .some-node, s .few-nodes, s .few-entries), (w, tt)))
+  shape-in s = shape-tells .passes .1 (shape-hold .1 s)
 
 -- ---- values
 
@@ -93,30 +79,31 @@ module _ (sheet : List ℕ) (arcs i : ℕ) where
 
 -- ---- the words, for any clause of an entry's value and its test
 
-module _ (N : PetriNet) (sheet : List ℕ) (Value : ℕ → Type 0) (fails : ℕ → Bool) (decided : (i : ℕ) → (fails i ≡ false) ↔ Value i) where
-  abbrev checks : List Check
-  checks = shapeChecks sheet ++ (each (entryCount sheet) Entry (KeyPasses sheet 2 (keyLimit N sheet) else 8 ∷ Value else 9 ∷ []) ∷ [])
+module _ (N : PetriNet) (sheet : List ℕ) (Value : ℕ → Type 0) where
+  abbrev entries : List Check
+  entries = each (entryCount sheet) Entry (KeyPasses sheet 2 (keyLimit N sheet) else 8 ∷ Value else 9 ∷ []) ∷ []
 
-  lawful : Lawful Unit checks (wordTests N sheet fails)
-  unfolding Lawful Decided Decides
-  lawful = (
-    λ h. (ltb-false _ _, le-ltb _ _),
-    (
-      λ h. decides-not _ (sizes-decided sheet .0) (sizes-decided sheet .1),
-      (
-        λ h. decides-not _ (eqb-true _ _) (eq-eqb _ _),
-        (λ h i l. (key-passes sheet 2 (keyLimit N sheet) i, λ k. (decided i, λ v. tt)), tt),
-      ),
-    ),
-  )
+  entries-hold : AllPass (shapeChecks sheet ++ entries)
+      ↔ (ShapePasses sheet × ((i : ℕ) → i < entryCount sheet → KeyPasses sheet 2 (keyLimit N sheet) i) × ((i : ℕ) → i < entryCount sheet → Value i))
+  entries-hold =
+      let (f, g) = pass-append (shapeChecks sheet) entries in (
+        λ p. let (a, (d, u)) = f p in (shape-hold sheet .0 a, λ i l. d i l .0, λ i l. d i l .1 .0),
+        λ (s, k, v). g (shape-hold sheet .1 s, (λ i l. (k i l, (v i l, tt)), tt)),
+      )
 
-  tell : Tells (finding checks (wordTests N sheet fails)) checks
-  tell = finding-tells Unit checks (wordTests N sheet fails) lawful tt
+  module _ (fails : ℕ → Bool) (decided : (i : ℕ) → (fails i ≡ false) ↔ Value i) where
+    -- the functions' parts, one after the other
+    parts : finding (shapeChecks sheet ++ entries) (wordTests N sheet fails) ≡ orElse (shapeFault sheet) (first (entryFault sheet (keyLimit N sheet) fails) (entryCount sheet))
+    unfolding shapeFault entryFault finding foundBy foundAt
+    parts = sym (orElse-assoc _ _ _ ∙ ap (orElse _) (orElse-assoc _ _ _))
 
-  -- the functions' parts, one after the other
-  parts : finding checks (wordTests N sheet fails) ≡ orElse (shapeFault sheet) (first (entryFault sheet (keyLimit N sheet) fails) (entryCount sheet))
-  unfolding shapeFault entryFault finding foundBy foundAt
-  parts = sym (orElse-assoc _ _ _ ∙ ap (orElse _) (orElse-assoc _ _ _))
+    entries-tell : Tells (first (entryFault sheet (keyLimit N sheet) fails) (entryCount sheet)) entries
+    unfolding entryFault finding foundBy foundAt Lawful Decided Decides
+    entries-tell =
+        finding-tells Unit entries ((keyFails sheet 2 (keyLimit N sheet) ∷ fails ∷ []) ∷ []) (λ h i l. (key-passes sheet 2 (keyLimit N sheet) i, λ k. (decided i, λ v. tt)), tt) tt
+
+    tell : Tells (finding (shapeChecks sheet ++ entries) (wordTests N sheet fails)) (shapeChecks sheet ++ entries)
+    tell = rw parts (tells-append _ _ (shapeChecks sheet) entries (shape-tells sheet) (λ p. entries-tell))
 
 module _ (N : PetriNet) (sheet : List ℕ) where
   pub words-tell : Tells (wordsFault N sheet) (wordChecks N sheet)
@@ -138,38 +125,22 @@ module _ (N : PetriNet) (sheet : List ℕ) where
   -- ---- what they hold
 
   pub arcs-hold : AllPass (arcWordChecks N sheet) → ArcsHold N sheet
-  arcs-hold (a, (b, (c, (d, u)))) = record {
-    shape = record { some-node = b .0; few-nodes = b .1; few-entries = b .2; whole = c };
-    keys = λ i l. d i l .0;
-    targets = λ i l. d i l .1 .0;
-  }
-
-  pub arcs-pass : ArcsHold N sheet → AllPass (arcWordChecks N sheet)
-  arcs-pass w =
-      let s = w .shape in
-      let e = s .whole in
-      (omega arith, ((s .some-node, s .few-nodes, s .few-entries), (e, (λ i l. (w .keys i l, (w .targets i l, tt)), tt))))
+  arcs-hold p = let (s, k, v) = entries-hold N sheet _ .0 p in record { shape = s; keys = k; targets = v }
 
   pub words-hold : WordsPass N sheet → WordsHold N sheet
-  words-hold (a, (b, (c, (d, u)))) = record {
-    arcs = arcs-hold (a, (b, (c, (λ i l. (d i l .0, (d i l .1 .0 .target, tt)), tt))));
-    values = λ i l. d i l .1 .0;
-  }
+  words-hold p = let (s, k, v) = entries-hold N sheet _ .0 p in record { arcs = record { shape = s; keys = k; targets = λ i l. v i l .target }; values = v }
 
   pub words-pass : WordsHold N sheet → WordsPass N sheet
-  words-pass w = let (a, (b, (c, (d, u)))) = arcs-pass (w .arcs) in (a, (b, (c, (λ i l. (d i l .0, (w .values i l, tt)), tt))))
+  words-pass w = entries-hold N sheet _ .1 (w .arcs .shape, w .arcs .keys, w .values)
 
   pub arcs-out : arcWordsFault N sheet ≡ none → ArcsHold N sheet
   arcs-out h = arcs-hold (arcs-tell .passes .0 h)
 
   pub arcs-in : ArcsHold N sheet → arcWordsFault N sheet ≡ none
-  arcs-in w = arcs-tell .passes .1 (arcs-pass w)
+  arcs-in w = arcs-tell .passes .1 (entries-hold N sheet _ .1 (w .shape, w .keys, w .targets))
 
   pub words-out : wordsFault N sheet ≡ none → WordsHold N sheet
   words-out h = words-hold (words-tell .passes .0 h)
-
-  pub words-in : WordsHold N sheet → wordsFault N sheet ≡ none
-  words-in w = words-tell .passes .1 (words-pass w)
 
   -- the keys rise, and lie within the words
   pub words-rise : ArcsHold N sheet → Rising sheet 2 (entryCount sheet)

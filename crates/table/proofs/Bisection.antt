@@ -1,17 +1,9 @@
 -- Bisection, turn by turn for any test; and, where the test passes up to some place and not from there on, that place.
 -- So the look-up among rising keys is the entry with the key.
 -- ---- the turns of the loop
-use Prim.Native.Nat.{ℕ, zero, suc, _+_, _-_, _≤_, _<_}
-use native.Mathlib.Omega.{arith}
+use Rattle.scan.proofs.Basics.{ℕ, zero, suc, _+_, _-_, _≤_, _<_, arith, _≡_, refl, sym, ap, _∙_, Bool, true, false, cond, _&&_, ltb, leb, eqb, none, some, List, length}
 use native.Mathlib.Decide.{decLt}
-use mathlib.Core.Path.{_≡_, refl, sym, ap, _∙_}
-use mathlib.Core.List.{List}
-use mathlib.Core.Bool.{Bool, true, false, cond, _&&_}
-use mathlib.Core.Option.{none, some}
-use lib.ListN.{length}
-use lib.Dec.{ltb, leb, eqb}
-use borrow.Author.Tests.{ltb-true, ltb-false, lt-ltb, le-ltb, le-leb, lt-leb, leb-true, eq-eqb, ne-eqb, eqb-true}
-use Rattle.scan.proofs.Tests.{byTest, true-false, not-true→false, and-left, and-right, and-both}
+use Rattle.scan.proofs.Tests.{ltb-true, ltb-false, lt-ltb, le-ltb, leb-true, le-leb, lt-leb, eqb-true, eq-eqb, ne-eqb, byTest, true-false, not-true→false, and-left, and-right, and-both}
 use Rattle.table.specs.Table.{keyAt, entryOf, Rising}
 use Rattle.table.specs.Bisection.{middle, bisect, keyBelow, lowerBound, lookUp, foundOf}
 use Rattle.table.specs.declared.Found.the-variants.{At, Nothing}
@@ -58,15 +50,6 @@ pub record Turns (f : ℕ → Bool) (n r : ℕ) : Type 0 where
   pub above : (i : ℕ) → r ≤ i → i < n → f i ≡ false
 
 module _ (f : ℕ → Bool) (n : ℕ) (falling : (i j : ℕ) → i < j → j < n → f j ≡ true → f i ≡ true) where
-  below-middle : (m i : ℕ) → m < n → f m ≡ true → i < m + 1 → f i ≡ true
-  below-middle m i l h k = elim (decLt i m) [ yes p ↦ falling i m p l h | no p ↦ let e : i ≡ m = omega arith in rw e h ]
-
-  above-middle : (m i : ℕ) → f m ≡ false → m ≤ i → i < n → f i ≡ false
-  above-middle m i h k l = not-true→false (f i) (λ t. elim (decLt m i) [
-    | yes p ↦ true-false (f m) (falling m i p l t) h
-    | no p ↦ let e : i ≡ m = omega arith in true-false (f m) (rw e at t) h
-  ])
-
   bisect-turns-at : (k low high : ℕ) → high - low ≤ k → low ≤ high → high ≤ n → ((i : ℕ) → i < low → f i ≡ true)
       → ((i : ℕ) → high ≤ i → i < n → f i ≡ false) → Turns f n (bisect f k low high)
   bisect-turns-at zero low high d a b under over = rw (bisect-met f zero low high (omega arith)) (record {
@@ -78,9 +61,12 @@ module _ (f : ℕ → Bool) (n : ℕ) (falling : (i j : ℕ) → i < j → j < n
       elim (decLt low high) [
         | yes l ↦ byTest (f (middle low high))
             (λ h. rw (bisect-up f k low high l h) (bisect-turns-at k (middle low high + 1) high (omega arith) (omega arith) b
-            (λ i m. below-middle (middle low high) i (omega arith) h m) over))
+            (λ i m. elim (decLt i (middle low high)) [ yes p ↦ falling i _ p (omega arith) h | no p ↦ let e : i ≡ middle low high = omega arith in rw e h ]) over))
             (λ h. rw (bisect-down f k low high l h) (bisect-turns-at k low (middle low high) (omega arith) (omega arith) (omega arith) under
-            (λ i m p. above-middle (middle low high) i h m p)))
+            (λ i m p. not-true→false (f i) (λ t. true-false _ (elim (decLt (middle low high) i) [
+              | yes q ↦ falling _ i q p t
+              | no q ↦ let e : i ≡ middle low high = omega arith in rw e at t
+            ]) h))))
         | no l ↦ rw (bisect-met f (suc k) low high (omega arith)) (record { within = omega arith; below = under; above = λ i h p. over i (omega arith) p })
       ]
 

@@ -1,14 +1,7 @@
 -- Keys in order: what the test of a key says, and that keys which all pass it rise.
-use Prim.Native.Nat.{ℕ, _+_, _-_, _≤_, _<_}
-use native.Mathlib.Omega.{arith}
-use mathlib.Core.Path.{_≡_, sym}
-use mathlib.Core.Logic.{_↔_}
-use mathlib.Core.List.{List}
-use mathlib.Core.Bool.{false}
-use lib.ListN.{length, List·getD-eq-default}
-use lib.Dec.{ltb, leb}
-use borrow.Author.Tests.{leb-false, ltb-true, lt-ltb, lt-leb}
-use Rattle.scan.proofs.Tests.{byTest, or-none-left, or-none-right}
+use Rattle.scan.proofs.Basics.{ℕ, _+_, _-_, _≤_, _<_, arith, _≡_, sym, _↔_, false, ltb, leb, List, length}
+use lib.ListN.{List·getD-eq-default}
+use Rattle.scan.proofs.Tests.{ltb-true, lt-ltb, leb-false, lt-leb, byTest, or-none-left, or-none-right}
 use Rattle.table.specs.Table.{keyAt, Rising, KeyPasses}
 use Rattle.table.specs.Keys.{keyFails}
 

@@ -1,9 +1,6 @@
 -- A walk along keys that rise: from the lower bound of a key to that of the next.
-use Prim.Native.Nat.{ℕ, suc, _+_, _<_}
+use Rattle.scan.proofs.Basics.{ℕ, suc, _+_, _<_, arith, _≡_, List}
 use native.Mathlib.Decide.{decLt}
-use native.Mathlib.Omega.{arith}
-use mathlib.Core.Path.{_≡_}
-use mathlib.Core.List.{List}
 use Rattle.table.specs.Table.{keyAt, Rising}
 use Rattle.table.proofs.Table.{rising}
 use Rattle.table.proofs.Bisection.{LowerBound}

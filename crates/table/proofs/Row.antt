@@ -1,18 +1,10 @@
 -- The rows of a run of keys: on any words each place is 0 or has an entry with its key; where the keys rise, the walk meets every entry of the run.
-use Prim.Native.Nat.{ℕ, zero, suc, _+_, _*_, _-_, _≤_, _<_}
+use Rattle.scan.proofs.Basics.{ℕ, zero, suc, _+_, _-_, _*_, _≤_, _<_, arith, _≡_, refl, sym, ap, _∙_, ⊎-elim, cond, ltb, leb, Option, none, some, List, length, getD, set, replicate, length-set}
 use native.Mathlib.Decide.{ℕ-discrete, decLt}
-use native.Mathlib.Omega.{arith}
-use mathlib.Core.Path.{_≡_, refl, sym, ap, _∙_}
-use mathlib.Core.List.{List}
-use mathlib.Core.Logic.{⊎-elim}
-use mathlib.Core.Bool.{cond}
-use mathlib.Core.Option.{Option, none, some}
-use lib.ListN.{length, getD, set, replicate, length-set, getD-replicate}
+use lib.ListN.{getD-replicate}
 use lib.Seq.{getD-set-same}
-use lib.Dec.{ltb, leb}
-use borrow.Author.Tests.{ltb-true, ltb-false, lt-ltb, le-leb, lt-leb}
+use Rattle.scan.proofs.Tests.{ltb-true, ltb-false, lt-ltb, le-leb, lt-leb, byTest}
 use Rattle.scan.specs.Scan.{tabulate, foundOr}
-use Rattle.scan.proofs.Tests.{byTest}
 use Rattle.scan.proofs.Tabulate.{tabulate-is}
 use Rattle.table.specs.Table.{keyAt, valueAt, entryOf, Rising}
 use Rattle.table.specs.Bisection.{lowerBound}

@@ -1,13 +1,8 @@
 -- Keyed words whose keys rise: at most one entry has a key, each is found at its key, and a key that no entry has is absent.
-use Prim.Native.Nat.{ℕ, suc, _<_}
+use Rattle.scan.proofs.Basics.{ℕ, suc, _<_, arith, _≡_, eqb, none, some, List}
 use native.Mathlib.Numerals.{add-one}
 use native.Mathlib.Decide.{le-ind, decLt}
-use native.Mathlib.Omega.{arith}
-use mathlib.Core.Path.{_≡_}
-use mathlib.Core.List.{List}
-use mathlib.Core.Option.{none, some}
-use lib.Dec.{eqb}
-use borrow.Author.Tests.{eqb-true, eqb-false, eq-eqb, ne-eqb}
+use Rattle.scan.proofs.Tests.{eqb-true, eqb-false, eq-eqb, ne-eqb}
 use Rattle.scan.proofs.First.{when-some, when-none, when-hit, when-miss, first-at, first-all, first-hit, first-empty}
 use Rattle.table.specs.Table.{keyAt, entryWith, entryOf, Rising}
 

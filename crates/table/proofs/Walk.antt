@@ -1,16 +1,9 @@
 -- The walk along a run of keys: its turns, and what it stores on any words.
-use Prim.Native.Nat.{ℕ, zero, suc, _+_, _-_, _≤_, _<_}
+use Rattle.scan.proofs.Basics.{ℕ, zero, suc, _+_, _-_, _≤_, _<_, arith, _≡_, refl, _∙_, _⊎_, inl, inr, ⊎-elim, _&&_, ltb, leb, List, length, getD, set, replicate, length-set}
 use native.Mathlib.Decide.{ℕ-discrete}
-use native.Mathlib.Omega.{arith}
-use mathlib.Core.Path.{_≡_, refl, _∙_}
-use mathlib.Core.List.{List}
-use mathlib.Core.Logic.{_⊎_, inl, inr, ⊎-elim}
-use mathlib.Core.Bool.{_&&_}
-use lib.ListN.{length, getD, set, replicate, length-set, getD-replicate}
+use lib.ListN.{getD-replicate}
 use lib.Seq.{getD-set-same, getD-set-other}
-use lib.Dec.{ltb, leb}
-use borrow.Author.Tests.{ltb-true, leb-true, lt-ltb, le-ltb, le-leb}
-use Rattle.scan.proofs.Tests.{byTest, and-left, and-right}
+use Rattle.scan.proofs.Tests.{ltb-true, lt-ltb, le-ltb, leb-true, le-leb, byTest, and-left, and-right}
 use Rattle.table.specs.Table.{keyAt}
 use Rattle.table.specs.Bisection.{lowerBound}
 use Rattle.table.specs.Row.{runPlace, walk, runRow}

@@ -1,13 +1,9 @@
 -- Decimal text grows by its last digit, as a number does by ten times; so it reads as the number, and how long it is at most.
-use Prim.Native.Nat.{ℕ, zero, suc, _+_, _*_, _-_, _/_, _%_, _^_, _≤_, _<_}
+use Rattle.scan.proofs.Basics.{ℕ, zero, suc, _+_, _-_, _*_, _/_, _%_, _≤_, _<_, arith, _≡_, refl, ap, _∙_, ltb, List, [], _∷_, _++_, length, getD, length-append}
+use Prim.Native.Nat.{_^_}
 use native.Mathlib.Nat.{not-suc-le-zero, le-of-suc-le-suc}
-use native.Mathlib.Omega.{arith}
-use mathlib.Core.Path.{_≡_, refl, ap, _∙_}
-use mathlib.Core.List.{List, [], _∷_, _++_}
-use lib.Dec.{ltb}
-use lib.ListN.{length, getD, length-append, List·getD-append}
-use borrow.Author.Tests.{ltb-true, ltb-false, lt-ltb, le-ltb}
-use Rattle.scan.proofs.Tests.{byTest}
+use lib.ListN.{List·getD-append}
+use Rattle.scan.proofs.Tests.{ltb-true, ltb-false, lt-ltb, le-ltb, byTest}
 use Rattle.text.specs.Decimal.{digit, digits, decimal}
 use Rattle.text.specs.Demands.{readOn}
 

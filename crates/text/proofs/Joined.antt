@@ -1,10 +1,6 @@
 -- Bytes, digits and texts one behind the other.
-use Prim.Native.Nat.{ℕ, zero, suc, _+_, _/_, _%_, _≤_, _<_}
+use Rattle.scan.proofs.Basics.{ℕ, zero, suc, _+_, _/_, _%_, _≤_, _<_, arith, _≡_, refl, List, [], _∷_, _++_, length, getD, take}
 use native.Mathlib.Numerals.{add-one}
-use native.Mathlib.Omega.{arith}
-use mathlib.Core.Path.{_≡_, refl}
-use mathlib.Core.List.{List, [], _∷_, _++_}
-use lib.ListN.{length, getD, take}
 use lib.Seq.{take-suc, take-all}
 use Rattle.text.specs.Buffer.{Put}
 use Rattle.text.specs.Decimal.{digit, decimal}

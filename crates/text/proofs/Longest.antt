@@ -1,9 +1,7 @@
 -- How long the lines are at most where no number has more than ten digits.
-use Prim.Native.Nat.{ℕ, zero, suc, _+_, _*_, _^_, _≤_, _<_}
+use Rattle.scan.proofs.Basics.{ℕ, zero, suc, _+_, _*_, _≤_, _<_, arith, List, length, getD, length-append}
+use Prim.Native.Nat.{_^_}
 use Prim.Native.String.{String}
-use native.Mathlib.Omega.{arith}
-use mathlib.Core.List.{List}
-use lib.ListN.{length, getD, length-append}
 use Rattle.text.specs.Decimal.{ascii}
 use Rattle.text.specs.Lines.{field, joined, kindName, answerLine, countsLine, boundLine, boundLineOf, boundLines, wordOf, formLine, acceptedLines}
 use Rattle.text.proofs.Decimal.{decimal-length}

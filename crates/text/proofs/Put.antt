@@ -1,10 +1,7 @@
 -- Pieces that are put one behind the other are one text; a text that has room stands whole at the buffer's front.
-use Prim.Native.Nat.{ℕ, zero, suc, _+_, _-_, _≤_, _<_, min}
+use Rattle.scan.proofs.Basics.{ℕ, zero, suc, _+_, _-_, _≤_, _<_, arith, _≡_, refl, ap, _∙_, List, [], _∷_, _++_, length, take, drop, set, length-append}
+use Prim.Native.Nat.{min}
 use native.Mathlib.Nat.{not-suc-le-zero, le-of-suc-le-suc}
-use native.Mathlib.Omega.{arith}
-use mathlib.Core.Path.{_≡_, refl, ap, _∙_}
-use mathlib.Core.List.{List, [], _∷_, _++_}
-use lib.ListN.{length, set, drop, take, length-append}
 use lib.Seq.{take-append-seam}
 use Rattle.text.specs.Buffer.{putAt, Put}
 

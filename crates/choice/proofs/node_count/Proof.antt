@@ -1,8 +1,7 @@
 -- `choice::node_count` meets its contract.
-use native.Mathlib.Omega.{arith}
+use Rattle.scan.proofs.Basics.{arith, _≡_, getD}
 use borrow.Author.Needs.{needs}
-use mathlib.Core.Path.{_≡_}
-use lib.ListN.{getD, List·getD-eq-default}
+use lib.ListN.{List·getD-eq-default}
 use Rattle.choice.proofs.node_count.Statement.{statement}
 use Rattle.choice.proofs.node_count.Tie as tie
 

@@ -1,6 +1,5 @@
 -- `choice::nodes` meets its contract: nothing is found at the nodes before the counter, and their marks are right.
-use Prim.Native.Nat.{_-_, _≤_}
-use native.Mathlib.Omega.{arith}
+use Rattle.scan.proofs.Basics.{_-_, _≤_, arith}
 use borrow.Author.Needs.{needs}
 use Rattle.choice.proofs.Answer.{Passing, ground-is, start, row-tells, refused-at, passes-at, busy-root, all-pass}
 use Rattle.choice.proofs.nodes.Statement.{statement}

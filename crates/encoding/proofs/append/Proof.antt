@@ -1,7 +1,5 @@
 -- `encoding::append` meets its contract: when the counter is c the words of the first c columns are written.
-use Prim.Native.Nat.{_-_, _≤_}
-use native.Mathlib.Omega.{arith}
-use mathlib.Core.Path.{_≡_}
+use Rattle.scan.proofs.Basics.{_-_, _≤_, arith, _≡_}
 use borrow.Author.Needs.{needs}
 use Rattle.encoding.specs.Encoding.{gather}
 use Rattle.encoding.specs.Rows.{columnWord, rowWords, Appended}
@@ -34,11 +32,8 @@ returns : tie.Need-returns Inv-loop μ-loop
 unfolding rowWords
 returns c = let e : c .before .loop .c ≡ 32 = omega arith in rw e at (c .before .loop .inv .1)
 
-same-length : tie.Need-same-length Inv-loop μ-loop
-same-length c = appended-length (c .before .loop .inv .1)
-
 pub append-spec : {M : Type 1} → statement M
 append-spec =
     tie.close
     (tie.spec Inv-loop μ-loop (λ c. omega arith) loop-holds (λ c. search needs) (λ c. search needs) (λ c. search needs) (λ c. omega arith) (λ c. omega arith)
-    (λ c κs. search needs) (λ c κs. search needs) (λ c. omega arith) loop-again (λ c. omega arith) loop-again-2 same-length returns)
+    (λ c κs. search needs) (λ c κs. search needs) (λ c. omega arith) loop-again (λ c. omega arith) loop-again-2 (λ c. appended-length (c .before .loop .inv .1)) returns)

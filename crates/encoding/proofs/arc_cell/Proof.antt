@@ -1,5 +1,5 @@
 -- `encoding::arc_cell` meets its contract.
-use native.Mathlib.Omega.{arith}
+use Rattle.scan.proofs.Basics.{arith}
 use borrow.Author.Needs.{needs}
 use Rattle.encoding.proofs.Kept.{cell-number, cell-past}
 use Rattle.encoding.proofs.arc_cell.Statement.{statement}

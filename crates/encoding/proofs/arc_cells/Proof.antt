@@ -1,7 +1,5 @@
 -- `encoding::arc_cells` meets its contract: when the counter is t the cells of the first t transitions are there.
-use Prim.Native.Nat.{_-_, _≤_}
-use native.Mathlib.Omega.{arith}
-use mathlib.Core.Path.{_≡_, _∙_}
+use Rattle.scan.proofs.Basics.{_-_, _≤_, arith, _≡_, _∙_}
 use borrow.Author.Needs.{needs}
 use Rattle.scan.proofs.Tabulate.{tabulate-is}
 use Rattle.graph.specs.Rows.{arcEntryRow}

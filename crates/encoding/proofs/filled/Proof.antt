@@ -1,9 +1,7 @@
 -- `encoding::filled` meets its contract: when the counter is c the entries of the first c columns are counted.
-use Prim.Native.Nat.{_-_, _≤_}
-use native.Mathlib.Omega.{arith}
-use mathlib.Core.Path.{_≡_, refl}
+use Rattle.scan.proofs.Basics.{_-_, _≤_, arith, _≡_, refl}
 use borrow.Author.Needs.{needs}
-use borrow.Author.Tests.{lt-ltb, le-ltb}
+use Rattle.scan.proofs.Tests.{lt-ltb, le-ltb}
 use Rattle.scan.specs.Scan.{count, bit}
 use Rattle.scan.proofs.Count.{count-le, count-more}
 use Rattle.encoding.specs.Rows.{filledAt}

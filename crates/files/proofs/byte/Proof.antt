@@ -1,15 +1,11 @@
 -- `files::byte` meets its contract.
-use native.Mathlib.Omega.{arith}
-use mathlib.Core.Path.{refl}
+use Rattle.scan.proofs.Basics.{arith, refl}
 use borrow.Author.Needs.{needs}
 use Rattle.files.proofs.byte.Statement.{statement}
 use Rattle.files.proofs.byte.Tie as tie
-
-cast-result : tie.Need-cast-result
-cast-result c = omega (arith, c .shared-slice-known .given (c .before .args .i))
 
 returns : tie.Need-returns
 returns c = (refl, omega (arith, c .shared-slice-known .given (c .before .args .i)))
 
 pub byte-spec : {M : Type 1} → statement M
-byte-spec = tie.close (tie.spec (λ c. search needs) cast-result returns)
+byte-spec = tie.close (tie.spec (λ c. search needs) (λ c. omega (arith, c .shared-slice-known .given (c .before .args .i))) returns)

@@ -1,5 +1,7 @@
 -- `files::check_files` meets its contract.
-use Rattle.files.proofs.Decoding.{words-fit, words-taken}
+use Rattle.scan.proofs.Basics.{sym}
+use lib.Seq.{length-take-le}
+use Rattle.files.proofs.Decoding.{words-fit}
 use Rattle.files.proofs.Replies.{files-read}
 use borrow.Author.Needs.{needs}
 use Rattle.files.proofs.check_files.Statement.{statement}
@@ -9,13 +11,13 @@ slice-reshare-prefix-check-read : tie.Need-slice-reshare-prefix-check-read
 slice-reshare-prefix-check-read c = let d = c .before .before .before .before .before .before .decode .ensures in words-fit _ _ _ _ (d .words) (d .written)
 
 slice-aggregate-check-read : tie.Need-slice-aggregate-check-read
-slice-aggregate-check-read c = let d = c .before .before .before .before .before .before .before .decode .ensures in words-taken _ _ _ _ (d .words) (d .written)
+slice-aggregate-check-read c = sym (length-take-le _ _ (slice-reshare-prefix-check-read (c .before)))
 
 slice-reshare-prefix-check-read-2 : tie.Need-slice-reshare-prefix-check-read-2
 slice-reshare-prefix-check-read-2 c = let d = c .before .before .before .decode2 .ensures in words-fit _ _ _ _ (d .words) (d .written)
 
 slice-aggregate-check-read-2 : tie.Need-slice-aggregate-check-read-2
-slice-aggregate-check-read-2 c = let d = c .before .before .before .before .decode2 .ensures in words-taken _ _ _ _ (d .words) (d .written)
+slice-aggregate-check-read-2 c = sym (length-take-le _ _ (slice-reshare-prefix-check-read-2 (c .before)))
 
 returns : tie.Need-returns
 returns c =

@@ -1,5 +1,5 @@
 -- `files::check_read` meets its contract.
-use mathlib.Core.Path.{sym, _∙_}
+use Rattle.scan.proofs.Basics.{sym, _∙_}
 use Rattle.files.proofs.Replies.{net-tail, net-refused, sheet-tail, no-tail}
 use borrow.Author.Needs.{needs}
 use Rattle.files.proofs.check_read.Statement.{statement}

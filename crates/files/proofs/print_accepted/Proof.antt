@@ -1,29 +1,20 @@
 -- `files::print_accepted` meets its contract.
-use native.Mathlib.Omega.{arith}
-use mathlib.Core.Path.{_≡_, sym}
-use lib.ListN.{length}
+use Rattle.scan.proofs.Basics.{sym}
 use lib.Seq.{length-take-le}
 use borrow.Author.Needs.{needs}
-use Rattle.graph.proofs.Readable.{known}
 use Rattle.judge.proofs.Judged.{accepted-readable}
 use Rattle.minimal.proofs.Done.{words-accepted}
-use Rattle.files.proofs.Printing.{written-form, refused-form, form-fits, form-counts, too-long-printed, accepted-printed}
+use Rattle.files.proofs.Printing.{written-form, refused-form, form-fits, bounds-fit, too-long-printed, accepted-printed}
 use Rattle.files.proofs.print_accepted.Statement.{statement}
 use Rattle.files.proofs.print_accepted.Tie as tie
 
 array-share-prefix-bounds : tie.Need-array-share-prefix-bounds
 array-share-prefix-bounds c =
-    let h = c .before .before .before .before .before .before .before .before .before .before .before .before .before .before .pre in
-    let k = known _ _ (accepted-readable _ _ h) in
-    let l : length (c .before .before .bounds .result) ≡ 32 = search needs in
-    omega (arith, c .before .places .ensures)
+    let b = c .before .before in
+    bounds-fit _ _ (b .bounds .result) (b .before .before .before .before .before .before .before .before .before .before .before .before .pre) (c .before .places .ensures) (search needs)
 
 slice-aggregate-accepted-lines : tie.Need-slice-aggregate-accepted-lines
-slice-aggregate-accepted-lines c =
-    let h = c .before .before .before .before .before .before .before .before .before .before .before .before .before .before .before .pre in
-    let k = known _ _ (accepted-readable _ _ h) in
-    let l : length (c .before .before .before .bounds .result) ≡ 32 = search needs in
-    sym (length-take-le _ _ (omega (arith, c .before .before .places .ensures)))
+slice-aggregate-accepted-lines c = sym (length-take-le _ _ (array-share-prefix-bounds (c .before)))
 
 slice-reshare-prefix-accepted-lines : tie.Need-slice-reshare-prefix-accepted-lines
 slice-reshare-prefix-accepted-lines c =
@@ -32,10 +23,7 @@ slice-reshare-prefix-accepted-lines c =
     form-fits (written-form (words-accepted _ _ (e .before .before .before .before .before .before .pre)) (e .form-of .ensures) _ (d .k .given .1))
 
 slice-aggregate-accepted-lines-2 : tie.Need-slice-aggregate-accepted-lines-2
-slice-aggregate-accepted-lines-2 c =
-    let d = c .before .before .before .before .before .before in
-    let e = d .before .before .before .before in
-    form-counts (written-form (words-accepted _ _ (e .before .before .before .before .before .before .pre)) (e .form-of .ensures) _ (d .k .given .1))
+slice-aggregate-accepted-lines-2 c = sym (length-take-le _ _ (slice-reshare-prefix-accepted-lines (c .before)))
 
 returns : tie.Need-returns
 returns c =

@@ -1,20 +1,25 @@
 -- `files::print_files` meets its contract.
+use Rattle.scan.proofs.Basics.{sym}
+use lib.Seq.{length-take-le}
 use borrow.Author.Needs.{needs}
-use Rattle.files.proofs.Replies.{net-counted, sheet-counted, files-accepted, refused-files, accepted-files}
+use Rattle.files.proofs.Decoding.{words-fit}
+use Rattle.files.proofs.Replies.{files-accepted, refused-files, accepted-files}
 use Rattle.files.proofs.print_files.Statement.{statement}
 use Rattle.files.proofs.print_files.Tie as tie
 
 slice-reshare-prefix-print-accepted : tie.Need-slice-reshare-prefix-print-accepted
-slice-reshare-prefix-print-accepted c = net-counted _ _ _ _ _ _ _ (c .before .before .before .before .before .before .before .check-files .ensures) .0
+slice-reshare-prefix-print-accepted c = let h = c .before .before .before .before .before .before .before .check-files .ensures in words-fit _ _ _ _ (h .net-words) (h .net-decoded)
 
 slice-aggregate-print-accepted : tie.Need-slice-aggregate-print-accepted
-slice-aggregate-print-accepted c = net-counted _ _ _ _ _ _ _ (c .before .before .before .before .before .before .before .before .check-files .ensures) .1
+slice-aggregate-print-accepted c = sym (length-take-le _ _ (slice-reshare-prefix-print-accepted (c .before)))
 
 slice-reshare-prefix-print-accepted-2 : tie.Need-slice-reshare-prefix-print-accepted-2
-slice-reshare-prefix-print-accepted-2 c = sheet-counted _ _ _ _ _ _ _ (c .before .before .before .before .before .before .before .before .check-files .ensures) .0
+slice-reshare-prefix-print-accepted-2 c =
+    let h = c .before .before .before .before .before .before .before .before .check-files .ensures in
+    words-fit _ _ _ _ (h .sheet-words) (h .sheet-decoded)
 
 slice-aggregate-print-accepted-2 : tie.Need-slice-aggregate-print-accepted-2
-slice-aggregate-print-accepted-2 c = sheet-counted _ _ _ _ _ _ _ (c .before .before .before .before .before .before .before .before .before .check-files .ensures) .1
+slice-aggregate-print-accepted-2 c = sym (length-take-le _ _ (slice-reshare-prefix-print-accepted-2 (c .before)))
 
 print-accepted-requires : tie.Need-print-accepted-requires
 print-accepted-requires c κs =

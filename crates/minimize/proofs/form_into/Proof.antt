@@ -1,5 +1,5 @@
 -- `minimize::form_into` meets its contract.
-use mathlib.Core.Path.{refl, sym, _∙_}
+use Rattle.scan.proofs.Basics.{refl, sym, _∙_}
 use borrow.Author.Needs.{needs}
 use Rattle.call.proofs.Laws.{refused-words}
 use Rattle.minimal.proofs.Done.{form-of-schedule}

@@ -5,10 +5,10 @@ use Rattle.minimize.proofs.written.Statement.{statement}
 use Rattle.minimize.proofs.written.Tie as tie
 
 classes-requires : tie.Need-classes-requires
-classes-requires c κs = let (w, p) = c .before .before .before .pre in (reply-readable _ _ w, p)
+classes-requires c κs = let (w, p) = c .before .before .before .pre in record { by-page = p; readable = reply-readable _ _ w }
 
 numbering-requires : tie.Need-numbering-requires
-numbering-requires c κs = let (w, p) = c .before .before .before .before .pre in ((p, reply-readable _ _ w), c .classes .ensures)
+numbering-requires c κs = let (w, p) = c .before .before .before .before .pre in (record { by-page = p; readable = reply-readable _ _ w }, c .classes .ensures)
 
 write-requires : tie.Need-write-requires
 write-requires c κs = (c .before .before .before .before .before .before .pre .0, c .before .numbering .ensures)

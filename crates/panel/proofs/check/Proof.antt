@@ -1,5 +1,5 @@
 -- `panel::check` meets its contract.
-use mathlib.Core.Path.{refl, sym, _∙_}
+use Rattle.scan.proofs.Basics.{refl, sym, _∙_}
 use Rattle.call.proofs.Laws.{refused-scratch, served}
 use Rattle.schedule.proofs.Done.{check-words}
 use borrow.Author.Needs.{needs}

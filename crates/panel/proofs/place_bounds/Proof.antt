@@ -1,5 +1,5 @@
 -- `panel::place_bounds` meets its contract.
-use mathlib.Core.Path.{sym, _∙_}
+use Rattle.scan.proofs.Basics.{sym, _∙_}
 use Rattle.call.proofs.Laws.{refused-scratch, served}
 use borrow.Author.Needs.{needs}
 use Rattle.panel.proofs.place_bounds.Statement.{statement}

@@ -1,5 +1,5 @@
 -- `replay::checked` meets its contract.
-use mathlib.Core.Path.{refl, sym, _∙_}
+use Rattle.scan.proofs.Basics.{refl, sym, _∙_}
 use borrow.Author.Needs.{needs}
 use Rattle.row_starts.specs.RowStarts.{line, lines, page}
 use Rattle.refusal.proofs.Verdicts.{answer-none}

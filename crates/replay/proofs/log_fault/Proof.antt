@@ -1,5 +1,5 @@
 -- `replay::log_fault` meets its contract.
-use mathlib.Core.Path.{sym, ap, _∙_}
+use Rattle.scan.proofs.Basics.{sym, ap, _∙_}
 use borrow.Author.Needs.{needs}
 use Rattle.refusal.specs.Verdict.{verdictOf}
 use Rattle.replay.specs.Log.{firingCount}

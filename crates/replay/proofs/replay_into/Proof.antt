@@ -1,6 +1,5 @@
 -- `replay::replay_into` meets its contract.
-use native.Mathlib.Omega.{arith}
-use mathlib.Core.Path.{refl, sym, _∙_}
+use Rattle.scan.proofs.Basics.{arith, refl, sym, _∙_}
 use borrow.Author.Needs.{needs}
 use Rattle.call.proofs.Lent.{room-holds}
 use Rattle.call.proofs.Laws.{refused-words}
@@ -29,7 +28,8 @@ settle-requires c κs =
     let b = c .before .before .before .before .before .before .before .before in
     let x = room-holds _ _ (sym (c .before .before .before .before .before .before .before .output-fault .ensures) ∙ c .before .before .before .before .before .enum-told2 .given .1) in
     let y = room-holds _ _ (sym (c .before .before .before .before .output-fault2 .ensures) ∙ c .before .before .enum-told3 .given .1) in
-    (countable _ _ _ (sym (b .before .before .before .checked .ensures .reply) ∙ b .before .enum-told .given .1), (omega (arith, b .places .ensures), omega (arith, b .places .ensures)))
+    let k = countable _ _ _ (sym (b .before .before .before .checked .ensures .reply) ∙ b .before .enum-told .given .1) in
+    (k, record { taken-room = omega (arith, b .places .ensures); put-room = omega (arith, b .places .ensures) })
 
 returns-4 : tie.Need-returns-4
 returns-4 c =

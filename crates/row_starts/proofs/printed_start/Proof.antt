@@ -1,5 +1,5 @@
 -- `row_starts::printed_start` meets its contract: the table is compared with the page, number by number.
-use mathlib.Core.Path.{_∙_}
+use Rattle.scan.proofs.Basics.{_∙_}
 use borrow.Author.Needs.{needs}
 use Rattle.row_starts.specs.RowStarts.{line, lines, page}
 use Rattle.row_starts.proofs.Page.{start-printed}

@@ -1,6 +1,5 @@
 -- `row_starts::start` meets its contract.
-use native.Mathlib.Omega.{arith}
-use mathlib.Core.Path.{_∙_}
+use Rattle.scan.proofs.Basics.{arith, _∙_}
 use borrow.Author.Needs.{needs}
 use Rattle.row_starts.proofs.Page.{none-high, none-few, none-many, one-there}
 use Rattle.row_starts.proofs.start.Statement.{statement}

@@ -1,6 +1,5 @@
 -- `table::entry_row` meets its contract: each turn of the loop is a turn of the walk.
-use Prim.Native.Nat.{_-_}
-use native.Mathlib.Omega.{arith}
+use Rattle.scan.proofs.Basics.{_-_, arith}
 use borrow.Author.Needs.{needs}
 use Rattle.table.specs.Row.{entryTold, entryRow}
 use Rattle.table.proofs.Walk.{Walking, walk-starts, walk-goes, walk-ends, walk-over}
@@ -16,9 +15,6 @@ abbrev μ-loop : tie.MeasureT-loop
 loop-holds : tie.Need-loop-holds Inv-loop μ-loop
 loop-holds c = walk-starts _ _ _ _ _ _ _ (c .lower-bound .ensures)
 
-run-place-requires : tie.Need-run-place-requires Inv-loop μ-loop
-run-place-requires c κs = let h = c .before .loop .inv .fits (c .loop-test .taken) in omega arith
-
 returns : tie.Need-returns Inv-loop μ-loop
 unfolding entryRow
 returns c = walk-ends _ _ _ _ _ _ _ _ _ (c .before .before .before .loop .inv) (c .before .run-place .ensures) (c .if1 .taken)
@@ -33,5 +29,5 @@ returns-2 c = walk-over _ _ _ _ _ _ _ _ (c .before .loop .inv) (c .loop-test .le
 pub entry-row-spec : {M : Type 1} → statement M
 entry-row-spec =
     tie.close
-    (tie.spec Inv-loop μ-loop (λ c κs. search needs) loop-holds run-place-requires returns (λ c. search needs) (λ c. search needs) (λ c. search needs)
-    (λ c. search needs) loop-again returns-2)
+    (tie.spec Inv-loop μ-loop (λ c κs. search needs) loop-holds (λ c κs. omega (arith, c .before .loop .inv .fits (c .loop-test .taken))) returns (λ c. search needs)
+    (λ c. search needs) (λ c. search needs) (λ c. search needs) loop-again returns-2)

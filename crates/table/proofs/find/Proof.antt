@@ -1,5 +1,5 @@
 -- `table::find` meets its contract.
-use native.Mathlib.Omega.{arith}
+use Rattle.scan.proofs.Basics.{arith}
 use borrow.Author.Needs.{needs}
 use Rattle.table.specs.Table.{keyAt}
 use Rattle.table.proofs.Bisection.{lower-bound-fits, look-up-hit, look-up-miss}
@@ -8,15 +8,6 @@ use Rattle.table.proofs.find.Tie as tie
 
 returns : tie.Need-returns
 returns c = look-up-miss _ _ _ _ _ (c .before .lower-bound .ensures) (λ l. absurd (omega arith))
-
-add-if2 : tie.Need-add-if2
-add-if2 c = let h = lower-bound-fits _ _ _ _ (rw (c .before .lower-bound .ensures) at (c .if1 .left)) in omega arith
-
-mul-if2 : tie.Need-mul-if2
-mul-if2 c = let h = lower-bound-fits _ _ _ _ (rw (c .before .lower-bound .ensures) at (c .if1 .left)) in omega arith
-
-shared-slice-read-if2 : tie.Need-shared-slice-read-if2
-shared-slice-read-if2 c = let h = lower-bound-fits _ _ _ _ (rw (c .before .before .lower-bound .ensures) at (c .before .if1 .left)) in omega arith
 
 returns-2 : tie.Need-returns-2
 unfolding keyAt
@@ -27,4 +18,8 @@ unfolding keyAt
 returns-3 c = look-up-miss _ _ _ _ _ (c .before .before .before .lower-bound .ensures) (λ l. c .if2 .left)
 
 pub find-spec : {M : Type 1} → statement M
-find-spec = tie.close (tie.spec (λ c κs. search needs) returns add-if2 mul-if2 shared-slice-read-if2 returns-2 returns-3)
+find-spec =
+    tie.close
+    (tie.spec (λ c κs. search needs) returns (λ c. omega (arith, lower-bound-fits _ _ _ _ (rw (c .before .lower-bound .ensures) at (c .if1 .left))))
+    (λ c. omega (arith, lower-bound-fits _ _ _ _ (rw (c .before .lower-bound .ensures) at (c .if1 .left))))
+    (λ c. omega (arith, lower-bound-fits _ _ _ _ (rw (c .before .before .lower-bound .ensures) at (c .before .if1 .left)))) returns-2 returns-3)

@@ -1,9 +1,7 @@
 -- `table::lower_bound` meets its contract: each turn of the loop is a turn of `bisect`.
-use Prim.Native.Nat.{_-_, _≤_}
-use native.Mathlib.Omega.{arith}
-use mathlib.Core.Path.{_≡_, refl, sym, _∙_}
+use Rattle.scan.proofs.Basics.{_-_, _≤_, arith, _≡_, refl, sym, _∙_}
 use borrow.Author.Needs.{needs}
-use borrow.Author.Tests.{lt-ltb, le-ltb}
+use Rattle.scan.proofs.Tests.{lt-ltb, le-ltb}
 use Rattle.table.specs.Table.{keyAt}
 use Rattle.table.specs.Bisection.{bisect, keyBelow}
 use Rattle.table.proofs.Bisection.{turn-up, turn-down, bisect-met, lower-bound-bisects, lower-bound-unfit}

@@ -1,8 +1,5 @@
 -- `table::value_row` meets its contract: each turn of the loop is a turn of the walk.
-use Prim.Native.Nat.{_*_, _+_, _≤_, _-_}
-use native.Mathlib.Omega.{arith}
-use mathlib.Core.Path.{_∙_}
-use lib.ListN.{length}
+use Rattle.scan.proofs.Basics.{_+_, _-_, _*_, _≤_, arith, _∙_, length}
 use borrow.Author.Needs.{needs}
 use Rattle.table.specs.Table.{valueAt}
 use Rattle.table.proofs.Walk.{Walking, walk-starts, walk-goes, walk-ends, walk-over}

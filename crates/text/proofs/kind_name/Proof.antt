@@ -1,5 +1,5 @@
 -- `text::kind_name` meets its contract.
-use native.Mathlib.Omega.{arith}
+use Rattle.scan.proofs.Basics.{arith}
 use borrow.Author.Needs.{needs}
 use Rattle.text.proofs.Joined.{record-name}
 use Rattle.text.proofs.kind_name.Statement.{statement}

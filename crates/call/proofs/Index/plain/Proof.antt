@@ -1,5 +1,5 @@
 -- `call::Index::plain` meets its contract.
-use mathlib.Core.Path.{sym, ap}
+use Rattle.scan.proofs.Basics.{sym, ap}
 use borrow.Author.Needs.{needs}
 use Rattle.call.specs.Index.{plainIndex}
 use Rattle.call.proofs.Index.plain.Statement.{statement}

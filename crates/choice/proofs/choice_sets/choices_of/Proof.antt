@@ -1,8 +1,6 @@
 -- `choice::choice_sets::choices_of` meets its contract: the leaders before the counter are right, and so is what is noted.
-use Prim.Native.Nat.{ℕ, _-_, _≤_, _<_}
-use native.Mathlib.Omega.{arith}
-use mathlib.Core.Path.{_≡_, _∙_}
-use lib.ListN.{length, getD, length-set, getD-replicate}
+use Rattle.scan.proofs.Basics.{ℕ, _-_, _≤_, _<_, arith, _≡_, _∙_, length, getD, length-set}
+use lib.ListN.{getD-replicate}
 use borrow.Author.Needs.{needs}
 use Rattle.scan.proofs.Tabulate.{stored-more}
 use Rattle.automaton.proofs.Leader.{leader-le}

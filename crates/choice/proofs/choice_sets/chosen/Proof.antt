@@ -1,5 +1,5 @@
 -- `choice::choice_sets::chosen` meets its contract: by what is noted.
-use borrow.Author.Tests.{eq-eqb, ne-eqb}
+use Rattle.scan.proofs.Tests.{eq-eqb, ne-eqb}
 use Rattle.choice.proofs.choice_sets.chosen.Statement.{statement}
 use Rattle.choice.proofs.choice_sets.chosen.Tie as tie
 

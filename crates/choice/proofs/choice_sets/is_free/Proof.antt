@@ -1,9 +1,6 @@
 -- `choice::choice_sets::is_free` meets its contract: a source's choice is free, and of t's no transition before the counter hinders it.
-use Prim.Native.Nat.{_-_, _≤_}
-use native.Mathlib.Omega.{arith}
-use mathlib.Core.Bool.{true}
-use mathlib.Core.Path.{_≡_, sym, _∙_}
-use borrow.Author.Tests.{not-true, not-false}
+use Rattle.scan.proofs.Basics.{_-_, _≤_, arith, _≡_, sym, _∙_, true}
+use Rattle.scan.proofs.Tests.{not-true, not-false}
 use borrow.Author.Needs.{needs}
 use Rattle.scan.specs.Scan.{all}
 use Rattle.scan.proofs.Every.{all-in, all-more, all-fails}

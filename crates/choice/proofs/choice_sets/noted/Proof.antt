@@ -1,6 +1,5 @@
 -- `choice::choice_sets::noted` meets its contract: what was noted stays, and nothing is asked of a transition alone.
-use native.Mathlib.Omega.{arith}
-use mathlib.Core.Path.{sym, _∙_}
+use Rattle.scan.proofs.Basics.{arith, sym, _∙_}
 use borrow.Author.Needs.{needs}
 use Rattle.choice.proofs.Choices.{nothing-noted}
 use Rattle.choice.proofs.choice_sets.noted.Statement.{statement}

@@ -1,17 +1,13 @@
 -- `choice::choice_sets::rows_fit` meets its contract: by whether the rows meet.
-use mathlib.Core.Path.{sym, _∙_}
+use Rattle.scan.proofs.Basics.{sym, _∙_}
 use borrow.Author.Needs.{needs}
 use Rattle.choice.specs.Choices.{rowsFit}
 use Rattle.choice.proofs.choice_sets.rows_fit.Statement.{statement}
 use Rattle.choice.proofs.choice_sets.rows_fit.Tie as tie
 
-returns : tie.Need-returns
-unfolding rowsFit
-returns c = rw (sym (c .before .before .rows-meet .ensures) ∙ c .before .if1 .taken) (c .rows-equal .ensures)
-
-returns-2 : tie.Need-returns-2
-unfolding rowsFit
-returns-2 c = rw (sym (c .before .rows-meet .ensures) ∙ c .if1 .left)
-
 pub rows-fit-spec : {M : Type 1} → statement M
-rows-fit-spec = tie.close (tie.spec (λ c κs. search needs) (λ c κs. search needs) returns returns-2)
+unfolding rowsFit
+rows-fit-spec =
+    tie.close
+    (tie.spec (λ c κs. search needs) (λ c κs. search needs) (λ c. rw (sym (c .before .before .rows-meet .ensures) ∙ c .before .if1 .taken) (c .rows-equal .ensures))
+    (λ c. rw (sym (c .before .rows-meet .ensures) ∙ c .if1 .left)))

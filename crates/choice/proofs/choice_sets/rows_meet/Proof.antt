@@ -1,8 +1,5 @@
 -- `choice::choice_sets::rows_meet` meets its contract: the rows meet at no place before the counter.
-use Prim.Native.Nat.{_-_, _≤_}
-use native.Mathlib.Omega.{arith}
-use mathlib.Core.Bool.{false}
-use mathlib.Core.Path.{_≡_, sym}
+use Rattle.scan.proofs.Basics.{_-_, _≤_, arith, _≡_, sym, false}
 use borrow.Author.Needs.{needs}
 use Rattle.scan.specs.Scan.{any}
 use Rattle.scan.proofs.Every.{any-none-yet, any-in, any-more}

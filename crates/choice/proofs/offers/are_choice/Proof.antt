@@ -1,9 +1,6 @@
 -- `choice::offers::are_choice` meets its contract: the arcs before the counter are those of the choice set.
-use Prim.Native.Nat.{_-_, _≤_}
-use native.Mathlib.Omega.{arith}
-use mathlib.Core.Bool.{true}
-use mathlib.Core.Path.{_≡_, sym}
-use borrow.Author.Tests.{not-true, not-false}
+use Rattle.scan.proofs.Basics.{_-_, _≤_, arith, _≡_, sym, true}
+use Rattle.scan.proofs.Tests.{not-true, not-false}
 use borrow.Author.Needs.{needs}
 use Rattle.scan.specs.Scan.{all}
 use Rattle.scan.proofs.Every.{all-in, all-more, all-fails}

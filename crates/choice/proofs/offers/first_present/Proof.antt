@@ -1,9 +1,6 @@
 -- `choice::offers::first_present` meets its contract: no transition before the counter has an arc.
-use Prim.Native.Nat.{_-_, _≤_}
-use native.Mathlib.Omega.{arith}
-use mathlib.Core.Bool.{false}
-use mathlib.Core.Path.{_≡_, sym}
-use borrow.Author.Tests.{lt-ltb, le-ltb}
+use Rattle.scan.proofs.Basics.{_-_, _≤_, arith, _≡_, sym, false}
+use Rattle.scan.proofs.Tests.{lt-ltb, le-ltb}
 use borrow.Author.Needs.{needs}
 use Rattle.scan.specs.Scan.{any}
 use Rattle.scan.proofs.Every.{any-none-yet, any-more}

@@ -1,8 +1,5 @@
 -- `graph::word_check::entries_fault` meets its contract: nothing is found at the entries before the counter.
-use Prim.Native.Nat.{_-_, _≤_}
-use native.Mathlib.Omega.{arith}
-use mathlib.Core.Path.{_≡_, sym, ap, _∙_}
-use mathlib.Core.Option.{none}
+use Rattle.scan.proofs.Basics.{_-_, _≤_, arith, _≡_, sym, ap, _∙_, none}
 use borrow.Author.Needs.{needs}
 use Rattle.scan.specs.Scan.{first}
 use Rattle.scan.proofs.First.{first-none, first-more}

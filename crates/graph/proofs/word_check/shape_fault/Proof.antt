@@ -1,11 +1,10 @@
 -- `graph::word_check::shape_fault` meets its contract.
-use borrow.Author.Tests.{le-ltb, lt-ltb, eq-eqb, ne-eqb, not-true, not-false}
+use Rattle.scan.proofs.Tests.{lt-ltb, le-ltb, eq-eqb, ne-eqb, not-true, not-false}
 use Rattle.scan.specs.Scan.{orElse, when}
 use Rattle.refusal.specs.Finding.{foundBy, finding}
 use Rattle.sequential.specs.Check.{shapeFault}
 use borrow.Author.Needs.{needs}
-use native.Mathlib.Omega.{arith}
-use mathlib.Core.Path.{sym, _∙_}
+use Rattle.scan.proofs.Basics.{arith, sym, _∙_}
 use Rattle.graph.proofs.word_check.shape_fault.Statement.{statement}
 use Rattle.graph.proofs.word_check.shape_fault.Tie as tie
 
@@ -16,15 +15,6 @@ returns c = (c .refuse .ensures) ∙ rw (lt-ltb _ _ (c .before .if1 .taken))
 returns-2 : tie.Need-returns-2
 unfolding shapeFault finding foundBy orElse when
 returns-2 c = (c .refuse2 .ensures) ∙ rw (le-ltb _ _ (c .before .before .before .before .before .if1 .left), sym (c .before .before .sizes-pass .ensures) ∙ not-true _ (c .before .if2 .taken))
-
-cast-if3 : tie.Need-cast-if3
-cast-if3 c = omega (arith, (c .before .before .before .before .before .shared-slice-known .given) 1)
-
-mul-if3 : tie.Need-mul-if3
-mul-if3 c = omega (arith, (c .before .before .before .before .before .shared-slice-known .given) 1)
-
-add-if3 : tie.Need-add-if3
-add-if3 c = omega (arith, (c .before .before .before .before .before .shared-slice-known .given) 1)
 
 returns-3 : tie.Need-returns-3
 unfolding shapeFault finding foundBy orElse when
@@ -40,5 +30,7 @@ returns-4 c = rw (le-ltb _ _ (c .before .before .before .before .before .if1 .le
 pub shape-fault-spec : {M : Type 1} → statement M
 shape-fault-spec =
     tie.close
-    (tie.spec (λ c κs. search needs) returns (λ c. search needs) (λ c. search needs) (λ c κs. search needs) (λ c κs. search needs) returns-2 cast-if3
-    mul-if3 add-if3 (λ c κs. search needs) returns-3 returns-4)
+    (tie.spec (λ c κs. search needs) returns (λ c. search needs) (λ c. search needs) (λ c κs. search needs) (λ c κs. search needs) returns-2
+    (λ c. omega (arith, (c .before .before .before .before .before .shared-slice-known .given) 1))
+    (λ c. omega (arith, (c .before .before .before .before .before .shared-slice-known .given) 1))
+    (λ c. omega (arith, (c .before .before .before .before .before .shared-slice-known .given) 1)) (λ c κs. search needs) returns-3 returns-4)

@@ -1,11 +1,7 @@
 -- `graph::word_check::value_fails` meets its contract.
-use mathlib.Core.Bool.{Bool, true, false}
-use mathlib.Core.Path.{_≡_}
-use mathlib.Core.List.{List}
-use Prim.Native.Nat.{ℕ, _<_}
-use lib.Dec.{leb}
+use Rattle.scan.proofs.Basics.{ℕ, _<_, _≡_, Bool, true, false, leb, List}
 use borrow.Author.Needs.{needs}
-use borrow.Author.Tests.{lt-ltb, le-ltb, ne-eqb, not-true, not-false}
+use Rattle.scan.proofs.Tests.{lt-ltb, le-ltb, ne-eqb, not-true, not-false}
 use Rattle.table.specs.Table.{keyAt, valueAt}
 use Rattle.sequential.specs.Words.{nodeCount, entryKey, entryValue}
 use Rattle.sequential.specs.Check.{targetFails, countFails, valueFails, arcValueFails}

@@ -1,6 +1,5 @@
 -- `graph::word_check::words_fault` meets its contract: the shape, then the entries.
-use native.Mathlib.Omega.{arith}
-use mathlib.Core.Path.{sym, _∙_}
+use Rattle.scan.proofs.Basics.{arith, sym, _∙_}
 use borrow.Author.Needs.{needs}
 use Rattle.refusal.proofs.Verdicts.{answer-none, answer-left, verdict-next}
 use Rattle.sequential.specs.Words.{arcKeys, keyLimit}
@@ -21,14 +20,8 @@ module _ (c : tie.After-enum-told2) where
   sizes : Sizes (c .before .before .before .before .before .args .net .now) (c .before .before .before .before .before .args .sheet .now)
   sizes = sizes-known (c .before .before .before .before .before .pre) shape
 
-shared-slice-read-nodes : tie.Need-shared-slice-read-nodes
-shared-slice-read-nodes c = let k = sizes (c .before) in omega arith
-
 mul-arcs : tie.Need-mul-arcs
 mul-arcs c = let k = sizes (c .before .before) in rw (c .transitions .ensures) (omega arith)
-
-add-limit : tie.Need-add-limit
-add-limit c = let k = sizes (c .before .before .before) in omega arith
 
 mul-limit : tie.Need-mul-limit
 mul-limit c = let k = sizes (c .before .before .before) in rw (c .before .transitions .ensures, c .places .ensures) (omega arith)
@@ -46,5 +39,5 @@ returns-2 c =
 pub words-fault-spec : {M : Type 1} → statement M
 words-fault-spec =
     tie.close
-    (tie.spec (λ c κs. search needs) (λ c. search needs) returns (λ c. search needs) shared-slice-read-nodes (λ c κs. search needs) mul-arcs
-    (λ c κs. search needs) add-limit mul-limit entries-fault-requires returns-2)
+    (tie.spec (λ c κs. search needs) (λ c. search needs) returns (λ c. search needs) (λ c. omega (arith, sizes (c .before))) (λ c κs. search needs) mul-arcs
+    (λ c κs. search needs) (λ c. omega (arith, sizes (c .before .before .before))) mul-limit entries-fault-requires returns-2)

@@ -1,34 +1,25 @@
 -- `mend::arcs::arc_at` meets its contract.
 use Rattle.mend.proofs.Reading.{arc-read}
 use borrow.Author.Needs.{needs}
-use native.Mathlib.Omega.{arith}
+use Rattle.scan.proofs.Basics.{arith}
 use Rattle.mend.proofs.arcs.arc_at.Statement.{statement}
 use Rattle.mend.proofs.arcs.arc_at.Tie as tie
 
-cast-t9 : tie.Need-cast-t9
-cast-t9 c =
-    let p = c .before .before .before .before .before .pre in
-    let k = p .0 .sizes in
-    omega (arith, arc-read _ _ _ _ (p .0) (p .1 .0) (p .1 .1) (c .before .before .transitions .ensures) .node-low)
+cast-node : tie.Need-cast-t9
+cast-node c = let (r, a) = c .before .before .before .before .before .pre in let k = arc-read r a (c .before .before .transitions .ensures) in omega arith
 
-cast-t10 : tie.Need-cast-t10
-cast-t10 c =
-    let p = c .before .before .before .before .before .pre in
-    let k = p .0 .sizes in
-    omega (arith, arc-read _ _ _ _ (p .0) (p .1 .0) (p .1 .1) (c .before .before .transitions .ensures) .transition-low)
-
-cast-t18 : tie.Need-cast-t18
-cast-t18 c =
-    let p = c .before .before .before .before .before .before .pre in
-    let k = p .0 .sizes in
-    omega (arith, arc-read _ _ _ _ (p .0) (p .1 .0) (p .1 .1) (c .before .before .before .transitions .ensures) .target-low)
+cast-transition : tie.Need-cast-t10
+cast-transition c = let (r, a) = c .before .before .before .before .before .pre in let k = arc-read r a (c .before .before .transitions .ensures) in omega arith
 
 returns : tie.Need-returns
-returns c = let p = c .before .before .before .before .before .before .pre in arc-read _ _ _ _ (p .0) (p .1 .0) (p .1 .1) (c .before .before .before .transitions .ensures)
+returns c = let (r, a) = c .before .before .before .before .before .before .pre in arc-read r a (c .before .before .before .transitions .ensures)
+
+cast-target : tie.Need-cast-t18
+cast-target c = let k = returns c in omega arith
 
 pub arc-at-spec : {M : Type 1} → statement M
 arc-at-spec =
     tie.close
     (tie.spec (λ c κs. search needs) (λ c. search needs) (λ c. search needs) (λ c. search needs) (λ c. search needs) (λ c. search needs)
-    (λ c. search needs) cast-t9 (λ c. search needs) cast-t10 (λ c. search needs) (λ c. search needs) (λ c. search needs) (λ c. search needs) cast-t18
+    (λ c. search needs) cast-node (λ c. search needs) cast-transition (λ c. search needs) (λ c. search needs) (λ c. search needs) (λ c. search needs) cast-target
     returns)

@@ -1,5 +1,5 @@
 -- `mend::measure::checked` meets its contract: each check speaks where those before it refuse nothing.
-use mathlib.Core.Path.{refl, sym, _∙_}
+use Rattle.scan.proofs.Basics.{refl, sym, _∙_}
 use Rattle.mend.proofs.Measuring.{words-refused, nodes-refused, paths-judged}
 use borrow.Author.Needs.{needs}
 use Rattle.mend.proofs.measure.checked.Statement.{statement}

@@ -1,5 +1,5 @@
 -- `mend::writer::changed_cell` meets its contract.
-use borrow.Author.Tests.{eq-eqb, ne-eqb}
+use Rattle.scan.proofs.Tests.{eq-eqb, ne-eqb}
 use Rattle.mend.specs.Writing.{changedNumber}
 use borrow.Author.Needs.{needs}
 use Rattle.mend.proofs.writer.changed_cell.Statement.{statement}

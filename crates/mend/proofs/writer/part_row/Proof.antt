@@ -1,10 +1,8 @@
 -- `mend::writer::part_row` meets its contract.
-use mathlib.Core.Path.{refl}
-use lib.ListN.{getD}
+use Rattle.scan.proofs.Basics.{arith, refl, getD}
 use Rattle.graph.proofs.Starts.{counts-start-low}
 use Rattle.mend.proofs.Climbing.{row-few}
 use borrow.Author.Needs.{needs}
-use native.Mathlib.Omega.{arith}
 use Rattle.mend.proofs.writer.part_row.Statement.{statement}
 use Rattle.mend.proofs.writer.part_row.Tie as tie
 
@@ -14,9 +12,7 @@ cast-t13 c =
     omega (arith, c .counts-start .ensures, counts-start-low (a .net .now) (getD (a .sheet .now) 0 0) (a .n))
 
 changed-cells-requires : tie.Need-changed-cells-requires
-changed-cells-requires c κs =
-    let (r, (fit, (l, e))) = c .before .before .before .before .before .before .pre in
-    λ p k. rw e (row-few _ _ r fit _ p l k)
+changed-cells-requires c κs = let (f, k) = c .before .before .before .before .before .before .pre in λ p l. rw (k .is-row) (row-few f _ p (k .low) l)
 
 cast-t14 : tie.Need-cast-t14
 cast-t14 c =
@@ -24,14 +20,12 @@ cast-t14 c =
     omega (arith, c .before .before .counts-start2 .ensures, counts-start-low (a .net .now) 0 (a .n))
 
 returns : tie.Need-returns
-returns c =
-    let (r, (fit, (l, e))) = c .before .before .before .before .before .before .pre in
-    rw (c .before .before .enum-told .given .1, c .counts-start .ensures, e) refl
+returns c = rw (c .before .before .enum-told .given .1, c .counts-start .ensures, c .before .before .before .before .before .before .pre .1 .is-row) refl
 
 returns-2 : tie.Need-returns-2
 returns-2 c =
-    let (r, (fit, (l, e))) = c .before .before .before .before .before .before .before .pre in
-    rw (c .before .before .before .enum-told2 .given .1, c .before .before .counts-start2 .ensures, c .changed-cells .ensures, c .before .marking .ensures, e) refl
+    let b = c .before .before .before in
+    rw (b .enum-told2 .given .1, c .before .before .counts-start2 .ensures, c .changed-cells .ensures, c .before .marking .ensures, b .before .before .before .before .pre .1 .is-row) refl
 
 pub part-row-spec : {M : Type 1} → statement M
 part-row-spec =

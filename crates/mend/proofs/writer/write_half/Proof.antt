@@ -3,19 +3,19 @@ use Rattle.graph.proofs.ArcCount.{arcs-within, arc-count-right}
 use Rattle.encoding.proofs.Rows.{appended-more}
 use Rattle.mend.specs.Writing.{halfOf}
 use borrow.Author.Needs.{needs}
-use native.Mathlib.Omega.{arith}
+use Rattle.scan.proofs.Basics.{arith}
 use Rattle.mend.proofs.writer.write_half.Statement.{statement}
 use Rattle.mend.proofs.writer.write_half.Tie as tie
 
 copy-requires : tie.Need-copy-requires
-copy-requires c κs = let p = c .before .before .before .before .before .pre in omega (arith, c .before .arc-count .ensures, arcs-within _ _ (p .0), p .1 .1 .1)
+copy-requires c κs = let (m, l) = c .before .before .before .before .before .pre in omega (arith, c .before .arc-count .ensures, arcs-within _ _ (m .fitting .readable))
 
 returns : tie.Need-returns
 unfolding halfOf
 returns c =
-    let p = c .before .before .before .before .before .before .before .before .before .before .before .before .pre in
-    rw (← arc-count-right _ _ (p .0), ← c .before .before .before .before .before .before .before .before .arc-count .ensures)
-    (appended-more (c .before .before .before .before .before .before .copy .ensures) (c .before .before .write-part .ensures))
+    let b = c .before .before .before .before .before .before in
+    rw (← arc-count-right _ _ (b .before .before .before .before .before .before .pre .0 .fitting .readable), ← b .before .before .arc-count .ensures)
+    (appended-more (b .copy .ensures) (c .before .before .write-part .ensures))
 
 pub write-half-spec : {M : Type 1} → statement M
 write-half-spec =

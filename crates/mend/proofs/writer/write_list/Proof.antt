@@ -1,17 +1,24 @@
 -- `mend::writer::write_list` meets its contract: how many changes there are, then their keys, then the new counts.
+use Rattle.encoding.specs.declared.Section.the-variants.{CountKeys}
 use Rattle.encoding.proofs.Rows.{appended-more}
-use Rattle.mend.proofs.Writes.{list-words, written-from}
+use Rattle.mend.specs.declared.writer.Part.the-variants.{Changes}
+use Rattle.mend.proofs.Writes.{part-most, list-words, written-from}
 use borrow.Author.Needs.{needs}
+use Rattle.scan.proofs.Basics.{arith}
 use Rattle.mend.proofs.writer.write_list.Statement.{statement}
 use Rattle.mend.proofs.writer.write_list.Tie as tie
 
+cast-changes : tie.Need-cast-put
+cast-changes c = let (m, e) = c .before .before .before .pre in omega (arith, e, part-most _ _ (m .fitting .readable) Changes CountKeys)
+
 returns : tie.Need-returns
 returns c =
-    let p = c .before .before .before .before .before .before .before .before .before .before .before .before .before .before .before .pre in
-    let a = rw (p .1 .1 .1 .0) at (c .before .before .before .before .before .before .before .before .before .before .put .ensures) in
-    written-from (appended-more (appended-more a (c .before .before .before .before .before .before .write-part .ensures)) (c .before .before .write-part2 .ensures)) (list-words _ _ (p .0))
+    let b = c .before .before .before .before .before .before in
+    let (m, e) = b .before .before .before .before .before .before .before .before .before .pre in
+    let a = rw e at (b .before .before .before .before .put .ensures) in
+    written-from (appended-more (appended-more a (b .write-part .ensures)) (c .before .before .write-part2 .ensures)) (list-words _ _ (m .fitting .readable))
 
 pub write-list-spec : {M : Type 1} → statement M
 write-list-spec =
     tie.close
-    (tie.spec (λ c. search needs) (λ c κs. search needs) (λ c κs. search needs) (λ c κs. search needs) (λ c. search needs) returns)
+    (tie.spec cast-changes (λ c κs. search needs) (λ c κs. search needs) (λ c κs. search needs) (λ c. search needs) returns)

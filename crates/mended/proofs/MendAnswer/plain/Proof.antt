@@ -1,5 +1,5 @@
 -- `mended::MendAnswer::plain` meets its contract.
-use mathlib.Core.Path.{ap, sym, _∙_}
+use Rattle.scan.proofs.Basics.{sym, ap, _∙_}
 use borrow.Author.Needs.{needs}
 use Rattle.refusal.proofs.Verdicts.{told-parts}
 use Rattle.mended.specs.Call.{plainMend}

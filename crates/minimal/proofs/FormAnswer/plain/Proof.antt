@@ -1,21 +1,14 @@
-use mathlib.Core.Path.{ap, sym, _∙_}
+-- `minimal::FormAnswer::plain` meets its contract.
+use Rattle.scan.proofs.Basics.{sym, ap, _∙_}
 use borrow.Author.Needs.{needs}
 use Rattle.refusal.proofs.Verdicts.{told-parts}
 use Rattle.minimal.specs.Form.{plainForm}
 use Rattle.minimal.proofs.FormAnswer.plain.Statement.{statement}
 use Rattle.minimal.proofs.FormAnswer.plain.Tie as tie
 
--- src/lib.rt:18:33
--- src/lib.rt:19:33
--- src/lib.rt:21:18
--- src/lib.rt:21:37
--- src/lib.rt:21:37
--- src/lib.rt:21:57
--- src/lib.rt:14:5
 returns : tie.Need-returns
 returns c = sym (ap plainForm (c .before .self .given .1))
 
--- src/lib.rt:14:5
 returns-2 : tie.Need-returns-2
 returns-2 c =
     let s = c .before .before .before .before .self2 in

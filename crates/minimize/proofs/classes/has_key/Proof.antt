@@ -1,6 +1,6 @@
 -- `minimize::classes::has_key` meets its contract.
-use native.Mathlib.Omega.{arith}
-use borrow.Author.Tests.{le-ltb, lt-ltb}
+use Rattle.scan.proofs.Basics.{arith}
+use Rattle.scan.proofs.Tests.{lt-ltb, le-ltb}
 use Rattle.table.specs.Table.{keyAt}
 use Rattle.minimize.specs.Agree.{hasKey}
 use borrow.Author.Needs.{needs}
@@ -14,15 +14,6 @@ returns : tie.Need-returns
 unfolding hasKey
 returns c = rw (le-ltb _ _ (c .if1 .taken))
 
-add-result : tie.Need-add-result
-add-result c = let h = c .if1 .left in let k = (c .before .before .pre) in omega arith
-
-mul-result : tie.Need-mul-result
-mul-result c = let h = c .if1 .left in let k = (c .before .before .pre) in omega arith
-
-shared-slice-read-result : tie.Need-shared-slice-read-result
-shared-slice-read-result c = let h = c .before .if1 .left in let k = (c .before .before .before .pre) in omega arith
-
 returns-2 : tie.Need-returns-2
 unfolding hasKey keyAt
 returns-2 c = rw (lt-ltb _ _ (c .before .if1 .left))
@@ -30,4 +21,4 @@ returns-2 c = rw (lt-ltb _ _ (c .before .if1 .left))
 pub has-key-spec : {M : Type 1} → statement M
 has-key-spec =
     tie.close
-    (tie.spec (λ c. search needs) cast-if1 returns add-result mul-result shared-slice-read-result returns-2)
+    (tie.spec (λ c. search needs) cast-if1 returns (λ c. search needs) (λ c. search needs) (λ c. search needs) returns-2)

@@ -1,15 +1,12 @@
 -- `minimize::classes::round` meets its contract: the entries are right before the counter.
-use Prim.Native.Nat.{_-_, _≤_}
-use native.Mathlib.Omega.{arith}
-use mathlib.Core.Path.{_≡_, refl}
-use lib.ListN.{length, length-set}
+use Rattle.scan.proofs.Basics.{_-_, _≤_, arith, _≡_, refl, length, length-set}
 use borrow.Author.Needs.{needs}
 use Rattle.automaton.proofs.Leader.{leader-le}
 use Rattle.sequential.specs.Petri.{petriNet}
 use Rattle.sequential.specs.Words.{graph}
 use Rattle.minimize.specs.Tables.{classIn}
 use Rattle.minimize.specs.Leaders.{LeadersBy, split}
-use Rattle.minimize.proofs.Leaders.{leaders-start, leaders-more}
+use Rattle.minimize.proofs.Leaders.{leaders-more}
 use Rattle.minimize.proofs.classes.round.Statement.{statement}
 use Rattle.minimize.proofs.classes.round.Tie as tie
 
@@ -21,10 +18,10 @@ abbrev μ-loop : tie.MeasureT-loop
 μ-loop net sheet page rows classes nodes next₀ n₀ next n = nodes - n
 
 loop-holds : tie.Need-loop-holds Inv-loop μ-loop
-loop-holds c = let (r, p) = c .before .before .before .pre in (omega arith, r .arcs .sizes .few-nodes, refl, leaders-start _ _)
+loop-holds c = (omega arith, c .before .before .before .pre .paged .readable .arcs .sizes .few-nodes, refl, record { leads = λ n l. absurd (omega arith) })
 
 leader-requires : tie.Need-leader-requires Inv-loop μ-loop
-leader-requires c κs = let (r, p) = c .before .before .before .before .before .pre in (r, (c .loop-test .taken, (p, c .before .loop .inv .3)))
+leader-requires c κs = record { of = c .before .before .before .before .before .pre; node = c .loop-test .taken; led = c .before .loop .inv .3 }
 
 cast-next : tie.Need-cast-next Inv-loop μ-loop
 cast-next c =

@@ -1,10 +1,7 @@
 -- `minimize::classes::same_tables` meets its contract: the entries before the counter are equal.
-use Prim.Native.Nat.{_-_, _≤_}
-use native.Mathlib.Omega.{arith}
-use mathlib.Core.Bool.{true}
-use mathlib.Core.Path.{_≡_, sym}
+use Rattle.scan.proofs.Basics.{_-_, _≤_, arith, _≡_, sym, true}
 use borrow.Author.Needs.{needs}
-use borrow.Author.Tests.{eq-eqb, ne-eqb}
+use Rattle.scan.proofs.Tests.{eq-eqb, ne-eqb}
 use Rattle.scan.specs.Scan.{all}
 use Rattle.scan.proofs.Every.{all-in, all-more, all-fails}
 use Rattle.minimize.specs.Tables.{classIn}
@@ -17,9 +14,6 @@ Inv-loop nodes a b n₀ n = (n ≤ nodes) × (all (sameEntry a b) n ≡ true)
 
 abbrev μ-loop : tie.MeasureT-loop
 μ-loop nodes a b n₀ n = nodes - n
-
-loop-holds : tie.Need-loop-holds Inv-loop μ-loop
-loop-holds c = (omega arith, all-in _ _ (λ j l. absurd (omega arith)))
 
 returns : tie.Need-returns Inv-loop μ-loop
 unfolding sameEntry classIn
@@ -35,4 +29,5 @@ returns-2 c = let e : (c .before .loop .n) ≡ (c .before .before .args .nodes) 
 pub same-tables-spec : {M : Type 1} → statement M
 same-tables-spec =
     tie.close
-    (tie.spec Inv-loop μ-loop loop-holds (λ c. search needs) (λ c. search needs) returns (λ c. search needs) (λ c. search needs) loop-again returns-2)
+    (tie.spec Inv-loop μ-loop (λ c. (omega arith, all-in _ _ (λ j l. absurd (omega arith)))) (λ c. search needs) (λ c. search needs) returns
+    (λ c. search needs) (λ c. search needs) loop-again returns-2)

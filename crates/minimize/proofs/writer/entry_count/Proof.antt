@@ -1,8 +1,5 @@
 -- `minimize::writer::entry_count` meets its contract: when the counter is i the entries of the first i rows are counted.
-use Prim.Native.Nat.{_+_, _*_, _-_, _≤_}
-use native.Mathlib.Omega.{arith}
-use mathlib.Core.Path.{_≡_, _∙_}
-use lib.ListN.{length}
+use Rattle.scan.proofs.Basics.{_+_, _-_, _*_, _≤_, arith, _≡_, _∙_, length}
 use borrow.Author.Needs.{needs}
 use Rattle.automaton.specs.Quotient.{minimal}
 use Rattle.sequential.specs.Petri.{petriNet}
@@ -17,7 +14,7 @@ use Rattle.minimize.proofs.writer.entry_count.Tie as tie
 
 abbrev Inv-loop : tie.InvT-loop
 Inv-loop net sheet page new entries₀ i₀ entries i =
-    NewNodes page net sheet (new .reps) (new .numbers) (new .found) × (i ≤ new .found)
+    NewNodes page net sheet new × (i ≤ new .found)
     × (entries ≡ length (sectionTo (petriNet net) (minimal (graph (petriNet net) sheet)) ArcKeys i) + length (sectionTo (petriNet net) (minimal (graph (petriNet net) sheet)) CountKeys i))
     × (entries ≤ 64 * i)
 
@@ -26,12 +23,6 @@ abbrev μ-loop : tie.MeasureT-loop
 
 loop-holds : tie.Need-loop-holds Inv-loop μ-loop
 loop-holds c = let h = c .before .before .pre in (h, omega arith, entries-none h, omega arith)
-
-arc-row-requires : tie.Need-arc-row-requires Inv-loop μ-loop
-arc-row-requires c κs = (c .before .before .loop .inv .0, c .if1 .taken)
-
-count-row-requires : tie.Need-count-row-requires Inv-loop μ-loop
-count-row-requires c κs = (c .before .before .before .before .loop .inv .0, c .before .before .if1 .taken)
 
 -- ---- both rows of a node are counted
 
@@ -49,10 +40,10 @@ add-entries-2 : tie.Need-add-entries-2 Inv-loop μ-loop
 add-entries-2 c = let (h, low, is, most) = loop-again c in omega (arith, h .few)
 
 returns : tie.Need-returns Inv-loop μ-loop
-returns c = let (h, low, is, most) = c .before .before .loop .inv in (is ∙ entries-all h _ (omega arith), omega (arith, h .few))
+returns c = let (h, low, is, most) = c .before .before .loop .inv in record { are = is ∙ entries-all h _ (omega arith); few = omega (arith, h .few) }
 
 pub entry-count-spec : {M : Type 1} → statement M
 entry-count-spec =
     tie.close
-    (tie.spec Inv-loop μ-loop loop-holds arc-row-requires count-row-requires (λ c κs. search needs) (λ c κs. search needs) add-entries add-entries-2
-    (λ c. omega arith) (λ c. omega arith) loop-again returns)
+    (tie.spec Inv-loop μ-loop loop-holds (λ c κs. search needs) (λ c κs. search needs) (λ c κs. search needs) (λ c κs. search needs)
+    add-entries add-entries-2 (λ c. omega arith) (λ c. omega arith) loop-again returns)

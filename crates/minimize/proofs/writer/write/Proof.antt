@@ -1,8 +1,5 @@
 -- `minimize::writer::write` meets its contract.
-use Prim.Native.Nat.{_≤_}
-use native.Mathlib.Omega.{arith}
-use mathlib.Core.Path.{refl, sym, ap, _∙_}
-use lib.ListN.{length}
+use Rattle.scan.proofs.Basics.{_≤_, arith, refl, sym, ap, _∙_, length}
 use borrow.Author.Needs.{needs}
 use Rattle.scan.proofs.Placed.{placed-front}
 use Rattle.call.proofs.Lent.{room-holds}
@@ -17,7 +14,7 @@ returns : tie.Need-returns
 returns c =
     let d = c .before .before .before in
     let p = d .before .before .before .before .before .pre in
-    let e = form-length (p .1) _ (d .before .entry-count .ensures .0) in
+    let e = form-length (p .1) _ (d .before .entry-count .ensures .are) in
     refused-one refl (p .0) (rw (← e) at (sym (d .output-fault .ensures) ∙ c .before .found .given .1)) refl
 
 returns-2 : tie.Need-returns-2
@@ -25,7 +22,7 @@ returns-2 c =
     let d = c .before .before .before .before .before .before in
     let p = d .before .before .before .before .before .pre in
     let a = d .before .before .before .before .before .args in
-    let e = form-length (p .1) _ (d .before .entry-count .ensures .0) in
+    let e = form-length (p .1) _ (d .before .entry-count .ensures .are) in
     let f = sym (d .output-fault .ensures) ∙ c .before .before .before .before .enum-told .given .1 in
     let z : length (minimalForm (a .net .now) (a .sheet .now)) ≤ length (a .out .now) = omega (arith, e, room-holds _ _ f) in
     answered-one refl (p .0) (rw (← e) at f) (ap Written (sym e)) (c .before .before .write-form .ensures ∙ placed-front _ _ z)

@@ -4,16 +4,7 @@ use Rattle.minimize.proofs.Writing.{form-written}
 use Rattle.minimize.proofs.writer.write_form.Statement.{statement}
 use Rattle.minimize.proofs.writer.write_form.Tie as tie
 
-write-section-requires : tie.Need-write-section-requires
-write-section-requires c κs = c .before .before .before .before .before .before .before .before .before .before .before .before .before .pre .0
-
-write-section-requires-2 : tie.Need-write-section-requires-2
-write-section-requires-2 c κs = let d = c .before .before .before .before .before in d .before .before .before .before .before .before .before .before .before .before .before .before .pre .0
-
-write-section-requires-3 : tie.Need-write-section-requires-3
-write-section-requires-3 c κs =
-    let d = c .before .before .before .before .before .before .before .before .before in d .before .before .before .before .before .before .before .before .before .before .before .before .pre .0
-
+-- what is asked lies too far back to be searched for
 write-section-requires-4 : tie.Need-write-section-requires-4
 write-section-requires-4 c κs =
     let d = c .before .before .before .before .before .before .before .before .before .before .before .before .before in
@@ -28,11 +19,11 @@ returns c =
     let c₅ = c₄ .before .before .before .before in
     let c₆ = c₅ .before .before .before .before in
     let p = c₆ .before .before .before .before .before .before .pre in
-    form-written (p .0) _ (p .1 .0) (c₆ .put .ensures) (c₅ .put2 .ensures) (c₄ .write-section .ensures) (c₃ .write-section2 .ensures) (c₂ .write-section3 .ensures)
+    form-written (p .0) _ (p .1 .are) (c₆ .put .ensures) (c₅ .put2 .ensures) (c₄ .write-section .ensures) (c₃ .write-section2 .ensures) (c₂ .write-section3 .ensures)
     (c₁ .write-section4 .ensures)
 
 pub write-form-spec : {M : Type 1} → statement M
 write-form-spec =
     tie.close
-    (tie.spec (λ c. search needs) (λ c κs. search needs) (λ c. search needs) (λ c κs. search needs) write-section-requires write-section-requires-2
-    write-section-requires-3 write-section-requires-4 (λ c. search needs) returns)
+    (tie.spec (λ c. search needs) (λ c κs. search needs) (λ c. search needs) (λ c κs. search needs) (λ c κs. search needs) (λ c κs. search needs)
+    (λ c κs. search needs) write-section-requires-4 (λ c. search needs) returns)

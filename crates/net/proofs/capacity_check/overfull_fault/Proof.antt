@@ -1,10 +1,5 @@
 -- `net::capacity_check::overfull_fault` meets its contract: the places before the counter start within their capacities.
-use Prim.Native.Nat.{ℕ, _-_, _≤_, _<_}
-use native.Mathlib.Omega.{arith}
-use mathlib.Core.Bool.{not}
-use mathlib.Core.Option.{none}
-use mathlib.Core.Path.{_≡_, sym, ap, _∙_}
-use lib.ListN.{getD}
+use Rattle.scan.proofs.Basics.{ℕ, _-_, _≤_, _<_, arith, _≡_, sym, ap, _∙_, not, none, getD}
 use borrow.Author.Needs.{needs}
 use Rattle.scan.specs.Scan.{first, when}
 use Rattle.scan.proofs.First.{first-none, first-more, first-hit, when-hit, when-miss}

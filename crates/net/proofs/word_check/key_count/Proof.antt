@@ -1,7 +1,6 @@
 -- `net::word_check::key_count` meets its contract.
-use Prim.Native.Nat.{_+_, _*_, _≤_}
+use Rattle.scan.proofs.Basics.{_+_, _*_, _≤_, arith}
 use native.Mathlib.Nat.{mul-le-mul}
-use native.Mathlib.Omega.{arith}
 use borrow.Author.Needs.{needs}
 use Rattle.net.proofs.word_check.key_count.Statement.{statement}
 use Rattle.net.proofs.word_check.key_count.Tie as tie

@@ -1,7 +1,5 @@
 -- `replay::follow::followed` meets its contract: the firings before the counter pass, and lead to the node.
-use Prim.Native.Nat.{_-_}
-use native.Mathlib.Omega.{arith}
-use mathlib.Core.Path.{sym, _∙_}
+use Rattle.scan.proofs.Basics.{_-_, arith, sym, _∙_}
 use borrow.Author.Needs.{needs}
 use Rattle.replay.specs.Log.{firingCount}
 use Rattle.replay.proofs.Following.{Along, sets-out, arrives, not-offered, other-node, fits, goes-on}
@@ -14,15 +12,12 @@ Inv-loop net sheet starts log n node₀ entry₀ i₀ node entry i = Along start
 abbrev μ-loop : tie.MeasureT-loop
 μ-loop net sheet starts log n node₀ entry₀ i₀ node entry i = n - i
 
-read-n : tie.Need-shared-slice-read-n Inv-loop μ-loop
-read-n c = omega (arith, c .before .before .before .before .pre .1 .1 .whole)
-
 cast-n : tie.Need-cast-n Inv-loop μ-loop
 unfolding firingCount
 cast-n c = omega (arith, c .before .before .before .before .pre .1 .1 .few)
 
 loop-holds : tie.Need-loop-holds Inv-loop μ-loop
-loop-holds c = let (r, (p, h)) = c .before .before .before .before .pre in sets-out _ _ _ _ p r h
+loop-holds c = let (r, (p, h)) = c .before .before .before .before .pre in sets-out p r h
 
 returns : tie.Need-returns Inv-loop μ-loop
 returns c =
@@ -31,25 +26,23 @@ returns c =
 
 returns-2 : tie.Need-returns-2 Inv-loop μ-loop
 returns-2 c =
-    let w = c .before .before .before .before .before .before .before .before .before .before .loop in
-    other-node (w .inv) (c .before .before .before .before .before .before .before .before .before .loop-test .taken) _ _
-    (sym (c .before .before .before .before .before .before .before .arc .ensures) ∙ c .before .before .before .before .before .e .given .1) (c .before .before .before .value .ensures)
+    let v = c .before .before .before in
+    let b = v .before .before .before .before .before .before in
+    other-node (b .before .loop .inv) (b .loop-test .taken) (sym (v .before .before .before .before .arc .ensures) ∙ v .before .before .e .given .1) (v .value .ensures)
     (c .before .if1 .taken) (c .refuse2 .ensures)
 
 cast-entry : tie.Need-cast-t24 Inv-loop μ-loop
 cast-entry c =
-    let w = c .before .before .before .before .before .before .before .before .before .loop in
-    omega (
-      arith,
-      fits (w .inv) (c .before .before .before .before .before .before .before .before .loop-test .taken) _ _
-          (sym (c .before .before .before .before .before .before .arc .ensures) ∙ c .before .before .before .before .e .given .1) (c .before .before .value .ensures),
-    )
+    let v = c .before .before in
+    let b = v .before .before .before .before .before .before in
+    let k = fits (b .before .loop .inv) (b .loop-test .taken) (sym (v .before .before .before .before .arc .ensures) ∙ v .before .before .e .given .1) (v .value .ensures) in
+    omega arith
 
 loop-again : tie.Need-loop-again Inv-loop μ-loop
 loop-again c =
-    let w = c .before .before .before .before .before .before .before .before .before .loop in
-    goes-on (w .inv) (c .before .before .before .before .before .before .before .before .loop-test .taken) _ _
-    (sym (c .before .before .before .before .before .before .arc .ensures) ∙ c .before .before .before .before .e .given .1) (c .before .before .value .ensures) (c .if1 .left)
+    let v = c .before .before in
+    let b = v .before .before .before .before .before .before in
+    goes-on (b .before .loop .inv) (b .loop-test .taken) (sym (v .before .before .before .before .arc .ensures) ∙ v .before .before .e .given .1) (v .value .ensures) (c .if1 .left)
 
 returns-3 : tie.Need-returns-3 Inv-loop μ-loop
 returns-3 c = arrives (c .before .loop .inv) (omega arith)
@@ -57,7 +50,7 @@ returns-3 c = arrives (c .before .loop .inv) (omega arith)
 pub followed-spec : {M : Type 1} → statement M
 followed-spec =
     tie.close
-    (tie.spec Inv-loop μ-loop read-n cast-n loop-holds (λ c. search needs) (λ c. search needs) (λ c. search needs) (λ c κs. search needs)
+    (tie.spec Inv-loop μ-loop (λ c. search needs) cast-n loop-holds (λ c. search needs) (λ c. search needs) (λ c. search needs) (λ c κs. search needs)
     (λ c. search needs) (λ c κs. search needs) returns (λ c. search needs) (λ c κs. search needs) (λ c. search needs) (λ c. search needs)
     (λ c. search needs) (λ c. search needs) (λ c κs. search needs) returns-2 cast-entry (λ c. search needs)
     (λ c. omega arith)

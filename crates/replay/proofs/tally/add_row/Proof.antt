@@ -1,9 +1,6 @@
 -- `replay::tally::add_row` meets its contract: the row is right before the counter.
-use native.Mathlib.Omega.{arith}
+use Rattle.scan.proofs.Basics.{ℕ, _-_, _*_, _≤_, _<_, arith, _≡_, length, getD, length-set}
 use borrow.Author.Needs.{needs}
-use mathlib.Core.Path.{_≡_}
-use Prim.Native.Nat.{ℕ, _-_, _≤_, _<_}
-use lib.ListN.{length, getD, length-set}
 use native.Mathlib.Nat.{mul-le-mul}
 use Rattle.scan.proofs.Tabulate.{tabulate-is, stored-more}
 use Rattle.replay.specs.Tally.{added}
@@ -20,15 +17,11 @@ loop-holds : tie.Need-loop-holds Inv-loop μ-loop
 loop-holds c = (omega arith, search needs, λ j l. absurd (omega arith))
 
 -- 4,096 times a word fits, also on top of a sum
-mul-next-2 : tie.Need-mul-next-2 Inv-loop μ-loop
-mul-next-2 c =
-    let t : c .before .wide .result ≤ 4096 = omega (arith, c .before .wide .ensures .0, c .before .before .before .before .pre .0) in
-    omega (arith, mul-le-mul t (c .wide2 .ensures .1))
+few : (c : tie.After-wide2 Inv-loop μ-loop) → c .before .wide .result * c .wide2 .result ≤ 4096 * 4294967295
+few c = let t : c .before .wide .result ≤ 4096 = omega (arith, c .before .wide .ensures .0, c .before .before .before .before .pre .0) in mul-le-mul t (c .wide2 .ensures .1)
 
 add-next : tie.Need-add-next Inv-loop μ-loop
-add-next c =
-    let t : c .before .wide .result ≤ 4096 = omega (arith, c .before .wide .ensures .0, c .before .before .before .before .pre .0) in
-    omega (arith, mul-le-mul t (c .wide2 .ensures .1), c .before .before .before .before .pre .1 (c .before .before .before .loop .p) (omega arith))
+add-next c = omega (arith, few c, c .before .before .before .before .pre .1 (c .before .before .before .loop .p) (omega arith))
 
 loop-again : tie.Need-loop-again Inv-loop μ-loop
 unfolding added
@@ -47,7 +40,7 @@ pub add-row-spec : {M : Type 1} → statement M
 add-row-spec =
     tie.close
     (tie.spec Inv-loop μ-loop loop-holds (λ c. search needs) (λ c. search needs) (λ c κs. search needs) (λ c. search needs) (λ c. search needs)
-    (λ c κs. search needs) mul-next-2 add-next (λ c. search needs) (λ c. search needs) (λ c. search needs)
+    (λ c κs. search needs) (λ c. let k = few c in omega arith) add-next (λ c. search needs) (λ c. search needs) (λ c. search needs)
     (λ c. omega arith)
     loop-again
     returns)

@@ -1,8 +1,8 @@
 -- `replay::tally::settle` meets its contract.
-use native.Mathlib.Omega.{arith}
+use Rattle.scan.proofs.Basics.{arith}
 use borrow.Author.Needs.{needs}
 use Rattle.net.proofs.Laws.{sizes}
-use Rattle.replay.proofs.Sides.{often-fits, settled}
+use Rattle.replay.proofs.Sides.{weighable, settled}
 use Rattle.replay.proofs.tally.settle.Statement.{statement}
 use Rattle.replay.proofs.tally.settle.Tie as tie
 
@@ -14,15 +14,13 @@ fired-times-requires c κs =
 
 side-requires : tie.Need-side-requires
 side-requires c κs =
-    let p = c .before .before .before .before .before .before .pre in
-    let (a, m) = often-fits (p .0) (c .before .fired-times .ensures) in
-    (a, (m, p .1 .0))
+    let (p, r) = c .before .before .before .before .before .before .pre in
+    (weighable p (c .before .fired-times .ensures), r .taken-room)
 
 side-requires-2 : tie.Need-side-requires-2
 side-requires-2 c κs =
-    let p = c .before .before .before .before .before .before .before .before .before .before .pre in
-    let (a, m) = often-fits (p .0) (c .before .before .before .before .before .fired-times .ensures) in
-    (a, (m, p .1 .1))
+    let (p, r) = c .before .before .before .before .before .before .before .before .before .before .pre in
+    (weighable p (c .before .before .before .before .before .fired-times .ensures), r .put-room)
 
 returns : tie.Need-returns
 returns c =

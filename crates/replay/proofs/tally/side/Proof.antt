@@ -7,17 +7,13 @@ use Rattle.replay.proofs.tally.side.Tie as tie
 total-requires : tie.Need-total-requires
 total-requires c κs =
     let s = c .before .before .before .before .before .before .before .before in
-    let p = s .pre in
-    side-fits (s .args .net .now) (s .args .often) _ (s .args .putting) _ (p .0) (p .1 .0)
-    (c .before .before .before .before .before .places .ensures) (c .before .before .before .before .weigh .ensures)
+    side-fits (s .args .putting) (s .pre .0) (c .before .before .before .before .before .places .ensures) (c .before .before .before .before .weigh .ensures)
 
 returns : tie.Need-returns
 returns c =
     let s = c .before .before .before .before .before .before .before .before .before in
-    let p = s .pre in
-    side-done (s .args .net .now) (s .args .often) _ (s .args .putting) _ (p .0) (p .1 .0)
-    (c .before .before .before .before .before .before .places .ensures) (c .before .before .before .before .before .weigh .ensures)
-    (p .1 .1) (c .before .before .before .write-row .ensures) (c .total .ensures)
+    side-done (s .args .putting) (s .pre .0) (c .before .before .before .before .before .before .places .ensures) (c .before .before .before .before .before .weigh .ensures)
+    (s .pre .1) (c .before .before .before .write-row .ensures) (c .total .ensures)
 
 pub side-spec : {M : Type 1} → statement M
 side-spec =

@@ -1,8 +1,6 @@
 -- `replay::tally::total` meets its contract: what is added before the counter.
-use native.Mathlib.Omega.{arith}
+use Rattle.scan.proofs.Basics.{_-_, _≤_, arith, _≡_, refl}
 use borrow.Author.Needs.{needs}
-use mathlib.Core.Path.{_≡_, refl}
-use Prim.Native.Nat.{_-_, _≤_}
 use Rattle.scan.specs.Scan.{sum}
 use Rattle.scan.proofs.Sum.{sum-more}
 use Rattle.replay.specs.Tally.{at}

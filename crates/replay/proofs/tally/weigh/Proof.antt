@@ -1,6 +1,5 @@
 -- `replay::tally::weigh` meets its contract: the sums are those of the transitions before the counter.
-use Prim.Native.Nat.{_-_}
-use native.Mathlib.Omega.{arith}
+use Rattle.scan.proofs.Basics.{_-_, arith}
 use borrow.Author.Needs.{needs}
 use Rattle.replay.proofs.Sides.{Weighing, weighs-none, weighs-fit, weighs-more, weighs-all}
 use Rattle.replay.proofs.tally.weigh.Statement.{statement}
@@ -13,13 +12,13 @@ abbrev μ-loop : tie.MeasureT-loop
 μ-loop net putting often transitions sums₀ t₀ sums t = transitions - t
 
 loop-holds : tie.Need-loop-holds Inv-loop μ-loop
-loop-holds c = weighs-none _ _ _ _ (c .before .before .pre .0) (c .before .before .pre .1) (c .transitions .ensures)
+loop-holds c = weighs-none (c .before .before .pre) (c .transitions .ensures)
 
 add-row-requires : tie.Need-add-row-requires Inv-loop μ-loop
 add-row-requires c κs = weighs-fit (c .before .before .loop .inv) (c .before .loop-test .taken)
 
 loop-again : tie.Need-loop-again Inv-loop μ-loop
-loop-again c = weighs-more (c .before .before .before .loop .inv) _ _ (c .before .before .loop-test .taken) (c .before .row-of .ensures) (c .add-row .ensures)
+loop-again c = weighs-more (c .before .before .before .loop .inv) (c .before .before .loop-test .taken) (c .before .row-of .ensures) (c .add-row .ensures)
 
 returns : tie.Need-returns Inv-loop μ-loop
 returns c = weighs-all (c .before .loop .inv) (omega arith)

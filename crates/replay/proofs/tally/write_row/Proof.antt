@@ -1,9 +1,5 @@
 -- `replay::tally::write_row` meets its contract: when the counter is i the first i numbers of the row are written.
-use Prim.Native.Nat.{ℕ, _-_, _≤_}
-use native.Mathlib.Omega.{arith}
-use mathlib.Core.Path.{_≡_, refl, ap, _∙_}
-use mathlib.Core.List.{List}
-use lib.ListN.{length, getD, set, take, length-set}
+use Rattle.scan.proofs.Basics.{ℕ, _-_, _≤_, arith, _≡_, refl, ap, _∙_, List, length, getD, take, set, length-set}
 use borrow.Author.Needs.{needs}
 use Rattle.scan.specs.Placed.{placed}
 use Rattle.scan.proofs.Placed.{placed-none, row-more, row-all, row-full}

@@ -1,7 +1,5 @@
 -- `schedule::firing::follow` meets its contract: the node is the one after so many firings, each of them offered.
-use Prim.Native.Nat.{_-_, _≤_, _<_}
-use mathlib.Core.Option.{none}
-use lib.ListN.{length}
+use Rattle.scan.proofs.Basics.{_-_, _≤_, _<_, arith, _≡_, sym, ap, _∙_, none, length}
 use Rattle.scan.specs.Scan.{first}
 use Rattle.scan.proofs.First.{first-none, first-more, first-hit}
 use Rattle.refusal.specs.Verdict.{verdictOf}
@@ -12,8 +10,6 @@ use Rattle.schedule.specs.Firing.{nodeAfter, entryAfter, firingFault, ru
 use Rattle.graph.proofs.LookUp.{arc-found, arc-missing}
 use Rattle.schedule.proofs.Walks.{refused-accepted, target-node, entry-fits, after-none, after-more, entry-none, entry-more, firing-passes, firing-fails}
 use borrow.Author.Needs.{needs}
-use native.Mathlib.Omega.{arith}
-use mathlib.Core.Path.{_≡_, sym, ap, _∙_}
 use Rattle.schedule.proofs.firing.follow.Statement.{statement}
 use Rattle.schedule.proofs.firing.follow.Tie as tie
 

@@ -1,6 +1,5 @@
 -- `schedule::firing::walker_fault` meets its contract: nothing is found at the counts before the counter.
-use Prim.Native.Nat.{_-_, _≤_, _<_}
-use mathlib.Core.Option.{none}
+use Rattle.scan.proofs.Basics.{_-_, _≤_, _<_, arith, _≡_, sym, ap, _∙_, none}
 use Rattle.scan.specs.Scan.{first}
 use Rattle.scan.proofs.First.{first-none, first-more}
 use Rattle.refusal.specs.Verdict.{verdictOf}
@@ -10,8 +9,6 @@ use Rattle.schedule.specs.Firing.{countFault}
 use Rattle.graph.proofs.Readable.{known}
 use Rattle.schedule.proofs.Walks.{no-such-node, held-at, count-right, astray-at, walker-right}
 use borrow.Author.Needs.{needs}
-use native.Mathlib.Omega.{arith}
-use mathlib.Core.Path.{_≡_, sym, ap, _∙_}
 use Rattle.schedule.proofs.firing.walker_fault.Statement.{statement}
 use Rattle.schedule.proofs.firing.walker_fault.Tie as tie
 
@@ -20,9 +17,6 @@ Inv-loop net sheet n counts held p₀ p = (p ≤ 32) × (first (countFault (petr
 
 abbrev μ-loop : tie.MeasureT-loop
 μ-loop net sheet n counts held p₀ p = 32 - p
-
-shared-slice-read-if1 : tie.Need-shared-slice-read-if1 Inv-loop μ-loop
-shared-slice-read-if1 c = let k = known _ _ (c .before .before .before .before .pre) in omega arith
 
 returns : tie.Need-returns Inv-loop μ-loop
 returns c = (c .refuse .ensures) ∙ ap verdictOf (sym (no-such-node _ _ _ (c .before .if1 .taken)))
@@ -54,9 +48,6 @@ returns-3 c =
 pub walker-fault-spec : {M : Type 1} → statement M
 walker-fault-spec =
     tie.close
-    (tie.spec Inv-loop μ-loop shared-slice-read-if1 (λ c κs. search needs) returns (λ c κs. search needs) loop-holds (λ c. search needs)
-    (λ c. search needs) (λ c. search needs) (λ c. search needs) (λ c κs. search needs) returns-2
-    (λ c. omega arith)
-    (λ c. omega arith)
-    loop-again
-    returns-3)
+    (tie.spec Inv-loop μ-loop (λ c. omega (arith, known _ _ (c .before .before .before .before .pre))) (λ c κs. search needs) returns (λ c κs. search needs)
+    loop-holds (λ c. search needs) (λ c. search needs) (λ c. search needs) (λ c. search needs) (λ c κs. search needs) returns-2 (λ c. omega arith) (λ c. omega arith)
+    loop-again returns-3)

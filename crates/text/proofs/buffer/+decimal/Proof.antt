@@ -1,6 +1,5 @@
 -- `text::buffer::decimal` meets its contract: it calls itself with a tenth of its number.
-use Prim.Native.Nat.{ℕ, _<_}
-use native.Mathlib.Omega.{arith}
+use Rattle.scan.proofs.Basics.{ℕ, _<_, arith}
 use borrow.Author.Needs.{needs}
 use borrow.Fn.Kinds.{In}
 use borrow.Fn.PlainCycle.{Measures, is, falls, and}

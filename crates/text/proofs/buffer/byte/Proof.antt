@@ -1,5 +1,5 @@
 -- `text::buffer::byte` meets its contract.
-use native.Mathlib.Omega.{arith}
+use Rattle.scan.proofs.Basics.{arith}
 use borrow.Author.Needs.{needs}
 use Rattle.text.proofs.Put.{byte-put, byte-dropped}
 use Rattle.text.proofs.buffer.byte.Statement.{statement}

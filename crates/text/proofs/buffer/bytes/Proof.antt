@@ -1,8 +1,5 @@
 -- `text::buffer::bytes` meets its contract: when the counter is i the first i bytes are put.
-use Prim.Native.Nat.{_≤_, _-_}
-use native.Mathlib.Omega.{arith}
-use mathlib.Core.Path.{ap, _∙_}
-use lib.ListN.{length, take}
+use Rattle.scan.proofs.Basics.{_-_, _≤_, arith, ap, _∙_, length, take}
 use borrow.Author.Needs.{needs}
 use Rattle.text.specs.Buffer.{Put}
 use Rattle.text.proofs.Put.{nothing-put, put-length}
