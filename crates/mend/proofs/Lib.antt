@@ -7,7 +7,9 @@ pub mod Searches
 pub mod ArcRows
 pub mod SearchTables
 -- a place's counts along it
+pub mod Fits
 pub mod Filling
+pub mod Testing
 -- a node's row again, and what is written
 pub mod Climbing
 pub mod Writes
