@@ -15,6 +15,13 @@ def name(edit):
     return os.path.basename(edit)[: -len('.edit')]
 
 
+def said(edit, kind):
+    """What the comments of an edit say of a kind: the mistakes that it makes, or the contracts that it tries."""
+    mark = f'# {kind}: '
+    with open(edit, encoding='utf-8') as file:
+        return [line[len(mark) :].strip() for line in file if line.startswith(mark)]
+
+
 def steps(edit):
     """What an edit does, in order: of each step the file, the text that goes and the text that comes. As `rt` reads it."""
     path = old = ''
