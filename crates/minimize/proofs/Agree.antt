@@ -46,14 +46,14 @@ module _ (sheet : List ℕ) where
   has-is i key h = eqb-true _ _ (and-right (ltb i (entryCount sheet)) _ h)
 
   module _ (up : Rising sheet 2 (entryCount sheet)) (a t : ℕ) {i : ℕ} (l : LowerBound sheet 2 (entryCount sheet) (a + t) i) where
-    value-at-bound : keyValue sheet (a + t) ≡ cond (hasKey sheet i (a + t)) (some (entryValue sheet i)) none
+    pub value-at-bound : keyValue sheet (a + t) ≡ cond (hasKey sheet i (a + t)) (some (entryValue sheet i)) none
     unfolding keyValue entryWithKey hasKey
     value-at-bound = rw (lower-bound-entry sheet 2 (entryCount sheet) (a + t) up i l) (map-cond (entryValue sheet) (ltb i (entryCount sheet) && eqb (keyAt sheet 2 i) (a + t)) i)
 
-    bound-hit : hasKey sheet i (a + t) ≡ true → LowerBound sheet 2 (entryCount sheet) (a + (t + 1)) (i + 1)
+    pub bound-hit : hasKey sheet i (a + t) ≡ true → LowerBound sheet 2 (entryCount sheet) (a + (t + 1)) (i + 1)
     bound-hit h = rw (next-key a t) (next-hit sheet 2 (entryCount sheet) up (a + t) i (has-within i _ h) (has-is i _ h) l)
 
-    bound-miss : hasKey sheet i (a + t) ≡ false → LowerBound sheet 2 (entryCount sheet) (a + (t + 1)) i
+    pub bound-miss : hasKey sheet i (a + t) ≡ false → LowerBound sheet 2 (entryCount sheet) (a + (t + 1)) i
     unfolding hasKey
     bound-miss h =
         rw (next-key a t)
@@ -179,7 +179,7 @@ module _ {starts net sheet : List ℕ} (paged : Paged starts net sheet) where
 
   -- ---- the first key of a row, and where the row starts
 
-  first-arc : {n : ℕ} → n < nodeCount sheet → rowKey starts net sheet false n ≡ n * N .transitions
+  pub first-arc : {n : ℕ} → n < nodeCount sheet → rowKey starts net sheet false n ≡ n * N .transitions
   unfolding rowKey
   first-arc {n} l = arcs-start-is (paged .by-page) net n (omega (arith, k .few-nodes)) (k .some-transition) (k .few-transitions)
 
@@ -202,7 +202,7 @@ module _ {starts net sheet : List ℕ} (paged : Paged starts net sheet) where
 
   -- ---- an arc's target is a node
 
-  row-valued : {classes : List ℕ} (counts : Bool) {n : ℕ} → length classes ≡ 128 → n < nodeCount sheet → (t i : ℕ) → t < rowWidth net counts
+  pub row-valued : {classes : List ℕ} (counts : Bool) {n : ℕ} → length classes ≡ 128 → n < nodeCount sheet → (t i : ℕ) → t < rowWidth net counts
       → hasKey sheet i (rowKey starts net sheet counts n + t) ≡ true → Valued sheet classes counts i
   unfolding rowWidth
   row-valued true long ln t i l h = record { whole = k .long; within = has-within sheet i _ h; target = λ z. true-false true refl z }
@@ -225,7 +225,7 @@ module _ {starts net sheet : List ℕ} (paged : Paged starts net sheet) where
 
   -- ---- the rows walked to the end
 
-  arc-value : {n t : ℕ} → n < nodeCount sheet → t < N .transitions → arc N sheet n t ≡ keyValue sheet (rowKey starts net sheet false n + t)
+  pub arc-value : {n t : ℕ} → n < nodeCount sheet → t < N .transitions → arc N sheet n t ≡ keyValue sheet (rowKey starts net sheet false n + t)
   unfolding keyValue
   arc-value {n} {t} l m = rw (first-arc l) (arc-inside N sheet n t l m)
 

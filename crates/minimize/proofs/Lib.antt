@@ -1,5 +1,6 @@
 -- classes
 pub mod Agree
+pub mod Level
 pub mod Leaders
 -- numbers
 pub mod SearchState

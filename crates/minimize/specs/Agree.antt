@@ -9,12 +9,14 @@ use lib.Dec.{ltb, eqb}
 use lib.ListN.{length, getD}
 use Rattle.table.specs.Table.{keyAt, Rising}
 use Rattle.table.specs.Bisection.{lowerBound}
+use Rattle.scan.specs.Scan.{found}
+use Rattle.automaton.specs.Automaton.{Automaton}
 use Rattle.automaton.specs.Equivalence.{sameClass, equalArcs}
-use Rattle.sequential.specs.Words.{nodeCount, entryCount, entryValue, entryWithKey}
+use Rattle.sequential.specs.Petri.{petriNet}
+use Rattle.sequential.specs.Words.{nodeCount, entryCount, entryValue, entryWithKey, graph}
 use Rattle.net.specs.Net.{placeCount, transitionCount}
 use Rattle.graph.specs.Rows.{arcsStart, countsStart}
 use Rattle.minimize.specs.Tables.{Paged, classIn}
-use Rattle.minimize.specs.declared.classes.NodeRows.{NodeRows}
 
 -- counts agree where they are equal, targets of arcs where they have one class
 unfoldable pub valuesAgree : List ℕ → Bool → ℕ → ℕ → Bool
@@ -65,13 +67,35 @@ rowWidth net counts = cond counts (placeCount net) (transitionCount net)
 unfoldable pub firstEntry : List ℕ → List ℕ → List ℕ → Bool → ℕ → ℕ
 firstEntry starts net sheet counts n = lowerBound sheet 2 (entryCount sheet) (rowKey starts net sheet counts n)
 
-pub record RowsOf (starts net sheet : List ℕ) (rows : NodeRows) : Type 0 where
-  pub paged : Paged starts net sheet
-  pub wide : rows .width ≡ rowWidth net (rows .counts)
-  pub start : (n : ℕ) → n < nodeCount sheet → getD (rows .starts) n 0 ≡ firstEntry starts net sheet (rows .counts) n
+-- a table has it for each node
+pub record StartsOf (page net sheet : List ℕ) (counts : Bool) (starts : List ℕ) : Type 0 where
+  pub paged : Paged page net sheet
+  pub start : (n : ℕ) → n < nodeCount sheet → getD starts n 0 ≡ firstEntry page net sheet counts n
 
--- with two of the nodes
-pub record TwoRows (starts net sheet : List ℕ) (rows : NodeRows) (n m : ℕ) : Type 0 where
-  pub of : RowsOf starts net sheet rows
+-- ---- level rows: of two nodes that have arcs by the same transitions
+
+unfoldable pub SameOffers : Automaton → ℕ → ℕ → Type 0
+SameOffers A n m = (t : ℕ) → t < A .transitions → found (A .arc n t) ≡ found (A .arc m t)
+
+-- the targets at s past two entries are of one class
+unfoldable pub targetsAgree : List ℕ → List ℕ → ℕ → ℕ → ℕ → Bool
+targetsAgree sheet classes i j s = valuesAgree classes false (entryValue sheet (i + s)) (entryValue sheet (j + s))
+
+-- so many entries from i and from j on are arcs, and a table has their targets
+pub record LevelRows (sheet classes : List ℕ) (size i j : ℕ) : Type 0 where
+  pub left : (s : ℕ) → s < size → Valued sheet classes false (i + s)
+  pub right : (s : ℕ) → s < size → Valued sheet classes false (j + s)
+
+-- rows that are said to be level are of arcs, by the same transitions, and those of n are not the last
+pub record Level (A : Automaton) (counts : Bool) (n m : ℕ) : Type 0 where
+  pub arcs : counts ≡ false
+  pub inner : n + 1 < A .nodes
+  pub offers : SameOffers A n m
+
+-- the rows of two nodes
+pub record TwoRows (page net sheet starts classes : List ℕ) (counts level : Bool) (n m : ℕ) : Type 0 where
+  pub of : StartsOf page net sheet counts starts
+  pub long : length classes ≡ 128
   pub left : n < nodeCount sheet
   pub right : m < nodeCount sheet
+  pub even : level ≡ true → Level (graph (petriNet net) sheet) counts n m

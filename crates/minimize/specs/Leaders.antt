@@ -1,17 +1,17 @@
 -- Tables in which the class of a node is its least member. No contract of a public function cites it.
-use Prim.Native.Nat.{ℕ, _<_}
+use Prim.Native.Nat.{ℕ, _≤_, _<_}
 use mathlib.Core.Path.{_≡_}
 use mathlib.Core.List.{List}
-use mathlib.Core.Bool.{Bool, cond, _&&_}
+use mathlib.Core.Bool.{Bool, true, false, cond, _&&_}
 use lib.Dec.{eqb}
+use lib.ListN.{length}
 use Rattle.scan.specs.Scan.{all}
 use Rattle.automaton.specs.Automaton.{Automaton}
 use Rattle.automaton.specs.Equivalence.{agree, sameIn, leaderBy, sameClass}
 use Rattle.sequential.specs.Petri.{petriNet}
 use Rattle.sequential.specs.Words.{nodeCount, graph}
 use Rattle.minimize.specs.Tables.{classIn}
-use Rattle.minimize.specs.Agree.{RowsOf}
-use Rattle.minimize.specs.declared.classes.NodeRows.{NodeRows}
+use Rattle.minimize.specs.Agree.{StartsOf, SameOffers}
 
 -- the first entries of a table are the leaders by a test
 pub record LeadersBy (r : ℕ → ℕ → Bool) (entries : ℕ) (classes : List ℕ) : Type 0 where
@@ -25,11 +25,32 @@ rowsAlike A counts class n m = cond counts (sameIn A 0 n m) (all (agree A (sameC
 unfoldable pub split : Automaton → Bool → (ℕ → ℕ) → ℕ → ℕ → Bool
 split A counts class n m = sameClass class n m && rowsAlike A counts class n m
 
+-- what a round reads: where the rows start, and a table whose classes are known by their least nodes; of a level round, that the nodes of a class
+-- have arcs by the same transitions
+pub record Round (page net sheet starts classes : List ℕ) (counts level : Bool) : Type 0 where
+  pub of : StartsOf page net sheet counts starts
+  pub long : length classes ≡ 128
+  pub least : (m n : ℕ) → m < nodeCount sheet → n < nodeCount sheet → classIn classes m ≡ classIn classes n → classIn classes n ≤ m
+  pub own : (n : ℕ) → n < nodeCount sheet → classIn classes (classIn classes n) ≡ classIn classes n
+  pub arcs : level ≡ true → counts ≡ false
+  pub offers : level ≡ true → (m n : ℕ) → m < nodeCount sheet → n < nodeCount sheet → classIn classes m ≡ classIn classes n
+      → SameOffers (graph (petriNet net) sheet) m n
+
 -- a round that has come to node n: the nodes before it have their new classes
-pub record RoundAt (starts net sheet : List ℕ) (rows : NodeRows) (classes next : List ℕ) (n : ℕ) : Type 0 where
-  pub of : RowsOf starts net sheet rows
+pub record RoundAt (net sheet classes next : List ℕ) (counts : Bool) (n : ℕ) : Type 0 where
   pub node : n < nodeCount sheet
-  pub led : LeadersBy (split (graph (petriNet net) sheet) (rows .counts) (classIn classes)) n next
+  pub led : LeadersBy (split (graph (petriNet net) sheet) counts (classIn classes)) n next
+
+-- node j is of a class, and the least of its new one
+abbrev pub LeastIn : List ℕ → List ℕ → ℕ → ℕ → Type 0
+LeastIn classes next class j = (classIn classes j ≡ class) × (classIn next j ≡ j)
+
+-- r is the first such node from k on, or n
+pub record NextLeast (classes next : List ℕ) (class k n r : ℕ) : Type 0 where
+  pub low : k ≤ r
+  pub high : r ≤ n
+  pub is : r < n → classIn classes r ≡ class
+  pub skips : (j : ℕ) → k ≤ j → j < r → LeastIn classes next class j → ⊥
 
 -- node n has one class in both tables
 unfoldable pub sameEntry : List ℕ → List ℕ → ℕ → Bool

@@ -9,15 +9,8 @@ ghost use Rattle.sequential.specs.Petri.{petriNet};
 ghost use Rattle.sequential.specs.Words.{nodeCount, entryCount, entryValue, graph};
 ghost use Rattle.graph.specs.Readable.{Readable};
 ghost use Rattle.minimize.specs.Tables.{Paged, classIn, Classes};
-ghost use Rattle.minimize.specs.Agree.{hasKey, valuesAgree, keysAgree, Valued, Rows, rowKey, rowWidth, RowsOf, TwoRows};
-ghost use Rattle.minimize.specs.Leaders.{LeadersBy, rowsAlike, split, RoundAt, sameEntry};
-
-// The rows of all nodes, of their counts or of their arcs: how many keys each has, and the entry at which it starts.
-struct NodeRows {
-    counts: bool,
-    width: u32,
-    starts: [u16; 128],
-}
+ghost use Rattle.minimize.specs.Agree.{hasKey, valuesAgree, keysAgree, Valued, Rows, rowKey, rowWidth, StartsOf, targetsAgree, LevelRows, TwoRows};
+ghost use Rattle.minimize.specs.Leaders.{LeadersBy, rowsAlike, split, Round, RoundAt, NextLeast, sameEntry};
 
 // Whether there is an entry i and it has a key.
 fn has_key(sheet: &[u32], i: usize, key: u32) -> bool
@@ -80,6 +73,21 @@ fn rows_agree(
     true
 }
 
+// Whether so many arcs from entries i and j on lead into one class each.
+fn targets_agree(sheet: &[u32], classes: &[u8], size: usize, i: usize, j: usize) -> bool
+    requires { ⌜ LevelRows (now sheet) (now classes) size i j ⌝ }
+    ensures { λ r. ⌜ r ≡ all (targetsAgree (now (sheet .entry)) (now (classes .entry)) i j) size ⌝ }
+{
+    let mut s = 0;
+    while s < size {
+        if !values_agree(sheet, classes, false, i + s, j + s) {
+            return false;
+        }
+        s += 1;
+    }
+    true
+}
+
 // The first key of node n's row.
 fn first_key(net: &[u32], sheet: &[u32], page: &[u16; 4096], counts: bool, n: u32) -> u32
     requires { ⌜ Readable (now net) (now sheet) ⌝ }
@@ -101,15 +109,13 @@ fn row_width(net: &[u32], counts: bool) -> u32
     net::transitions(net)
 }
 
-// The rows of a kind.
-fn rows_of(net: &[u32], sheet: &[u32], page: &[u16; 4096], counts: bool) -> NodeRows
+// The entry at which each node's row starts, of its counts or of its arcs.
+fn starts_of(net: &[u32], sheet: &[u32], page: &[u16; 4096], counts: bool) -> [u16; 128]
     requires { ⌜ Paged (now page) (now net) (now sheet) ⌝ }
-    ensures { λ r. ⌜ r .counts ≡ counts ⌝ }
-    ensures { λ r. ⌜ RowsOf (now (page .entry)) (now (net .entry)) (now (sheet .entry)) r ⌝ }
+    ensures { λ r. ⌜ StartsOf (now (page .entry)) (now (net .entry)) (now (sheet .entry)) counts r ⌝ }
 {
     let nodes = sheet[0];
     let entries = sheet[1] as usize;
-    let width = row_width(net, counts);
     let mut starts = [0u16; 128];
     let mut n = 0;
     while n < nodes {
@@ -117,60 +123,77 @@ fn rows_of(net: &[u32], sheet: &[u32], page: &[u16; 4096], counts: bool) -> Node
         starts[n as usize] = table::lower_bound(sheet, 2, entries, key) as u16;
         n += 1;
     }
-    NodeRows {
-        counts,
-        width,
-        starts,
-    }
+    starts
 }
 
-// Whether the rows of n and m agree.
+// Whether the rows of n and m agree. Of level rows, which have the same transitions, only the targets are compared.
 fn nodes_agree(
     net: &[u32],
     sheet: &[u32],
     page: &[u16; 4096],
-    rows: NodeRows,
-    classes: [u8; 128],
+    starts: &[u16; 128],
+    classes: &[u8; 128],
+    counts: bool,
+    level: bool,
     n: u32,
     m: u32,
 ) -> bool
-    requires { ⌜ TwoRows (now page) (now net) (now sheet) rows n m ⌝ }
-    ensures { λ r. ⌜ r ≡ rowsAlike (graph (petriNet (now (net .entry))) (now (sheet .entry))) (rows .counts) (classIn classes) n m ⌝ }
+    requires { ⌜ TwoRows (now page) (now net) (now sheet) (now starts) (now classes) counts level n m ⌝ }
+    ensures { λ r. ⌜ r ≡ rowsAlike (graph (petriNet (now (net .entry))) (now (sheet .entry))) counts (classIn (now (classes .entry))) n m ⌝ }
 {
-    let counts = rows.counts;
-    let starts = rows.starts;
-    let a = first_key(net, sheet, page, counts, n);
-    let b = first_key(net, sheet, page, counts, m);
     let i = starts[n as usize] as usize;
     let j = starts[m as usize] as usize;
-    rows_agree(sheet, &classes, counts, rows.width, a, b, i, j)
+    if level {
+        let end = starts[n as usize + 1] as usize;
+        return targets_agree(sheet, classes, end - i, i, j);
+    }
+    let width = row_width(net, counts);
+    let a = first_key(net, sheet, page, counts, n);
+    let b = first_key(net, sheet, page, counts, m);
+    rows_agree(sheet, classes, counts, width, a, b, i, j)
 }
 
-// The least node of n's class whose row agrees with n's. It is one of the nodes that are the least of their new class.
+// The first node from k on and before n that is of a class and is the least of its new one; n where there is none.
+fn next_least(classes: &[u8; 128], next: &[u8; 128], class: u8, k: u32, n: u32) -> u32
+    requires { ⌜ (k ≤ n) × (n ≤ 128) ⌝ }
+    ensures { λ r. ⌜ NextLeast (now (classes .entry)) (now (next .entry)) class k n r ⌝ }
+{
+    let mut i = k;
+    while i < n {
+        let m = i;
+        i += 1;
+        if classes[m as usize] == class {
+            if next[m as usize] == m as u8 {
+                return m;
+            }
+        }
+    }
+    n
+}
+
+// The least node of n's class whose row agrees with n's: the least of the old class, or one that is the least of its new class.
 fn leader(
     net: &[u32],
     sheet: &[u32],
     page: &[u16; 4096],
-    rows: NodeRows,
-    classes: [u8; 128],
-    next: [u8; 128],
+    starts: &[u16; 128],
+    classes: &[u8; 128],
+    next: &[u8; 128],
+    counts: bool,
+    level: bool,
     n: u32,
 ) -> u32
-    requires { ⌜ RoundAt (now page) (now net) (now sheet) rows classes next n ⌝ }
-    ensures { λ r. ⌜ r ≡ leaderBy (split (graph (petriNet (now (net .entry))) (now (sheet .entry))) (rows .counts) (classIn classes)) n ⌝ }
+    requires { ⌜ Round (now page) (now net) (now sheet) (now starts) (now classes) counts level ⌝ }
+    requires { ⌜ RoundAt (now net) (now sheet) (now classes) (now next) counts n ⌝ }
+    ensures { λ r. ⌜ r ≡ leaderBy (split (graph (petriNet (now (net .entry))) (now (sheet .entry))) counts (classIn (now (classes .entry)))) n ⌝ }
 {
     let class = classes[n as usize];
-    let mut k = 0;
-    while k < n {
-        let m = k;
-        k += 1;
-        if classes[m as usize] == class {
-            if next[m as usize] as u32 == m {
-                if nodes_agree(net, sheet, page, rows, classes, m, n) {
-                    return m;
-                }
-            }
+    let mut m = class as u32;
+    while m < n {
+        if nodes_agree(net, sheet, page, starts, classes, counts, level, m, n) {
+            return m;
         }
+        m = next_least(classes, next, class, m + 1, n);
     }
     n
 }
@@ -180,17 +203,19 @@ fn round(
     net: &[u32],
     sheet: &[u32],
     page: &[u16; 4096],
-    rows: NodeRows,
-    classes: [u8; 128],
+    starts: &[u16; 128],
+    classes: &[u8; 128],
+    counts: bool,
+    level: bool,
 ) -> [u8; 128]
-    requires { ⌜ RowsOf (now page) (now net) (now sheet) rows ⌝ }
-    ensures { λ r. ⌜ LeadersBy (split (graph (petriNet (now (net .entry))) (now (sheet .entry))) (rows .counts) (classIn classes)) (nodeCount (now (sheet .entry))) r ⌝ }
+    requires { ⌜ Round (now page) (now net) (now sheet) (now starts) (now classes) counts level ⌝ }
+    ensures { λ r. ⌜ LeadersBy (split (graph (petriNet (now (net .entry))) (now (sheet .entry))) counts (classIn (now (classes .entry)))) (nodeCount (now (sheet .entry))) r ⌝ }
 {
     let nodes = sheet[0];
     let mut next = [0u8; 128];
     let mut n = 0;
     while n < nodes {
-        let found = leader(net, sheet, page, rows, classes, next, n);
+        let found = leader(net, sheet, page, starts, classes, &next, counts, level, n);
         next[n as usize] = found as u8;
         n += 1;
     }
@@ -218,12 +243,14 @@ pub(crate) fn classes(net: &[u32], sheet: &[u32], page: &[u16; 4096]) -> [u8; 12
     ensures { λ r. ⌜ Classes (graph (petriNet (now (net .entry))) (now (sheet .entry))) r ⌝ }
 {
     let nodes = sheet[0] as usize;
-    let arcs = rows_of(net, sheet, page, false);
-    let counts = rows_of(net, sheet, page, true);
-    let mut classes = round(net, sheet, page, counts, [0u8; 128]);
-    let mut rounds = 0;
+    let counts = starts_of(net, sheet, page, true);
+    let arcs = starts_of(net, sheet, page, false);
+    let one = [0u8; 128];
+    let first = round(net, sheet, page, &counts, &one, true, false);
+    let mut classes = round(net, sheet, page, &arcs, &first, false, false);
+    let mut rounds = 1;
     while rounds < nodes {
-        let next = round(net, sheet, page, arcs, classes);
+        let next = round(net, sheet, page, &arcs, &classes, false, true);
         if same_tables(classes, next, nodes) {
             return classes;
         }

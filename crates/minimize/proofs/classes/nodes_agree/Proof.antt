@@ -1,25 +1,49 @@
 -- `minimize::classes::nodes_agree` meets its contract.
-use Rattle.scan.proofs.Basics.{_≡_, _∙_, length}
+use Rattle.scan.proofs.Basics.{arith, _∙_}
 use borrow.Author.Needs.{needs}
 use Rattle.minimize.proofs.Agree.{rows, walked}
+use Rattle.minimize.proofs.Level.{starts-low, end-inside, end-low, even-rows, even-walked}
 use Rattle.minimize.proofs.classes.nodes_agree.Statement.{statement}
 use Rattle.minimize.proofs.classes.nodes_agree.Tie as tie
 
-rows-agree-requires : tie.Need-rows-agree-requires
-rows-agree-requires c κs =
-    let p = c .before .before .before .before .before .before .pre in
-    let h = p .of in
-    let e : length (c .before .before .before .before .before .before .args .t5) ≡ 128 = search needs in
-    rw (h .wide, c .before .before .first-key .ensures, c .before .first-key2 .ensures) (rows (h .paged) e (p .left) (p .right) (h .start _ (p .left)) (h .start _ (p .right)))
+cast-i : tie.Need-cast-i
+cast-i c = let p = c .before .before .before .pre in omega (arith, starts-low (p .of) _ (p .left))
+
+cast-j : tie.Need-cast-j
+cast-j c = let p = c .before .before .before .before .pre in omega (arith, starts-low (p .of) _ (p .right))
+
+element-copy-out-end : tie.Need-element-copy-out-end
+element-copy-out-end c = end-inside (c .before .before .before .before .before .pre) (c .if1 .taken)
+
+cast-end : tie.Need-cast-end
+cast-end c = omega (arith, end-low (c .before .before .before .before .before .before .pre) (c .before .if1 .taken) .1)
+
+sub-targets-agree : tie.Need-sub-targets-agree
+sub-targets-agree c = omega (arith, end-low (c .before .before .before .before .before .before .before .pre) (c .before .before .if1 .taken) .0)
+
+targets-agree-requires : tie.Need-targets-agree-requires
+targets-agree-requires c κs = even-rows (c .before .before .before .before .before .before .before .pre) (c .before .before .if1 .taken)
 
 returns : tie.Need-returns
-returns c =
-    let p = c .before .before .before .before .before .before .before .pre in
+returns c = c .targets-agree .ensures ∙ even-walked (c .before .before .before .before .before .before .before .before .pre) (c .before .before .before .if1 .taken)
+
+rows-agree-requires : tie.Need-rows-agree-requires
+rows-agree-requires c κs =
+    let p = c .before .before .before .before .before .before .before .before .before .pre in
+    let h = p .of in
+    rw (c .before .before .before .row-width .ensures, c .before .before .first-key .ensures, c .before .first-key2 .ensures)
+    (rows (h .paged) (p .long) (p .left) (p .right) (h .start _ (p .left)) (h .start _ (p .right)))
+
+returns-2 : tie.Need-returns-2
+returns-2 c =
+    let p = c .before .before .before .before .before .before .before .before .before .before .pre in
     c .rows-agree .ensures
-    ∙ rw (p .of .wide, c .before .before .before .first-key .ensures, c .before .before .first-key2 .ensures) (walked (p .of .paged) _ _ (p .left) (p .right))
+    ∙ rw (c .before .before .before .before .row-width .ensures, c .before .before .before .first-key .ensures, c .before .before .first-key2 .ensures)
+    (walked (p .of .paged) _ _ (p .left) (p .right))
 
 pub nodes-agree-spec : {M : Type 1} → statement M
 nodes-agree-spec =
     tie.close
-    (tie.spec (λ c κs. search needs) (λ c κs. search needs) (λ c. search needs) (λ c. search needs) (λ c. search needs) (λ c. search needs)
-    (λ c. search needs) (λ c. search needs) (λ c. search needs) rows-agree-requires returns)
+    (tie.spec (λ c. search needs) (λ c. search needs) cast-i (λ c. search needs) (λ c. search needs) cast-j (λ c. search needs) (λ c. search needs)
+    element-copy-out-end cast-end sub-targets-agree targets-agree-requires returns (λ c κs. search needs) (λ c κs. search needs) (λ c κs. search needs)
+    rows-agree-requires returns-2)

@@ -11,26 +11,27 @@ use Rattle.minimize.proofs.classes.round.Statement.{statement}
 use Rattle.minimize.proofs.classes.round.Tie as tie
 
 abbrev Inv-loop : tie.InvT-loop
-Inv-loop net sheet page rows classes nodes next₀ n₀ next n = (n ≤ nodes) × (nodes ≤ 128) × (length next ≡ 128)
-    × LeadersBy (split (graph (petriNet net) sheet) (rows .counts) (classIn classes)) n next
+Inv-loop net sheet page starts classes counts level nodes next₀ n₀ next n = (n ≤ nodes) × (nodes ≤ 128) × (length next ≡ 128)
+    × LeadersBy (split (graph (petriNet net) sheet) counts (classIn classes)) n next
 
 abbrev μ-loop : tie.MeasureT-loop
-μ-loop net sheet page rows classes nodes next₀ n₀ next n = nodes - n
+μ-loop net sheet page starts classes counts level nodes next₀ n₀ next n = nodes - n
 
 loop-holds : tie.Need-loop-holds Inv-loop μ-loop
-loop-holds c = (omega arith, c .before .before .before .pre .paged .readable .arcs .sizes .few-nodes, refl, record { leads = λ n l. absurd (omega arith) })
+loop-holds c = (omega arith, c .before .before .before .pre .of .paged .readable .arcs .sizes .few-nodes, refl, record { leads = λ n l. absurd (omega arith) })
 
 leader-requires : tie.Need-leader-requires Inv-loop μ-loop
-leader-requires c κs = record { of = c .before .before .before .before .before .pre; node = c .loop-test .taken; led = c .before .loop .inv .3 }
+leader-requires c κs =
+    (c .before .before .before .before .before .before .pre, record { node = c .before .loop-test .taken; led = c .before .before .loop .inv .3 })
 
 cast-next : tie.Need-cast-next Inv-loop μ-loop
 cast-next c =
-    let q : c .leader .result ≤ c .before .before .loop .n = rw (c .leader .ensures) (leader-le _ _) in
+    let q : c .leader .result ≤ c .before .before .before .loop .n = rw (c .leader .ensures) (leader-le _ _) in
     omega (arith, q)
 
 loop-again : tie.Need-loop-again Inv-loop μ-loop
 loop-again c =
-    let (l, few, long, is) = c .before .before .loop .inv in
+    let (l, few, long, is) = c .before .before .before .loop .inv in
     (omega arith, few, simp length-set long, leaders-more _ _ _ _ is (omega arith) (c .leader .ensures))
 
 returns : tie.Need-returns Inv-loop μ-loop

@@ -1,22 +1,22 @@
--- `minimize::classes::rows_of` meets its contract: the entries are right before the counter.
+-- `minimize::classes::starts_of` meets its contract: the entries are right before the counter.
 use Rattle.scan.proofs.Basics.{ℕ, _-_, _≤_, _<_, arith, _≡_, refl, _∙_, length, getD, length-set}
 use borrow.Author.Needs.{needs}
 use Rattle.scan.proofs.Tabulate.{stored-more}
 use Rattle.minimize.specs.Tables.{Paged}
 use Rattle.minimize.specs.Agree.{firstEntry}
 use Rattle.minimize.proofs.Agree.{start-low}
-use Rattle.minimize.proofs.classes.rows_of.Statement.{statement}
-use Rattle.minimize.proofs.classes.rows_of.Tie as tie
+use Rattle.minimize.proofs.classes.starts_of.Statement.{statement}
+use Rattle.minimize.proofs.classes.starts_of.Tie as tie
 
 abbrev Inv-loop : tie.InvT-loop
-Inv-loop net sheet page counts nodes entries width starts₀ n₀ starts n = Paged page net sheet × (n ≤ nodes) × (length starts ≡ 128)
+Inv-loop net sheet page counts nodes entries starts₀ n₀ starts n = Paged page net sheet × (n ≤ nodes) × (length starts ≡ 128)
     × ((k : ℕ) → k < n → getD starts k 0 ≡ firstEntry page net sheet counts k)
 
 abbrev μ-loop : tie.MeasureT-loop
-μ-loop net sheet page counts nodes entries width starts₀ n₀ starts n = nodes - n
+μ-loop net sheet page counts nodes entries starts₀ n₀ starts n = nodes - n
 
 loop-holds : tie.Need-loop-holds Inv-loop μ-loop
-loop-holds c = (c .before .before .before .before .before .pre, omega arith, refl, λ j l. absurd (omega arith))
+loop-holds c = (c .before .before .before .before .pre, omega arith, refl, λ j l. absurd (omega arith))
 
 start : tie.Need-loop-again Inv-loop μ-loop
 unfolding firstEntry
@@ -28,16 +28,16 @@ start c =
 cast-starts : tie.Need-cast-starts Inv-loop μ-loop
 unfolding firstEntry
 cast-starts c =
-    let a = c .before .before .before .before .before .before .before .before .before .args in
+    let a = c .before .before .before .before .before .before .before .before .args in
     let w = c .before .before .before .loop in
     let e : c .lower-bound .result ≡ firstEntry (a .page .now) (a .net .now) (a .sheet .now) (a .counts) (w .n) = c .lower-bound .ensures ∙ rw (c .before .first-key .ensures) in
     omega (arith, e, start-low (w .inv .0) (a .counts) (w .n))
 
 returns : tie.Need-returns Inv-loop μ-loop
-returns c = (refl, record { paged = c .before .loop .inv .0; wide = c .before .before .row-width .ensures; start = λ n l. (c .before .loop .inv .3) n (omega arith) })
+returns c = record { paged = c .before .loop .inv .0; start = λ n l. (c .before .loop .inv .3) n (omega arith) }
 
-pub rows-of-spec : {M : Type 1} → statement M
-rows-of-spec =
+pub starts-of-spec : {M : Type 1} → statement M
+starts-of-spec =
     tie.close
-    (tie.spec Inv-loop μ-loop (λ c. search needs) (λ c. search needs) (λ c. search needs) (λ c κs. search needs) loop-holds (λ c κs. search needs)
+    (tie.spec Inv-loop μ-loop (λ c. search needs) (λ c. search needs) (λ c. search needs) loop-holds (λ c κs. search needs)
     (λ c κs. search needs) cast-starts (λ c. omega arith) (λ c. omega arith) (λ c. omega arith) (λ c. omega arith) (λ c. omega arith) start returns)

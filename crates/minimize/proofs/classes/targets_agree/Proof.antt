@@ -1,0 +1,46 @@
+-- `minimize::classes::targets_agree` meets its contract: the targets before the counter agree.
+use Rattle.scan.proofs.Basics.{_-_, _≤_, arith, _≡_, sym, _∙_, true}
+use Rattle.scan.specs.Scan.{all}
+use Rattle.scan.proofs.Every.{all-in, all-more, all-fails}
+use Rattle.scan.proofs.Tests.{not-true, not-false}
+use Rattle.minimize.specs.Agree.{targetsAgree}
+use Rattle.minimize.proofs.classes.targets_agree.Statement.{statement}
+use Rattle.minimize.proofs.classes.targets_agree.Tie as tie
+
+abbrev Inv-loop : tie.InvT-loop
+Inv-loop sheet classes size i j s₀ s = (s ≤ size) × (all (targetsAgree sheet classes i j) s ≡ true)
+
+abbrev μ-loop : tie.MeasureT-loop
+μ-loop sheet classes size i j s₀ s = size - s
+
+add-values-agree : tie.Need-add-values-agree Inv-loop μ-loop
+add-values-agree c = let v = c .before .before .before .before .pre .left (c .before .loop .s) (c .loop-test .taken) in omega (arith, v .within, v .whole)
+
+add-values-agree-2 : tie.Need-add-values-agree-2 Inv-loop μ-loop
+add-values-agree-2 c = let v = c .before .before .before .before .pre .right (c .before .loop .s) (c .loop-test .taken) in omega (arith, v .within, v .whole)
+
+values-agree-requires : tie.Need-values-agree-requires Inv-loop μ-loop
+values-agree-requires c κs =
+    let p = c .before .before .before .before .pre in
+    (p .left (c .before .loop .s) (c .loop-test .taken), p .right (c .before .loop .s) (c .loop-test .taken))
+
+returns : tie.Need-returns Inv-loop μ-loop
+unfolding targetsAgree
+returns c = sym (all-fails _ _ _ (c .before .before .loop-test .taken) (sym (c .before .values-agree .ensures) ∙ not-true _ (c .if1 .taken)))
+
+loop-again : tie.Need-loop-again Inv-loop μ-loop
+unfolding targetsAgree
+loop-again c =
+    let (l, is) = c .before .before .before .loop .inv in
+    (omega (arith, c .before .before .loop-test .taken), all-more _ _ is (sym (c .before .values-agree .ensures) ∙ not-false _ (c .if1 .left)))
+
+returns-2 : tie.Need-returns-2 Inv-loop μ-loop
+returns-2 c =
+    let e : c .before .loop .s ≡ c .before .before .before .before .args .size = omega (arith, c .before .loop .inv .0, c .loop-test .left) in
+    sym (rw e at (c .before .loop .inv .1))
+
+pub targets-agree-spec : {M : Type 1} → statement M
+targets-agree-spec =
+    tie.close
+    (tie.spec Inv-loop μ-loop (λ c. (omega arith, all-in _ _ (λ j l. absurd (omega arith)))) add-values-agree add-values-agree-2 values-agree-requires returns
+    (λ c. omega arith) (λ c. omega arith) loop-again returns-2)
