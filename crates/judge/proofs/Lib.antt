@@ -1,2 +1,4 @@
+pub mod Run
+pub mod Starts
 pub mod Arcs
 pub mod Judged

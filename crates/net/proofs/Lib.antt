@@ -12,3 +12,4 @@ pub mod Examples
 pub mod Laws
 pub mod Demands
 pub mod Cut
+pub mod Runs
