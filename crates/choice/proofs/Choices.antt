@@ -1,8 +1,8 @@
 -- The table of choice sets: what the loops over rows of weights find, and what a least transition tells of its set.
-use Rattle.scan.proofs.Basics.{ℕ, _≤_, _<_, arith, _≡_, sym, _∙_, true, cond, eqb, List, length, getD, set}
+use Rattle.scan.proofs.Basics.{ℕ, _≤_, _<_, arith, _≡_, refl, subst, sym, _∙_, true, false, cond, eqb, List, length, getD, set}
 use Prim.Native.Nat.{min}
 use lib.Seq.{getD-set-same, getD-set-other}
-use Rattle.scan.proofs.Tests.{eqb-true, eqb-false, eq-eqb, byTest, iff→eq}
+use Rattle.scan.proofs.Tests.{lt-ltb, le-ltb, eqb-true, eqb-false, eq-eqb, ne-eqb, byTest, iff→eq, true-false, not-true→false}
 use Rattle.scan.specs.Scan.{all, least}
 use Rattle.scan.proofs.Least.{least-hit, least-of}
 use Rattle.net.specs.Net.{placeCount}
@@ -11,9 +11,11 @@ use Rattle.automaton.specs.Equivalence.{leaderBy, sameClass}
 use Rattle.automaton.proofs.Leader.{leader-test, leader-le, leader-least, leader-member}
 use Rattle.sequential.specs.Petri.{PetriNet}
 use Rattle.sequential.specs.Tests.{takesNothing, isSource, takesAlike, takesSame, bothDraw, sharesPlace, sharesAlike, freeChoice, sameChoice}
-use Rattle.sequential.proofs.Choices.{choice-equivalence, source-choice, leader-free, leader-together, leader-alone}
+use Rattle.sequential.proofs.Choices.{choice↔, choice-sym, choice-kept, choice-equivalence, source-choice, leader-free, leader-together, leader-alone}
+use Rattle.sequential.specs.Only.{isSourceOf, only}
+use Rattle.sequential.proofs.Only.{only-whole, kept-on, leader-on, kept-one, removed-others, leader-one, least-only}
 use Rattle.choice.specs.Rows.{netByRows}
-use Rattle.choice.specs.Choices.{choiceOf, firstSource, Noted, NotedAfter, equalAt, zeroAt, bothAt, rowsFit}
+use Rattle.choice.specs.Choices.{choiceOf, leftOf, firstSource, ChoicesOf, Noted, NotedAfter, equalAt, zeroAt, bothAt, rowsFit}
 
 -- ---- rows of weights
 
@@ -30,6 +32,10 @@ module _ (net : List ℕ) (places : ℕ) (all-of : places ≡ min (placeCount ne
   unfolding netByRows isSource takesNothing zeroAt
   source-told t row e = rw (all-of, e)
 
+pub none-removed : (net : List ℕ) (t : ℕ) → netByRows net .kept t ≡ true
+unfolding netByRows
+none-removed net t = refl
+
 -- ---- what is noted of least transitions
 
 module _ (N : PetriNet) where
@@ -43,15 +49,15 @@ module _ (N : PetriNet) where
       (λ e. rw (getD-set-other notes l j v 0 (eqb-false j l e)) (h j i))
 
   -- it tells the least transition of a choice set
-  pub noted-choice : (note leader t : ℕ) → leader ≡ leaderBy (takesSame N) t → NotedAfter N note leader t → cond (eqb note 1) leader t ≡ choiceOf N t
+  pub noted-choice : ((t : ℕ) → N .kept t ≡ true) → (note leader t : ℕ) → leader ≡ leaderBy (takesSame N) t → NotedAfter N note leader t → cond (eqb note 1) leader t ≡ choiceOf N t
   unfolding choiceOf
-  noted-choice note leader t q n = byTest (eqb note 1) (λ e. rw e (together (n .noted .free (eqb-true note 1 e)))) (λ e. rw e (apart (eqb-false note 1 e)))
+  noted-choice k note leader t q n = rw (k t) (byTest (eqb note 1) (λ e. rw e (together (n .noted .free (eqb-true note 1 e)))) (λ e. rw e (apart (eqb-false note 1 e))))
     where
       same : freeChoice N leader ≡ freeChoice N t
       same = rw q (leader-free N t)
 
       together : freeChoice N leader ≡ true → leader ≡ leaderBy (sameChoice N) t
-      together h = q ∙ sym (leader-together N t (sym same ∙ h))
+      together h = q ∙ sym (leader-together N k t (sym same ∙ h))
 
       -- whether or not its choice is free, a transition that leads those that take the same leads its choice set
       first : leader ≡ t → t ≡ leaderBy (sameChoice N) t
@@ -65,14 +71,25 @@ module _ (N : PetriNet) where
 -- ---- least transitions
 
 module _ (N : PetriNet) where
-  pub choice-test : (t u : ℕ) → eqb (choiceOf N t) (choiceOf N u) ≡ sameChoice N t u
-  unfolding choiceOf sameClass
-  choice-test t u = leader-test (sameChoice N) (choice-equivalence N) t u
+  -- those that are kept have one of their own numbers, which a removed one has not
+  pub kept-choice : (t : ℕ) → N .kept t ≡ true → choiceOf N t ≤ t
+  unfolding choiceOf
+  kept-choice t k = rw k (leader-le (sameChoice N) t)
+
+  pub removed-choice : (t : ℕ) → N .kept t ≡ false → choiceOf N t ≡ 32
+  unfolding choiceOf
+  removed-choice t k = rw k
+
+  pub choice-test : N .transitions ≤ 32 → (t u : ℕ) → u < N .transitions → N .kept u ≡ true → eqb (choiceOf N t) (choiceOf N u) ≡ sameChoice N t u
+  unfolding sameClass
+  choice-test few t u l k = byTest (N .kept t) (λ e. unfold choiceOf in (rw (e, k) (leader-test (sameChoice N) (choice-equivalence N) t u)))
+      (λ e. rw (removed-choice t e) (ne-eqb 32 (choiceOf N u) (λ q. omega (arith, kept-choice u k))
+      ∙ sym (not-true→false (sameChoice N t u) (λ h. true-false (N .kept t) (choice-kept N u t k (choice-sym N t u (choice↔ N t u .0 h))) e))))
 
   -- a choice set is the sources exactly if its least transition is the least source
-  pub source-test : (t : ℕ) → t < N .transitions → eqb (choiceOf N t) (firstSource N) ≡ isSource N t
+  pub source-test : (t : ℕ) → t < N .transitions → N .kept t ≡ true → eqb (choiceOf N t) (firstSource N) ≡ isSource N t
   unfolding choiceOf firstSource
-  source-test t l = iff→eq (eqb c s) (isSource N t) is-source leads
+  source-test t l k = rw k (iff→eq (eqb c s) (isSource N t) is-source leads)
     where
       c : ℕ
       c = leaderBy (sameChoice N) t
@@ -100,3 +117,50 @@ module _ (N : PetriNet) where
           let hit : isSource N s ≡ true = least-hit (isSource N) (N .transitions) below in
           let high : c ≤ s = leader-least (sameChoice N) t s (source-choice N s t hit ∙ h) in
           eq-eqb c s (omega arith)
+
+-- ---- one source alone
+
+module _ (N : PetriNet) (whole : (t : ℕ) → N .kept t ≡ true) (s : ℕ) (one : isSourceOf N s ≡ true) where
+  pub left-choice : (t : ℕ) → t < N .transitions → leftOf (choiceOf N t) (firstSource N) s t ≡ choiceOf (only N s) t
+  unfolding leftOf
+  left-choice t l = rw (source-test N t l (whole t)) (byTest (isSource N t)
+      (λ h. rw h (byTest (eqb t s) (λ e. rw (e, eqb-true t s e) here) (λ e. rw e (sym (removed-choice (only N s) t (removed-others N s one t h (eqb-false t s e)))))))
+      (λ h. rw h (on h)))
+    where
+      here : s ≡ choiceOf (only N s) s
+      here = unfold choiceOf in (rw (kept-one N s one) (sym (leader-one N s one)))
+
+      on : isSource N t ≡ false → choiceOf N t ≡ choiceOf (only N s) t
+      on h = unfold choiceOf in (rw (kept-on N s t h, leader-on N s t h))
+
+  pub left-source : s ≡ firstSource (only N s)
+  unfolding firstSource
+  left-source = sym (least-only N s one)
+
+-- given the table of the whole net
+module _ (net : List ℕ) {leaders : List ℕ} {source : ℕ} (g : ChoicesOf (netByRows net) leaders source) (s : ℕ) where
+  abbrev N : PetriNet
+  N = netByRows net
+
+  test : s < N .transitions → isSource N s ≡ eqb (getD leaders s 0) source
+  test l = sym (rw (g .leaders-are s l, g .source-is) (source-test N s l (none-removed net s)))
+
+  whole : isSourceOf N s ≡ false → ChoicesOf (only N s) leaders source
+  whole h = subst (λ (M : PetriNet). ChoicesOf M leaders source) (sym (only-whole N s h)) g
+
+  pub past-all : N .transitions ≤ s → ChoicesOf (only N s) leaders source
+  past-all l = whole (unfold isSourceOf in (rw (le-ltb s (N .transitions) l)))
+
+  pub no-source : s < N .transitions → (getD leaders s 0 ≡ source → ⊥) → ChoicesOf (only N s) leaders source
+  no-source l d = whole (unfold isSourceOf in (rw (lt-ltb s (N .transitions) l, test l) (ne-eqb _ _ d)))
+
+  module _ (l : s < N .transitions) (e : getD leaders s 0 ≡ source) where
+    one : isSourceOf N s ≡ true
+    unfolding isSourceOf
+    one = rw (lt-ltb s (N .transitions) l, test l) (eq-eqb _ _ e)
+
+    pub left-at : (t : ℕ) → t < N .transitions → leftOf (getD leaders t 0) source s t ≡ choiceOf (only N s) t
+    left-at t k = rw (g .leaders-are t k, g .source-is) (left-choice N (none-removed net) s one t k)
+
+    pub source-left : s ≡ firstSource (only N s)
+    source-left = left-source N (none-removed net) s one

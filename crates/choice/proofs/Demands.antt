@@ -1,22 +1,26 @@
 -- The answer on a schedule's nodes is what it is promised to be.
-use Rattle.scan.proofs.Basics.{ℕ, _<_, arith, _≡_, refl, sym, ap, _∙_, _↔_, Bool, true, false, none, List}
+use Rattle.scan.proofs.Basics.{ℕ, _<_, arith, _≡_, refl, sym, ap, _∙_, _↔_, Bool, true, false, none, List, getD}
 use Rattle.scan.proofs.Tests.{not-false}
 use Rattle.scan.specs.Scan.{orElse, when, first, bit}
 use Rattle.scan.proofs.First.{orElse-left, orElse-right, when-none, first-all, first-empty}
 use Rattle.refusal.specs.Finding.{lineFinds, foundAt}
 use Rattle.refusal.specs.Verdict.{verdictOf}
+use Rattle.refusal.specs.declared.Verdict.the-variants.{Accepted}
+use Rattle.choice.specs.declared.NodesAnswer.{NodesAnswer}
 use Rattle.refusal.proofs.Verdicts.{answer-none}
 use Rattle.net.proofs.Checks.{net-judged}
 use Rattle.automaton.specs.Automaton.{Automaton}
 use Rattle.sequential.specs.Petri.{PetriNet, petriNet}
+use Rattle.sequential.specs.Only.{only}
+use Rattle.sequential.specs.Tests.{isAwait}
 use Rattle.sequential.specs.Words.{nodeCount, graph}
 use Rattle.sequential.specs.Schedule.{Await, OneChoiceSet}
 use Rattle.sequential.specs.Check.{nodeFault, rootFault}
 use Rattle.sequential.proofs.Words.{arcs-hold}
 use Rattle.sequential.proofs.Clauses.{await↔, one-some, one-out, one-in}
 use Rattle.graph.proofs.Readable.{arcs-readable}
-use Rattle.choice.specs.Demands.{NodesMean}
-use Rattle.choice.proofs.Right.{verdict-right, awaits-right}
+use Rattle.choice.specs.Demands.{NodesRight, NodesMean, TaskNodesMean}
+use Rattle.choice.proofs.Right.{verdict-right, awaits-right, task-verdict-right, task-awaits-right}
 
 -- ---- 11 to 13 find nothing
 
@@ -46,15 +50,23 @@ unfolding bit
 bit-one true = (λ e. refl, λ e. refl)
 bit-one false = (λ e. absurd (omega arith), λ e. absurd (let z : _≡_ {A = ℕ} 0 1 = cc in omega arith))
 
+module _ (N : PetriNet) (sheet : List ℕ) {answer : NodesAnswer} (told : answer .verdict ≡ verdictOf (orElse (first (nodeFault N sheet) (nodeCount sheet)) (rootFault N sheet)))
+    (marked : answer .verdict ≡ Accepted → (n : ℕ) → n < nodeCount sheet → getD (answer .awaits) n 0 ≡ bit (isAwait N (graph N sheet) n)) where
+  right : NodesRight N sheet answer
+  right = record {
+    accepts = (λ h. nodes↔ N sheet .0 (answer-none _ (sym told ∙ h)), λ h. told ∙ ap verdictOf (nodes↔ N sheet .1 h));
+    marks = λ h n l. (
+      λ e. await↔ N (graph N sheet) n .0 (bit-one _ .0 (sym (marked h n l) ∙ e)),
+      λ a. marked h n l ∙ bit-one _ .1 (await↔ N (graph N sheet) n .1 a),
+    );
+  }
+
 pub nodes-mean : NodesMean
 nodes-mean starts net sheet q i w =
-    let N = petriNet net in
-    let r = arcs-readable (net-judged net .accepts .1 i) (arcs-hold N sheet w) in
-    let v = verdict-right q net sheet r in
-    record {
-      accepts = (λ h. nodes↔ N sheet .0 (answer-none _ (sym v ∙ h)), λ h. v ∙ ap verdictOf (nodes↔ N sheet .1 h));
-      marks = λ h n l. (
-        λ e. await↔ N (graph N sheet) n .0 (bit-one _ .0 (sym (awaits-right q net sheet r h n l) ∙ e)),
-        λ a. awaits-right q net sheet r h n l ∙ bit-one _ .1 (await↔ N (graph N sheet) n .1 a),
-      );
-    }
+    let r = arcs-readable (net-judged net .accepts .1 i) (arcs-hold (petriNet net) sheet w) in
+    right (petriNet net) sheet (verdict-right q net sheet r) (awaits-right q net sheet r)
+
+pub task-nodes-mean : TaskNodesMean
+task-nodes-mean starts net s sheet q i w =
+    let r = arcs-readable (net-judged net .accepts .1 i) (arcs-hold (petriNet net) sheet w) in
+    right (only (petriNet net) s) sheet (task-verdict-right q net s sheet r) (task-awaits-right q net s sheet r)

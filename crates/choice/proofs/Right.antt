@@ -1,6 +1,8 @@
 -- Where the arcs are readable the answer is what §7.11 to §7.13 and §5.4 say of the schedule's graph.
-use Rattle.scan.proofs.Basics.{ℕ, _<_, arith, _≡_, refl, Option, none, some, List, getD}
-use Rattle.scan.proofs.Tests.{lt-ltb}
+use Rattle.scan.proofs.Basics.{ℕ, _≤_, _<_, arith, _≡_, refl, sym, ap, Option, none, some, List, getD}
+use Prim.Native.Nat.{min}
+use Rattle.net.specs.Net.{transitionCount}
+use Rattle.scan.proofs.Tests.{lt-ltb, le-ltb}
 use Rattle.scan.specs.Scan.{orElse, first, bit}
 use Rattle.scan.proofs.Tabulate.{tabulate-at}
 use Rattle.row_starts.specs.RowStarts.{page}
@@ -12,9 +14,13 @@ use Rattle.automaton.specs.Automaton.{Automaton}
 use Rattle.sequential.specs.Petri.{PetriNet, petriNet}
 use Rattle.sequential.specs.Words.{nodeCount, graph}
 use Rattle.sequential.specs.Tests.{isAwait}
+use Rattle.sequential.specs.Only.{isSourceOf, only}
+use Rattle.sequential.proofs.Only.{only-whole, graph-only}
 use Rattle.sequential.specs.Check.{nodeFault, rootFault}
 use Rattle.graph.specs.Readable.{ArcsReadable}
-use Rattle.choice.specs.Nodes.{offerFault, awaitsBelow, offersFault, awaitMark, awaitMarks, markedOr, nodesReply}
+use Rattle.choice.specs.Nodes.{offerFault, awaitsBelow, offersFault, awaitMark, awaitMarks, markedOr, nodesReply, taskNodesReply}
+use Rattle.choice.specs.Rows.{netByRows, graphByRows}
+use Rattle.choice.specs.declared.NodesAnswer.{NodesAnswer}
 use Rattle.choice.proofs.Rows.{net-told, graph-told}
 
 -- the two parts of an answer
@@ -26,10 +32,15 @@ of-accepted : (marks : List ℕ) (o : Option Refusal) → markedOr marks o .verd
 of-accepted marks none h = refl
 of-accepted marks (some x) h = absurd (let z : _≡_ {A = ℕ} 0 1 = cc in omega arith)
 
-module _ {starts : List ℕ} (e : starts ≡ page) (net sheet : List ℕ) (r : ArcsReadable net sheet) where
-  abbrev N : PetriNet
-  N = petriNet net
+-- the whole net
+pub whole-nodes : (starts net sheet : List ℕ) → taskNodesReply starts net 32 sheet ≡ nodesReply starts net sheet
+unfolding taskNodesReply nodesReply
+whole-nodes starts net sheet =
+    ap (λ (N : PetriNet). markedOr (awaitMarks N (graphByRows starts net sheet)) (offersFault N (graphByRows starts net sheet)))
+    (only-whole (netByRows net) 32 (unfold isSourceOf netByRows in (rw (le-ltb 32 (min (transitionCount net) 32) (omega arith)))))
 
+-- what is found at the nodes, and marked there, as of a schedule of N
+module _ (N : PetriNet) (sheet : List ℕ) (some-node : 1 ≤ nodeCount sheet) (few-nodes : nodeCount sheet ≤ 128) where
   abbrev G : Automaton
   G = graph N sheet
 
@@ -38,18 +49,43 @@ module _ {starts : List ℕ} (e : starts ≡ page) (net sheet : List ℕ) (r : A
 
   faults-are : offersFault N G ≡ faults
   unfolding offersFault offerFault nodeFault rootFault awaitsBelow lineFinds foundAt
-  faults-are = rw (lt-ltb 0 (nodeCount sheet) (r .sizes .some-node))
+  faults-are = rw (lt-ltb 0 (nodeCount sheet) some-node)
 
-  pub nodes-right : nodesReply starts net sheet ≡ markedOr (awaitMarks N G) faults
+  module _ {answer : NodesAnswer} (told : answer ≡ markedOr (awaitMarks N G) (offersFault N G)) where
+    verdict-as : answer .verdict ≡ verdictOf faults
+    verdict-as = rw (told, faults-are) (of-fault (awaitMarks N G) faults)
+
+    awaits-as : answer .verdict ≡ Accepted → (n : ℕ) → n < nodeCount sheet → getD (answer .awaits) n 0 ≡ bit (isAwait N G n)
+    unfolding awaitMarks awaitMark awaitsBelow
+    awaits-as h n l =
+        let marks : answer .awaits ≡ awaitMarks N G = rw told (of-accepted (awaitMarks N G) (offersFault N G) (rw told at h)) in
+        rw (marks, tabulate-at (awaitMark N G (nodeCount sheet)) 0 128 n (omega arith), lt-ltb n (nodeCount sheet) l)
+
+module _ {starts : List ℕ} (e : starts ≡ page) (net : List ℕ) (s : ℕ) (sheet : List ℕ) (r : ArcsReadable net sheet) where
+  abbrev M : PetriNet
+  M = only (petriNet net) s
+
+  nodes-right : taskNodesReply starts net s sheet ≡ markedOr (awaitMarks M (graph M sheet)) (offersFault M (graph M sheet))
+  unfolding taskNodesReply
+  nodes-right =
+      rw (net-told net (r .accepted), graph-told e net sheet r)
+      (ap (λ (A : Automaton). markedOr (awaitMarks M A) (offersFault M A)) (sym (graph-only (petriNet net) s sheet)))
+
+  pub task-verdict-right : taskNodesReply starts net s sheet .verdict ≡ verdictOf (orElse (first (nodeFault M sheet) (nodeCount sheet)) (rootFault M sheet))
+  task-verdict-right = verdict-as M sheet (r .sizes .some-node) (r .sizes .few-nodes) nodes-right
+
+  pub task-awaits-right : taskNodesReply starts net s sheet .verdict ≡ Accepted → (n : ℕ) → n < nodeCount sheet
+      → getD (taskNodesReply starts net s sheet .awaits) n 0 ≡ bit (isAwait M (graph M sheet) n)
+  task-awaits-right = awaits-as M sheet (r .sizes .some-node) (r .sizes .few-nodes) nodes-right
+
+module _ {starts : List ℕ} (e : starts ≡ page) (net sheet : List ℕ) (r : ArcsReadable net sheet) where
+  whole-right : nodesReply starts net sheet ≡ markedOr (awaitMarks (petriNet net) (graph (petriNet net) sheet)) (offersFault (petriNet net) (graph (petriNet net) sheet))
   unfolding nodesReply
-  nodes-right = rw (net-told net (r .accepted), graph-told e net sheet r, faults-are)
+  whole-right = rw (net-told net (r .accepted), graph-told e net sheet r)
 
-  pub verdict-right : nodesReply starts net sheet .verdict ≡ verdictOf (orElse (first (nodeFault N sheet) (nodeCount sheet)) (rootFault N sheet))
-  verdict-right = rw nodes-right (of-fault (awaitMarks N G) faults)
+  pub verdict-right : nodesReply starts net sheet .verdict ≡ verdictOf (orElse (first (nodeFault (petriNet net) sheet) (nodeCount sheet)) (rootFault (petriNet net) sheet))
+  verdict-right = verdict-as (petriNet net) sheet (r .sizes .some-node) (r .sizes .few-nodes) whole-right
 
-  pub awaits-right : nodesReply starts net sheet .verdict ≡ Accepted → (n : ℕ) → n < nodeCount sheet → getD (nodesReply starts net sheet .awaits) n 0 ≡ bit (isAwait N G n)
-  unfolding awaitMarks awaitMark awaitsBelow
-  awaits-right h n l =
-      let k = r .sizes in
-      let marks : nodesReply starts net sheet .awaits ≡ awaitMarks N G = rw nodes-right (of-accepted (awaitMarks N G) faults (rw nodes-right at h)) in
-      rw (marks, tabulate-at (awaitMark N G (nodeCount sheet)) 0 128 n (omega arith), lt-ltb n (nodeCount sheet) l)
+  pub awaits-right : nodesReply starts net sheet .verdict ≡ Accepted → (n : ℕ) → n < nodeCount sheet
+      → getD (nodesReply starts net sheet .awaits) n 0 ≡ bit (isAwait (petriNet net) (graph (petriNet net) sheet) n)
+  awaits-right = awaits-as (petriNet net) sheet (r .sizes .some-node) (r .sizes .few-nodes) whole-right

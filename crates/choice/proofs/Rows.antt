@@ -1,5 +1,5 @@
 -- The net and the graph of the rows are the net and the graph.
-use Rattle.scan.proofs.Basics.{ℕ, _+_, _-_, _≤_, arith, _≡_, refl, sym, ap, _∙_, ltb, Option, none, some, Option·map, Option·getD, List, getD, replicate}
+use Rattle.scan.proofs.Basics.{ℕ, _+_, _-_, _≤_, arith, _≡_, refl, sym, ap, _∙_, Bool, ltb, Option, none, some, Option·map, Option·getD, List, getD, replicate}
 use native.Mathlib.Decide.{decLt}
 use mathlib.Core.Path.{fun-ext}
 use mathlib.Core.Bool.{and-false}
@@ -35,17 +35,17 @@ unfolding when
 word-capacity none h = refl
 word-capacity (some c) h = rw (lt-ltb 0 c (h c refl))
 
-same-net : (P T P′ T′ : ℕ) (f g f′ g′ : ℕ → ℕ → ℕ) (s s′ : ℕ → ℕ) (k k′ : ℕ → Option ℕ) → P ≡ P′ → T ≡ T′ → f ≡ f′ → g ≡ g′ → s ≡ s′ → k ≡ k′
-    → _≡_ {A = PetriNet} (record { places = P; transitions = T; taken = f; put = g; start = s; capacity = k })
-    (record { places = P′; transitions = T′; taken = f′; put = g′; start = s′; capacity = k′ })
-same-net P T P′ T′ f g f′ g′ s s′ k k′ a b c d e h = rw (a, b, c, d, e, h)
+same-net : (P T P′ T′ : ℕ) (f g f′ g′ : ℕ → ℕ → ℕ) (s s′ : ℕ → ℕ) (k k′ : ℕ → Option ℕ) (m : ℕ → Bool) → P ≡ P′ → T ≡ T′ → f ≡ f′ → g ≡ g′ → s ≡ s′ → k ≡ k′
+    → _≡_ {A = PetriNet} (record { places = P; transitions = T; taken = f; put = g; start = s; capacity = k; kept = m })
+    (record { places = P′; transitions = T′; taken = f′; put = g′; start = s′; capacity = k′; kept = m })
+same-net P T P′ T′ f g f′ g′ s s′ k k′ m a b c d e h = rw (a, b, c, d, e, h)
 
 pub net-told : (net : List ℕ) → netReply net ≡ Accepted → netByRows net ≡ petriNet net
 unfolding netByRows
 net-told net h =
     let n = sizes net h in
     let a = accessors net h in
-    same-net _ _ _ _ _ _ _ _ _ _ _ _ (omega arith) (omega arith)
+    same-net _ _ _ _ _ _ _ _ _ _ _ _ _ (omega arith) (omega arith)
     (fun-ext (λ t. told-row _ (taken net t) (a .takes-row t) (λ p l. taken-no-place net t p (omega arith))))
     (fun-ext (λ t. told-row _ (put net t) (a .puts-row t) (λ p l. put-no-place net t p (omega arith))))
     (told-row _ (start net) (a .starts-row) (λ p l. start-no-place net p (omega arith)))

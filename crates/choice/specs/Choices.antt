@@ -6,6 +6,7 @@ use mathlib.Core.Bool.{Bool, true, false, cond, not, _&&_, _||_, Bool·beq}
 use lib.ListN.{getD}
 use lib.Dec.{ltb, eqb}
 use Rattle.scan.specs.Scan.{all, any, least}
+use Rattle.refusal.specs.Limits.{mostTransitions}
 use Rattle.automaton.specs.Equivalence.{leaderBy}
 use Rattle.sequential.specs.Petri.{PetriNet}
 use Rattle.sequential.specs.Tests.{isSource, freeChoice, sameChoice}
@@ -13,9 +14,13 @@ use Rattle.choice.specs.Rows.{present}
 use Rattle.choice.specs.declared.offers.Offer.{Offer}
 use Rattle.choice.specs.declared.offers.Offer.the-variants.{Nothing, Whole, Torn}
 
--- the least transition of t's choice set
+-- the least transition of t's choice set, and a number that is none where t is removed
 unfoldable pub choiceOf : PetriNet → ℕ → ℕ
-choiceOf N t = leaderBy (sameChoice N) t
+choiceOf N t = cond (N .kept t) (leaderBy (sameChoice N) t) mostTransitions
+
+-- the same of t where of the sources s alone is left, given what it was, and what that of the sources was
+unfoldable pub leftOf : ℕ → ℕ → ℕ → ℕ → ℕ
+leftOf leader source s t = cond (eqb leader source) (cond (eqb t s) s mostTransitions) leader
 
 -- the least source
 unfoldable pub firstSource : PetriNet → ℕ
@@ -56,10 +61,10 @@ rowsFit a b places = not (any (bothAt a b) places) || all (equalAt a b) places
 unfoldable pub presentAsChoice : List ℕ → List ℕ → ℕ → ℕ → Bool
 presentAsChoice row leaders c t = Bool·beq (present row t) (eqb (getD leaders t 0) c)
 
--- what a row offers whose first arc is by t: the choice set of t and nothing else, something else, or nothing where t is no transition
+-- what a row offers whose first arc is by t: the choice set of t and nothing else, something else, as by a removed t, or nothing where t is no transition
 unfoldable pub offerFrom : List ℕ → List ℕ → ℕ → ℕ → Offer
 offerFrom row leaders transitions t =
-    cond (ltb t transitions) (cond (all (presentAsChoice row leaders (getD leaders t 0)) transitions) (Whole (getD leaders t 0)) Torn) Nothing
+    let c = getD leaders t 0 in cond (ltb t transitions) (cond (ltb c mostTransitions && all (presentAsChoice row leaders c) transitions) (Whole c) Torn) Nothing
 
 unfoldable pub offerOf : List ℕ → List ℕ → ℕ → Offer
 offerOf row leaders transitions = offerFrom row leaders transitions (least (present row) transitions)

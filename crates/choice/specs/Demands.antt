@@ -8,18 +8,24 @@ use Rattle.row_starts.specs.RowStarts.{page}
 use Rattle.refusal.specs.Checks.{AllPass}
 use Rattle.refusal.specs.declared.Verdict.the-variants.{Accepted}
 use Rattle.net.specs.Checks.{IsNet}
-use Rattle.sequential.specs.Petri.{petriNet}
+use Rattle.sequential.specs.Petri.{PetriNet, petriNet}
+use Rattle.sequential.specs.Only.{only}
 use Rattle.sequential.specs.Words.{nodeCount, graph}
 use Rattle.sequential.specs.Schedule.{Await, OneChoiceSet}
 use Rattle.sequential.specs.Checks.{arcWordChecks}
-use Rattle.choice.specs.Nodes.{nodesReply}
+use Rattle.choice.specs.Nodes.{nodesReply, taskNodesReply}
+use Rattle.choice.specs.declared.NodesAnswer.{NodesAnswer}
 
 -- nothing is refused exactly if each node offers one choice set and node 0 is an await node (§6.3, §6.4); then the marks are those of the await nodes (§5.4)
-pub record NodesRight (starts net sheet : List ℕ) : Type 0 where
-  pub accepts : (nodesReply starts net sheet .verdict ≡ Accepted)
-      ↔ (((n : ℕ) → n < nodeCount sheet → OneChoiceSet (petriNet net) (graph (petriNet net) sheet) n) × Await (petriNet net) (graph (petriNet net) sheet) 0)
-  pub marks : nodesReply starts net sheet .verdict ≡ Accepted → (n : ℕ) → n < nodeCount sheet
-      → (getD (nodesReply starts net sheet .awaits) n 0 ≡ 1) ↔ Await (petriNet net) (graph (petriNet net) sheet) n
+pub record NodesRight (N : PetriNet) (sheet : List ℕ) (answer : NodesAnswer) : Type 0 where
+  pub accepts : (answer .verdict ≡ Accepted) ↔ (((n : ℕ) → n < nodeCount sheet → OneChoiceSet N (graph N sheet) n) × Await N (graph N sheet) 0)
+  pub marks : answer .verdict ≡ Accepted → (n : ℕ) → n < nodeCount sheet → (getD (answer .awaits) n 0 ≡ 1) ↔ Await N (graph N sheet) n
 
 abbrev pub NodesMean : Type 0
-NodesMean = (starts net sheet : List ℕ) → starts ≡ page → IsNet net → AllPass (arcWordChecks (petriNet net) sheet) → NodesRight starts net sheet
+NodesMean = (starts net sheet : List ℕ) → starts ≡ page → IsNet net → AllPass (arcWordChecks (petriNet net) sheet)
+    → NodesRight (petriNet net) sheet (nodesReply starts net sheet)
+
+-- the same of a schedule of the net with the sources other than s removed
+abbrev pub TaskNodesMean : Type 0
+TaskNodesMean = (starts net : List ℕ) (s : ℕ) (sheet : List ℕ) → starts ≡ page → IsNet net → AllPass (arcWordChecks (petriNet net) sheet)
+    → NodesRight (only (petriNet net) s) sheet (taskNodesReply starts net s sheet)

@@ -15,6 +15,7 @@ use Rattle.refusal.specs.declared.Verdict.the-variants.{Accepted, Refused}
 use Rattle.automaton.specs.Automaton.{Automaton}
 use Rattle.sequential.specs.Petri.{PetriNet}
 use Rattle.sequential.specs.Tests.{isAwait, offersSome, offersOneChoiceSet}
+use Rattle.sequential.specs.Only.{only}
 use Rattle.choice.specs.Rows.{netByRows, graphByRows}
 use Rattle.choice.specs.declared.NodesAnswer.{NodesAnswer}
 
@@ -49,5 +50,12 @@ markedOr marks (some r) = nodesRefused r
 unfoldable pub nodesReply : List ℕ → List ℕ → List ℕ → NodesAnswer
 nodesReply starts net sheet =
     let N = netByRows net in
+    let A = graphByRows starts net sheet in
+    markedOr (awaitMarks N A) (offersFault N A)
+
+-- the same with the sources other than s removed
+unfoldable pub taskNodesReply : List ℕ → List ℕ → ℕ → List ℕ → NodesAnswer
+taskNodesReply starts net s sheet =
+    let N = only (netByRows net) s in
     let A = graphByRows starts net sheet in
     markedOr (awaitMarks N A) (offersFault N A)

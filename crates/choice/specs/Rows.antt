@@ -2,7 +2,7 @@
 -- Where 1 to 5 and 26 refuse nothing this net is the net, and where the arcs are readable this graph is the graph (proofs/Rows).
 use Prim.Native.Nat.{ℕ, _-_, min}
 use mathlib.Core.List.{List}
-use mathlib.Core.Bool.{Bool}
+use mathlib.Core.Bool.{Bool, true}
 use mathlib.Core.Option.{Option}
 use lib.ListN.{getD}
 use lib.Dec.{ltb}
@@ -23,6 +23,7 @@ netByRows net = record {
   put = λ t p. getD (putRowReply net t) p 0;
   start = λ p. getD (startRowReply net) p 0;
   capacity = λ p. when (ltb 0 (getD (capacityRowReply net) p 0)) (getD (capacityRowReply net) p 0);
+  kept = λ t. true;
 }
 
 -- transition t has an arc in a row

@@ -9,7 +9,8 @@ ghost use Rattle.refusal.specs.Limits.{mostPlaces, mostTransitions};
 ghost use Rattle.net.specs.Net.{placeCount, transitionCount};
 ghost use Rattle.sequential.specs.Tests.{takesSame, freeChoice};
 ghost use Rattle.choice.specs.Rows.{netByRows};
-ghost use Rattle.choice.specs.Choices.{firstSource, ChoicesOf, equalAt, zeroAt, bothAt, rowsFit, Noted, NotedAfter};
+ghost use Rattle.sequential.specs.Only.{only};
+ghost use Rattle.choice.specs.Choices.{firstSource, ChoicesOf, leftOf, equalAt, zeroAt, bothAt, rowsFit, Noted, NotedAfter};
 use refusal::Limits;
 
 // The least transition of each transition's choice set, and the least source, which stands for all of them (§5.2).
@@ -194,4 +195,39 @@ pub(crate) fn choices_of(net: &[u32]) -> Choices
         leaders,
         source: first_source(net),
     }
+}
+
+// The least transition of t's choice set where of the sources s alone is left, given what it was, and what that of the sources was.
+fn left(leader: u32, source: u32, s: u32, t: u32) -> u32
+    ensures { λ r. ⌜ r ≡ leftOf leader source s t ⌝ }
+{
+    if leader != source {
+        return leader;
+    }
+    if t == s {
+        return s;
+    }
+    Limits::TRANSITIONS
+}
+
+// The same with the sources other than s removed; a number that is no source removes none.
+pub(crate) fn choices_only(net: &[u32], s: u32) -> Choices
+    ensures { λ r. ⌜ ChoicesOf (only (netByRows (now (net .entry))) s) (r .leaders) (r .source) ⌝ }
+{
+    let whole = choices_of(net);
+    let transitions = transitions(net);
+    if transitions <= s as usize {
+        return whole;
+    }
+    let before = whole.leaders;
+    let source = whole.source;
+    if before[s as usize] != source {
+        return whole;
+    }
+    let mut leaders = [0u32; 32];
+    for i in 0..transitions {
+        let choice = left(before[i], source, s, i as u32);
+        leaders[i] = choice;
+    }
+    Choices { leaders, source: s }
 }

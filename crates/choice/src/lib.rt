@@ -9,7 +9,7 @@ ghost use Rattle.refusal.specs.Limits.{mostNodes};
 ghost use Rattle.refusal.specs.Refusal.{refusal};
 ghost use Rattle.refusal.specs.declared.Position.the-variants.{Node};
 ghost use Rattle.sequential.specs.Words.{nodeCount};
-ghost use Rattle.choice.specs.Nodes.{nodesRefused, nodesReply};
+ghost use Rattle.choice.specs.Nodes.{nodesRefused, nodesReply, taskNodesReply};
 use offers::Offer;
 use refusal::Limits;
 use refusal::Position;
@@ -55,7 +55,14 @@ fn refused(number: u32, n: usize) -> NodesAnswer
 pub fn nodes(net: &[u32], sheet: &[u32], starts: &[u16; 4096]) -> NodesAnswer
     ensures { λ r. ⌜ r ≡ nodesReply (now (starts .entry)) (now (net .entry)) (now (sheet .entry)) ⌝ }
 {
-    let choices = choice_sets::choices_of(net);
+    task_nodes(net, Limits::TRANSITIONS, sheet, starts)
+}
+
+// The same with the sources other than s removed: an arc of a removed one is 12. A number that is no source removes none.
+pub fn task_nodes(net: &[u32], s: u32, sheet: &[u32], starts: &[u16; 4096]) -> NodesAnswer
+    ensures { λ r. ⌜ r ≡ taskNodesReply (now (starts .entry)) (now (net .entry)) s (now (sheet .entry)) ⌝ }
+{
+    let choices = choice_sets::choices_only(net, s);
     let leaders = choices.leaders;
     let source = choices.source;
     let transitions = choice_sets::transitions(net);

@@ -4,6 +4,7 @@ ghost use Prim.Native.Nat.{_≤_};
 ghost use Rattle.scan.specs.Scan.{all, least};
 ghost use Rattle.choice.specs.Rows.{present};
 ghost use Rattle.choice.specs.Choices.{presentAsChoice, offerOf};
+use refusal::Limits;
 
 // No transition; one whole choice set (§5.3), with its least transition; or anything else.
 pub(crate) enum Offer {
@@ -42,6 +43,7 @@ fn are_choice(arcs: [usize; 32], leaders: [u32; 32], c: u32, transitions: usize)
     true
 }
 
+// A first arc by a removed transition, which is in no choice set, tears the offer.
 pub(crate) fn offered(arcs: [usize; 32], leaders: [u32; 32], transitions: usize) -> Offer
     requires { ⌜ transitions ≤ 32 ⌝ }
     ensures { λ r. ⌜ r ≡ offerOf arcs leaders transitions ⌝ }
@@ -51,6 +53,9 @@ pub(crate) fn offered(arcs: [usize; 32], leaders: [u32; 32], transitions: usize)
         return Offer::Nothing;
     }
     let c = leaders[t];
+    if Limits::TRANSITIONS <= c {
+        return Offer::Torn;
+    }
     if are_choice(arcs, leaders, c, transitions) {
         return Offer::Whole(c);
     }

@@ -59,7 +59,7 @@ module _ (net sheet s s′ : List ℕ) (a : CheckAnswer) (d : CheckDone net shee
     λ (q, r).
         let n = net-judged net .accepts .1 p in
         let c = graph-closed (petriNet net) sheet (sizes net n .some-transition) (words-hold (petriNet net) sheet w .arcs) in
-        check-zero net sheet d .1 (l, reply-passes net sheet .1 (p, w, published-schedule (petriNet net) (said net sheet) c refl (some-source net n) q r)),
+        check-zero net sheet d .1 (l, reply-passes net sheet .1 (p, w, published-schedule (petriNet net) (said net sheet) c refl (let (t, k, s) = some-source net n in (t, k, (refl, s))) q r)),
   )
 
 -- ---- what is counted

@@ -60,12 +60,12 @@ choice-partition net p = record {
   reflexive = choice-refl (petriNet net);
   symmetric = choice-sym (petriNet net);
   transitive = choice-trans (petriNet net);
-  source = some-source net (net-judged net .accepts .1 p);
+  source = let (t, l, h) = some-source net (net-judged net .accepts .1 p) in (t, l, (refl, h));
   sources = choice-source (petriNet net);
   alike = choice-takes (petriNet net);
-  closed = choice-closed (petriNet net);
+  closed = λ t u v h d l. choice-closed (petriNet net) t u v h d (l, refl);
   alone = choice-alone (petriNet net);
-  unarbitrated = λ c t u l. choice-free (petriNet net) t u (c t l);
+  unarbitrated = λ c t u l. choice-free (petriNet net) t u refl refl (λ v (m, k). c t l v (m, k));
 }
 
 pub published-choice-sets : PublishedChoiceSets
@@ -73,16 +73,16 @@ published-choice-sets net p =
     let N = petriNet net in
     let (s, l, h) = some-source net (net-judged net .accepts .1 p) in
     record {
-      exactly = λ C. (λ f. let (t, x) = set-some N s l C f in (t, x .0, set-class N C f t x), λ (t, m, e). choice-set N C t m e);
-      together = choice-fcs N;
-      some = set-some N s l;
-      covers = λ t m. choice-fcs N t t m m .0 (choice-refl N t);
+      exactly = λ C. (λ f. let (t, x) = set-some N s (l, refl) C f in (t, x .0 .0, set-class N C f t x), λ (t, m, e). choice-set N C t (m, refl) e);
+      together = λ t u l m. choice-fcs N t u (l, refl) m;
+      some = set-some N s (l, refl);
+      covers = λ t m. choice-fcs N t t (m, refl) m .0 (choice-refl N t);
       apart = λ C D f g t x y u m.
-          let (a, b) = set-class N C f t x u m in
-          let (c, d) = set-class N D g t y u m in
+          let (a, b) = set-class N C f t x u (m, refl) in
+          let (c, d) = set-class N D g t y u (m, refl) in
           iff→eq (C u) (D u) (λ e. d (a e)) (λ e. b (c e));
-      sources = λ C e. choice-set N C s l (λ u m.
-          let (a, b) = choice-source N s u h in
+      sources = λ C e. choice-set N C s (l, refl) (λ u (m, k).
+          let (a, b) = choice-source N s u (refl, h) in
           (λ x. b (e u m .0 x), λ k. e u m .1 (a k)));
     }
 

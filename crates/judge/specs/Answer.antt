@@ -7,7 +7,8 @@ use Rattle.refusal.specs.declared.Verdict.{Verdict}
 use Rattle.refusal.specs.declared.Verdict.the-variants.{Accepted, Refused}
 use Rattle.sequential.specs.Petri.{petriNet}
 use Rattle.sequential.specs.Words.{nodeCount}
-use Rattle.sequential.specs.Check.{arcCount, awaitCount, scheduleReply}
+use Rattle.sequential.specs.Check.{arcCount, awaitCount, taskReply}
+use Rattle.sequential.specs.Only.{only}
 use Rattle.choice.specs.declared.NodesAnswer.{NodesAnswer}
 use Rattle.reach.specs.Reach.{AwaitMarks}
 use Rattle.judge.specs.declared.Counts.{Counts}
@@ -28,6 +29,6 @@ plainCheck (Failed r) = told r 3
 
 -- ---- what both functions stand on: the verdict, and marks at the await nodes of what is accepted
 
-pub record Judged (net sheet : List ℕ) (answer : NodesAnswer) : Type 0 where
-  pub reply : answer .verdict ≡ scheduleReply net sheet
-  pub marks : scheduleReply net sheet ≡ Accepted → AwaitMarks (petriNet net) sheet (answer .awaits)
+pub record Judged (net : List ℕ) (s : ℕ) (sheet : List ℕ) (answer : NodesAnswer) : Type 0 where
+  pub reply : answer .verdict ≡ taskReply net s sheet
+  pub marks : taskReply net s sheet ≡ Accepted → AwaitMarks (only (petriNet net) s) sheet (answer .awaits)

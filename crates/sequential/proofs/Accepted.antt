@@ -1,10 +1,12 @@
 -- Accepted exactly where all checks pass, and so exactly where the net is one, the words pass, and the graph that they say is a schedule.
-use Rattle.scan.proofs.Basics.{ℕ, _<_, arith, _≡_, _↔_, some, List, _++_}
+use Rattle.scan.proofs.Basics.{ℕ, _<_, arith, _≡_, refl, _↔_, some, List, _++_}
 use Rattle.automaton.specs.Automaton.{Closed}
 use Rattle.refusal.specs.Checks.{AllPass}
 use Rattle.refusal.specs.declared.Verdict.the-variants.{Accepted}
 use Rattle.refusal.proofs.Checks.{Tells}
 use Rattle.refusal.proofs.Judges.{Judges, judges-found, judges-then, tells-append, pass-append}
+use Rattle.refusal.specs.Verdict.{verdictOf, andThen}
+use Rattle.net.specs.Net.{transitionCount}
 use Rattle.net.specs.Checks.{netChecks}
 use Rattle.net.specs.Check.{netReply}
 use Rattle.net.proofs.Checks.{net-judged}
@@ -13,8 +15,9 @@ use Rattle.sequential.specs.Petri.{PetriNet, petriNet, Enabled}
 use Rattle.sequential.specs.Words.{nodeCount, entryCount, entryValue, arcNode, arcTransition, arc, marking, graph, entryKey, arcKeys}
 use Rattle.sequential.specs.Schedule.{IsSchedule}
 use Rattle.sequential.specs.Checks.{wordChecks, graphChecks, sheetChecks}
-use Rattle.sequential.specs.Check.{scheduleFault, scheduleReply}
-use Rattle.sequential.specs.Known.{ArcsHold, WordsHold, Accepts}
+use Rattle.sequential.specs.Check.{scheduleFault, scheduleReply, taskReply}
+use Rattle.sequential.specs.Only.{only}
+use Rattle.sequential.specs.Known.{ArcsHold, WordsHold, AcceptsAs, Accepts}
 use Rattle.sequential.proofs.Words.{words-tell, words-hold, words-pass}
 use Rattle.sequential.proofs.Entries.{arc-entry, entry-arc, entry-node, graph-closed}
 use Rattle.sequential.proofs.Choices.{choice-refl}
@@ -46,7 +49,7 @@ module _ (N : PetriNet) (sheet : List ℕ) (T : 0 < N .transitions) (w : ArcsHol
   schedule-passes s = (
     λ p l. (start-marking N sheet (w .shape .some-node) .0 (s .starts) p l, tt),
     (
-      λ n l. (let (t, k, h) = s .choices n l in (t, h t k .1 (choice-refl N t)), (s .choices n l, tt)),
+      λ n l. (let (t, (k, i), h) = s .choices n l in (t, h t k .1 (choice-refl N t)), (s .choices n l, tt)),
       (
         λ n l. let z : n ≡ 0 = omega arith in rw z (s .root-awaits, tt),
         (
@@ -83,22 +86,45 @@ module _ (N : PetriNet) (sheet : List ℕ) (T : 0 < N .transitions) where
         λ (w, s). g (words-pass N sheet w, schedule-passes N sheet T (w .arcs) s),
       )
 
+-- as a schedule of N, whose transitions have the numbers of the net's
+module _ (N : PetriNet) (net sheet : List ℕ) (same : N .transitions ≡ transitionCount net) where
+  some-number : netReply net ≡ Accepted → 0 < N .transitions
+  some-number h = rw same (sizes net h .some-transition)
+
+  judged-as : Judges (andThen (netReply net) (verdictOf (scheduleFault N sheet))) (netChecks net ++ sheetChecks N sheet)
+  judged-as =
+      judges-then (netReply net) _ (netChecks net) (sheetChecks N sheet) (net-judged net)
+      (λ p. judges-found _ (sheetChecks N sheet) (sheet-tells N sheet (some-number (net-judged net .accepts .1 p))))
+
+  accepted-as : (andThen (netReply net) (verdictOf (scheduleFault N sheet)) ≡ Accepted) ↔ AcceptsAs N net sheet
+  accepted-as = (
+    λ h. let (a, b) = pass-append (netChecks net) (sheetChecks N sheet) .0 (judged-as .accepts .0 h) in
+        let n = net-judged net .accepts .1 a in
+        let (w, s) = sheet-schedule N sheet (some-number n) .0 b in
+        record { net-accepted = n; words = w; schedule = s },
+    λ a. judged-as .accepts .1 (pass-append (netChecks net) (sheetChecks N sheet) .1
+        (net-judged net .accepts .0 (a .net-accepted), sheet-schedule N sheet (some-number (a .net-accepted)) .1 (a .words, a .schedule))),
+  )
+
 module _ (net sheet : List ℕ) where
   pub schedule-judged : Judges (scheduleReply net sheet) (netChecks net ++ sheetChecks (petriNet net) sheet)
   unfolding scheduleReply
-  schedule-judged =
-      judges-then (netReply net) _ (netChecks net) (sheetChecks (petriNet net) sheet) (net-judged net)
-      (λ p. judges-found _ (sheetChecks (petriNet net) sheet) (sheet-tells (petriNet net) sheet (sizes net (net-judged net .accepts .1 p) .some-transition)))
+  schedule-judged = judged-as (petriNet net) net sheet refl
 
   pub accepted-exactly : (scheduleReply net sheet ≡ Accepted) ↔ Accepts net sheet
-  accepted-exactly = (
-    λ h. let (a, b) = pass-append (netChecks net) (sheetChecks (petriNet net) sheet) .0 (schedule-judged .accepts .0 h) in
-        let n = net-judged net .accepts .1 a in
-        let (w, s) = sheet-schedule (petriNet net) sheet (sizes net n .some-transition) .0 b in
-        record { net-accepted = n; words = w; schedule = s },
-    λ a. schedule-judged .accepts .1 (pass-append (netChecks net) (sheetChecks (petriNet net) sheet) .1
-        (net-judged net .accepts .0 (a .net-accepted), sheet-schedule (petriNet net) sheet (sizes net (a .net-accepted) .some-transition) .1 (a .words, a .schedule))),
-  )
+  unfolding scheduleReply
+  accepted-exactly = accepted-as (petriNet net) net sheet refl
+
+-- ---- of a schedule of the net with one source alone
+
+module _ (net : List ℕ) (s : ℕ) (sheet : List ℕ) where
+  pub task-judged : Judges (taskReply net s sheet) (netChecks net ++ sheetChecks (only (petriNet net) s) sheet)
+  unfolding taskReply
+  task-judged = judged-as (only (petriNet net) s) net sheet refl
+
+  pub task-exactly : (taskReply net s sheet ≡ Accepted) ↔ AcceptsAs (only (petriNet net) s) net sheet
+  unfolding taskReply
+  task-exactly = accepted-as (only (petriNet net) s) net sheet refl
 
 -- ---- an accepted schedule
 

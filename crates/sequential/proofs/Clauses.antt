@@ -1,5 +1,6 @@
 -- The tests of the net and of the nodes, and the clauses that they decide.
 use Rattle.scan.proofs.Basics.{ℕ, _<_, arith, _≡_, _↔_, true, List}
+use mathlib.Core.Logic.{Iff·rfl}
 use Rattle.scan.proofs.Tests.{eqb-false, ne-eqb}
 use Rattle.scan.specs.Scan.{found}
 use Rattle.scan.proofs.First.{found-some}
@@ -11,7 +12,7 @@ use Rattle.scan.proofs.Decide.{leb↔, all↔, and↔, unless↔, agree↔}
 use Rattle.sequential.specs.Petri.{PetriNet, HoldsTaken, HasRoom, Enabled, SameChoice}
 use Rattle.sequential.specs.Tests.{holdsEnough, holdsTaken, roomAt, hasRoom, enabled, offers, offersAsSource, isAwait, offersSome, firstOffered, offersAsChoice, offersOneChoiceSet}
 use Rattle.sequential.specs.Schedule.{Offers, Await, OneChoiceSet}
-use Rattle.sequential.proofs.Choices.{source↔, choice↔, choice-refl, choice-sym, choice-trans}
+use Rattle.sequential.proofs.Choices.{source↔, choice↔, choice-refl, choice-sym, choice-trans, choice-kept}
 
 -- ---- the net
 
@@ -60,19 +61,22 @@ module _ (N : PetriNet) (A : Automaton) where
       (q, offers↔ n (firstOffered N A n) .0 (least-hit (offers N A n) (N .transitions) q))
 
   -- what the test asks of the first transition offered
-  chosen↔ : (n : ℕ) → (offersOneChoiceSet N A n ≡ true) ↔ ((u : ℕ) → u < N .transitions → Offers N A n u ↔ SameChoice N (firstOffered N A n) u)
+  chosen↔ : (n : ℕ) → (offersOneChoiceSet N A n ≡ true)
+      ↔ ((N .kept (firstOffered N A n) ≡ true) × ((u : ℕ) → u < N .transitions → Offers N A n u ↔ SameChoice N (firstOffered N A n) u))
   unfolding offersOneChoiceSet offersAsChoice
-  chosen↔ n = all↔ (offersAsChoice N A n) (N .transitions) (λ u l. agree↔ _ _ (offers↔ n u) (choice↔ N (firstOffered N A n) u))
+  chosen↔ n =
+      and↔ (N .kept (firstOffered N A n)) _ Iff·rfl
+      (all↔ (offersAsChoice N A n) (N .transitions) (λ u l. agree↔ _ _ (offers↔ n u) (choice↔ N (firstOffered N A n) u)))
 
   -- a node that offers some transition
   pub one-out : (n : ℕ) → offersSome N A n ≡ true → offersOneChoiceSet N A n ≡ true → OneChoiceSet N A n
-  one-out n s e = let (t, l, h) = some-out n s in (firstOffered N A n, first-offered n t l h .0, chosen↔ n .0 e)
+  one-out n s e = let (t, l, h) = some-out n s in let (k, c) = chosen↔ n .0 e in (firstOffered N A n, (first-offered n t l h .0, k), c)
 
   pub one-some : (n : ℕ) → OneChoiceSet N A n → offersSome N A n ≡ true
-  one-some n (t, l, h) = some-in n t l (h t l .1 (choice-refl N t))
+  one-some n (t, (l, k), h) = some-in n t l (h t l .1 (choice-refl N t))
 
   pub one-in : (n : ℕ) → OneChoiceSet N A n → offersOneChoiceSet N A n ≡ true
-  one-in n (t, l, h) =
+  one-in n (t, (l, i), h) =
       let (k, o) = first-offered n t l (h t l .1 (choice-refl N t)) in
       let c : SameChoice N t (firstOffered N A n) = h (firstOffered N A n) k .0 o in
-      chosen↔ n .1 (λ u m. (λ x. choice-trans N _ t u (choice-sym N t _ c) (h u m .0 x), λ y. h u m .1 (choice-trans N t _ u c y)))
+      chosen↔ n .1 (choice-kept N t _ i c, λ u m. (λ x. choice-trans N _ t u (choice-sym N t _ c) (h u m .0 x), λ y. h u m .1 (choice-trans N t _ u c y)))

@@ -16,3 +16,5 @@ pub mod Numbers
 pub mod Bounds
 -- words past the longest
 pub mod Cut
+-- a net with one source alone
+pub mod Only

@@ -2,16 +2,23 @@
 use Rattle.scan.proofs.Basics.{ℕ, _<_, _≡_, sym, ap, _∙_, true, some, List, [], _∷_, _++_}
 use Rattle.automaton.specs.Automaton.{Automaton, Closed, follow, allows}
 use Rattle.automaton.proofs.Automaton.{arc-transition, follow-first, follow-on, follow-snoc, follow-lands, allows-follow, follow-allows}
-use Rattle.sequential.specs.Petri.{PetriNet, initial, SameChoice, fireAll, FiresEnabled, fires-none, fires-first}
+use Rattle.sequential.specs.Petri.{PetriNet, initial, Transition, SameChoice, fireAll, FiresEnabled, fires-none, fires-first}
 use Rattle.sequential.specs.Schedule.{Await, IsSchedule}
 use Rattle.sequential.specs.Runs.{Runs, GoesOn}
-use Rattle.sequential.proofs.Choices.{choice-refl}
+use Rattle.sequential.proofs.Choices.{choice-refl, choice-kept}
 
--- only a transition of the net has an arc
+-- only a number of the net's transitions has an arc
 pub arc-below : (N : PetriNet) (A : Automaton) → Closed A → A .transitions ≡ N .transitions → (n t m : ℕ) → A .arc n t ≡ some m → t < N .transitions
 arc-below N A c same n t m e = rw same at (arc-transition A c n t m e)
 
 module _ (N : PetriNet) (A : Automaton) (c : Closed A) (same : A .transitions ≡ N .transitions) (s : IsSchedule N A) where
+  -- and of a schedule only one that is kept
+  pub arc-kept : (n t m : ℕ) → n < A .nodes → A .arc n t ≡ some m → Transition N t
+  arc-kept n t m l e =
+      let (v, (j, k), h) = s .choices n l in
+      let b = arc-below N A c same n t m e in
+      (b, choice-kept N v t k (h t b .0 (m, e)))
+
   -- ---- firing along a list
 
   along : (σ : List ℕ) (n m : ℕ) → n < A .nodes → follow A n σ ≡ some m → FiresEnabled N (A .label n) σ × (fireAll N (A .label n) σ ≡ A .label m)
@@ -21,7 +28,7 @@ module _ (N : PetriNet) (A : Automaton) (c : Closed A) (same : A .transitions �
       let (x, a, f) = follow-first A n t m σ e in
       let (g, h) = along σ x m (c .lands n t x l a) f in
       let q = s .lands n t x l a in
-      (fires-first _ t σ (arc-below N A c same n t x a) (s .enables n t x l a) (rw q at g), rw (← q) h)
+      (fires-first _ t σ (arc-kept n t x l a) (s .enables n t x l a) (rw q at g), rw (← q) h)
 
   pub from-root : (σ : List ℕ) (m : ℕ) → follow A 0 σ ≡ some m → FiresEnabled N (initial N) σ × (fireAll N (initial N) σ ≡ A .label m)
   from-root σ m e = rw (s .starts) at (along σ 0 m (c .root) e)
@@ -37,7 +44,7 @@ module _ (N : PetriNet) (A : Automaton) (c : Closed A) (same : A .transitions �
   pub goes-on : (σ : List ℕ) → allows A 0 σ ≡ true → GoesOn N A σ
   goes-on σ a =
       let (m, e) = allows-follow A 0 σ a in
-      let (t, l, h) = s .choices m (follow-lands A c σ 0 m (c .root) e) in
+      let (t, (l, i), h) = s .choices m (follow-lands A c σ 0 m (c .root) e) in
       let by : (u : ℕ) → u < N .transitions → SameChoice N t u → allows A 0 (σ ++ (u ∷ [])) ≡ true
       = λ u k q. let (x, b) = h u k .1 q in follow-allows A 0 x (σ ++ (u ∷ [])) (follow-snoc A σ 0 m u e ∙ b) in
       record {

@@ -19,6 +19,7 @@ use Rattle.net.specs.Check.{netReply}
 use Rattle.sequential.specs.Petri.{PetriNet, petriNet, firedCount}
 use Rattle.sequential.specs.Words.{nodeCount, entryCount, entryKey, entryValue, arcKeys, keyLimit, marking, graph, isArc, arcNode, arcTransition, countAt}
 use Rattle.sequential.specs.Tests.{holdsTaken, hasRoom, isAwait, offersSome, offersOneChoiceSet}
+use Rattle.sequential.specs.Only.{only}
 use Rattle.sequential.specs.Checks.{shapeChecks, wordChecks, arcWordChecks, graphChecks}
 
 -- ---- the words
@@ -137,3 +138,7 @@ module _ (N : PetriNet) (sheet : List ℕ) where
 -- 1 to 17, with 26 and 27: the net, and then the schedule (§7.54)
 unfoldable pub scheduleReply : List ℕ → List ℕ → Verdict
 scheduleReply net sheet = andThen (netReply net) (verdictOf (scheduleFault (petriNet net) sheet))
+
+-- the same of a schedule of the net with one source alone: an arc of a removed one is refused by 12
+unfoldable pub taskReply : List ℕ → ℕ → List ℕ → Verdict
+taskReply net s sheet = andThen (netReply net) (verdictOf (scheduleFault (only (petriNet net) s) sheet))

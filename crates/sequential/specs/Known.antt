@@ -30,8 +30,12 @@ pub record WordsHold (N : PetriNet) (sheet : List ℕ) : Type 0 where
   pub arcs : ArcsHold N sheet
   pub values : (i : ℕ) → i < entryCount sheet → ValuePasses sheet (arcKeys N sheet) i
 
--- 1 to 17, 26 and 27 refuse nothing
-pub record Accepts (net sheet : List ℕ) : Type 0 where
+-- 1 to 17, 26 and 27 refuse nothing of what is read as a schedule of N
+pub record AcceptsAs (N : PetriNet) (net sheet : List ℕ) : Type 0 where
   pub net-accepted : netReply net ≡ Accepted
-  pub words : WordsHold (petriNet net) sheet
-  pub schedule : IsSchedule (petriNet net) (graph (petriNet net) sheet)
+  pub words : WordsHold N sheet
+  pub schedule : IsSchedule N (graph N sheet)
+
+-- of the whole net
+abbrev pub Accepts : List ℕ → List ℕ → Type 0
+Accepts net sheet = AcceptsAs (petriNet net) net sheet

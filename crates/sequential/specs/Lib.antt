@@ -5,6 +5,7 @@ pub mod Published
 pub mod Runs
 pub mod Checks
 pub mod Tests
+pub mod Only
 pub mod Check
 pub mod Known
 pub mod Bounds

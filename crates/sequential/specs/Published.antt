@@ -6,7 +6,7 @@ use mathlib.Core.List.{List}
 use mathlib.Core.Bool.{Bool, true}
 use mathlib.Core.Option.{some}
 use Rattle.automaton.specs.Automaton.{Automaton, follow}
-use Rattle.sequential.specs.Petri.{PetriNet, initial, fire, fireAll, Enabled, FiresEnabled, Source, TakesSame, SharesPlace, SameChoice}
+use Rattle.sequential.specs.Petri.{PetriNet, initial, fire, fireAll, Enabled, FiresEnabled, Transition, Source, TakesSame, SharesPlace, SameChoice}
 use Rattle.sequential.specs.Schedule.{Offers}
 
 -- ---- free-choice sets
@@ -15,14 +15,14 @@ use Rattle.sequential.specs.Schedule.{Offers}
 -- draws on, which are none exactly if t is a source (Definition 2), and (•t)• the transitions that draw on one of them.
 module _ (N : PetriNet) where
   abbrev pub Member : (ℕ → Bool) → ℕ → Type 0
-  Member C t = (t < N .transitions) × (C t ≡ true)
+  Member C t = Transition N t × (C t ≡ true)
 
   abbrev pub Within : (ℕ → Bool) → (ℕ → Bool) → Type 0
   Within C D = (t : ℕ) → Member C t → Member D t
 
   -- C = (•t)•
   abbrev pub DrawsBeside : (ℕ → Bool) → ℕ → Type 0
-  DrawsBeside C t = (u : ℕ) → u < N .transitions → (C u ≡ true) ↔ SharesPlace N t u
+  DrawsBeside C t = (u : ℕ) → Transition N u → (C u ≡ true) ↔ SharesPlace N t u
 
   -- of any two members that are not the same: Pre[t₁] = Pre[t₂], and C = (•t₁)• unless •t₁ is empty
   abbrev pub FreeWithin : (ℕ → Bool) → Type 0
@@ -39,7 +39,7 @@ module _ (N : PetriNet) where
 
   -- C is the choice set of t (§5.1)
   abbrev pub ChoiceSetOf : ℕ → (ℕ → Bool) → Type 0
-  ChoiceSetOf t C = (u : ℕ) → u < N .transitions → (C u ≡ true) ↔ SameChoice N t u
+  ChoiceSetOf t C = (u : ℕ) → Transition N u → (C u ≡ true) ↔ SameChoice N t u
 
 -- ---- sequential schedules
 

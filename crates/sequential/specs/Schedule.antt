@@ -6,7 +6,7 @@ use mathlib.Core.List.{List}
 use mathlib.Core.Option.{some}
 use Rattle.automaton.specs.Automaton.{Automaton, follow}
 use Rattle.automaton.specs.Reach.{Reachable}
-use Rattle.sequential.specs.Petri.{PetriNet, initial, fire, Enabled, Source, SameChoice}
+use Rattle.sequential.specs.Petri.{PetriNet, initial, fire, Enabled, Transition, Source, SameChoice}
 
 module _ (N : PetriNet) (A : Automaton) where
   -- §3.7
@@ -19,7 +19,7 @@ module _ (N : PetriNet) (A : Automaton) where
 
   -- §5.3
   abbrev pub OneChoiceSet : ℕ → Type 0
-  OneChoiceSet n = (t : ℕ) × (t < N .transitions) × ((u : ℕ) → u < N .transitions → Offers n u ↔ SameChoice N t u)
+  OneChoiceSet n = (t : ℕ) × Transition N t × ((u : ℕ) → u < N .transitions → Offers n u ↔ SameChoice N t u)
 
   -- some path to an await node, of any length: not every one (§6.10), and none to the root (§6.11)
   abbrev pub ToAwait : ℕ → Type 0

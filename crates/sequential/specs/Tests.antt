@@ -34,7 +34,7 @@ module _ (N : PetriNet) where
 
   -- §2.9
   unfoldable pub isSource : ℕ → Bool
-  isSource t = all (takesNothing t) (N .places)
+  isSource t = N .kept t && all (takesNothing t) (N .places)
 
   unfoldable pub takesAlike : ℕ → ℕ → ℕ → Bool
   takesAlike t u p = eqb (N .taken t p) (N .taken u p)
@@ -49,14 +49,14 @@ module _ (N : PetriNet) where
   sharesPlace t u = any (bothDraw t u) (N .places)
 
   unfoldable pub sharesAlike : ℕ → ℕ → Bool
-  sharesAlike t u = not (sharesPlace t u) || takesSame t u
+  sharesAlike t u = not (N .kept u && sharesPlace t u) || takesSame t u
 
   unfoldable pub freeChoice : ℕ → Bool
   freeChoice t = all (sharesAlike t) (N .transitions)
 
   -- §5.1
   unfoldable pub sameChoice : ℕ → ℕ → Bool
-  sameChoice t u = eqb t u || (takesSame t u && freeChoice t)
+  sameChoice t u = eqb t u || (N .kept t && (N .kept u && (takesSame t u && freeChoice t)))
 
 module _ (N : PetriNet) (A : Automaton) where
   -- §3.7
@@ -82,4 +82,4 @@ module _ (N : PetriNet) (A : Automaton) where
 
   -- §5.3, of a node that offers some transition
   unfoldable pub offersOneChoiceSet : ℕ → Bool
-  offersOneChoiceSet n = all (offersAsChoice n) (N .transitions)
+  offersOneChoiceSet n = N .kept (firstOffered n) && all (offersAsChoice n) (N .transitions)

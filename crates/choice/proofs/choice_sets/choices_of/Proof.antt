@@ -7,7 +7,7 @@ use Rattle.automaton.proofs.Leader.{leader-le}
 use Rattle.sequential.specs.Tests.{takesSame}
 use Rattle.choice.specs.Rows.{netByRows}
 use Rattle.choice.specs.Choices.{choiceOf, Noted}
-use Rattle.choice.proofs.Choices.{nothing-noted, noted-more, noted-choice}
+use Rattle.choice.proofs.Choices.{none-removed, nothing-noted, noted-more, noted-choice}
 use Rattle.choice.proofs.choice_sets.choices_of.Statement.{statement}
 use Rattle.choice.proofs.choice_sets.choices_of.Tie as tie
 
@@ -51,7 +51,7 @@ loop-again c =
       omega arith,
       simp length-set h,
       simp length-set k,
-      stored-more (choiceOf N) (l .loop .leaders) (l .loop .i) _ r (omega arith) (c .chosen .ensures ∙ noted-choice N _ _ _ q told),
+      stored-more (choiceOf N) (l .loop .leaders) (l .loop .i) _ r (omega arith) (c .chosen .ensures ∙ noted-choice N (none-removed _) _ _ _ q told),
       noted-more N (l .loop .notes) _ _ n (omega (arith, leader-le (takesSame N) (l .loop .i), q)) (told .noted),
       e,
       few,

@@ -12,6 +12,10 @@ offered-spec =
     tie.close
     (tie.spec (λ c κs. search needs)
     (λ c. rw (← c .before .first-present .ensures, le-ltb _ _ (c .if1 .taken)))
-    (λ c. search needs) (λ c. search needs) (λ c κs. search needs)
-    (λ c. rw (← c .before .before .before .first-present .ensures, lt-ltb _ _ (c .before .before .if1 .left), sym (c .before .are-choice .ensures) ∙ c .if2 .taken))
-    (λ c. rw (← c .before .before .before .first-present .ensures, lt-ltb _ _ (c .before .before .if1 .left), sym (c .before .are-choice .ensures) ∙ c .if2 .left)))
+    (λ c. search needs) (λ c. search needs)
+    (λ c. rw (← c .before .before .first-present .ensures, lt-ltb _ _ (c .before .if1 .left), le-ltb _ 32 (c .if2 .taken)))
+    (λ c κs. search needs)
+    (λ c. let t = c .before .before .before in
+    rw (← t .before .first-present .ensures, lt-ltb _ _ (t .if1 .left), lt-ltb _ 32 (c .before .before .if2 .left), sym (c .before .are-choice .ensures) ∙ c .if3 .taken))
+    (λ c. let t = c .before .before .before in
+    rw (← t .before .first-present .ensures, lt-ltb _ _ (t .if1 .left), lt-ltb _ 32 (c .before .before .if2 .left), sym (c .before .are-choice .ensures) ∙ c .if3 .left)))
