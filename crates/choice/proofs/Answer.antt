@@ -27,21 +27,21 @@ use Rattle.choice.specs.declared.offers.Offer.the-variants.{Whole}
 use Rattle.choice.proofs.Offer.{Tells, offer-tells}
 
 -- what does not change in it
-pub record Ground (starts net : List ℕ) (s : ℕ) (sheet leaders : List ℕ) (source transitions nodes : ℕ) : Type 0 where
+pub record Ground (net : List ℕ) (s : ℕ) (sheet leaders : List ℕ) (source transitions nodes : ℕ) : Type 0 where
   pub choices : ChoicesOf (only (netByRows net) s) leaders source
   pub transitions-are : transitions ≡ netByRows net .transitions
-  pub nodes-are : nodes ≡ graphByRows starts net sheet .nodes
+  pub nodes-are : nodes ≡ graphByRows net sheet .nodes
   pub few-nodes : nodes ≤ 128
   pub few-transitions : transitions ≤ 32
 
-pub ground-is : {starts net : List ℕ} {s : ℕ} {sheet leaders : List ℕ} {source transitions nodes : ℕ} → ChoicesOf (only (netByRows net) s) leaders source → transitions ≡ min (transitionCount net) 32
-    → nodes ≡ min (nodeCount sheet) 128 → Ground starts net s sheet leaders source transitions nodes
+pub ground-is : {net : List ℕ} {s : ℕ} {sheet leaders : List ℕ} {source transitions nodes : ℕ} → ChoicesOf (only (netByRows net) s) leaders source → transitions ≡ min (transitionCount net) 32
+    → nodes ≡ min (nodeCount sheet) 128 → Ground net s sheet leaders source transitions nodes
 ground-is c t n = record { choices = c; transitions-are = unfold netByRows in t; nodes-are = unfold graphByRows in n; few-nodes = omega arith; few-transitions = omega arith }
 
-pub record Passing (starts net : List ℕ) (s : ℕ) (sheet leaders : List ℕ) (source transitions nodes : ℕ) (awaits : List ℕ) (n : ℕ) : Type 0 where
-  pub ground : Ground starts net s sheet leaders source transitions nodes
-  pub passed : first (offerFault (only (netByRows net) s) (graphByRows starts net sheet)) n ≡ none
-  pub marks : awaits ≡ tabulate (awaitMark (only (netByRows net) s) (graphByRows starts net sheet) n) 128
+pub record Passing (net : List ℕ) (s : ℕ) (sheet leaders : List ℕ) (source transitions nodes : ℕ) (awaits : List ℕ) (n : ℕ) : Type 0 where
+  pub ground : Ground net s sheet leaders source transitions nodes
+  pub passed : first (offerFault (only (netByRows net) s) (graphByRows net sheet)) n ≡ none
+  pub marks : awaits ≡ tabulate (awaitMark (only (netByRows net) s) (graphByRows net sheet) n) 128
 
 -- ---- marks
 
@@ -77,67 +77,67 @@ module _ (N : PetriNet) (A : Automaton) where
       (λ m k. byTest (eqb m n) (λ q. rw (eqb-true m n q, getD-set-same marks n v 0 (rw long l), at-last n, e))
       (λ q. rw (getD-set-other marks n m v 0 (eqb-false m n q), tabulate-at (awaitMark N A n) 0 128 m k, more-below n m (eqb-false m n q))))
 
-module _ {starts net : List ℕ} {s : ℕ} {sheet leaders : List ℕ} {source transitions nodes : ℕ} (g : Ground starts net s sheet leaders source transitions nodes) where
+module _ {net : List ℕ} {s : ℕ} {sheet leaders : List ℕ} {source transitions nodes : ℕ} (g : Ground net s sheet leaders source transitions nodes) where
   abbrev N : PetriNet
   N = only (netByRows net) s
 
   abbrev A : Automaton
-  A = graphByRows starts net sheet
+  A = graphByRows net sheet
 
-  row-offers : (n t : ℕ) → present (arcEntryRow starts net sheet n) t ≡ offers N A n t
+  row-offers : (n t : ℕ) → present (arcEntryRow net sheet n) t ≡ offers N A n t
   unfolding graphByRows offers arcByRow found when
-  row-offers n t = go (present (arcEntryRow starts net sheet n) t) _
+  row-offers n t = go (present (arcEntryRow net sheet n) t) _
     where
       go : (b : Bool) (m : ℕ) → b ≡ found (when b m)
       go true m = refl
       go false m = refl
 
-  pub start : Passing starts net s sheet leaders source transitions nodes (replicate 128 0) 0
+  pub start : Passing net s sheet leaders source transitions nodes (replicate 128 0) 0
   start = record { ground = g; passed = first-none _; marks = none-below N A }
 
-  pub row-tells : (n : ℕ) (row : List ℕ) (offer : Offer) → row ≡ arcEntryRow starts net sheet n → offer ≡ offerOf row leaders transitions → Tells N A n offer
-  row-tells n row offer e f = rw (f, e) (offer-tells N A n (arcEntryRow starts net sheet n) leaders transitions (row-offers n) (g .choices .leaders-are) (g .transitions-are)
+  pub row-tells : (n : ℕ) (row : List ℕ) (offer : Offer) → row ≡ arcEntryRow net sheet n → offer ≡ offerOf row leaders transitions → Tells N A n offer
+  row-tells n row offer e f = rw (f, e) (offer-tells N A n (arcEntryRow net sheet n) leaders transitions (row-offers n) (g .choices .leaders-are) (g .transitions-are)
       (rw (g .transitions-are) at (g .few-transitions)))
 
 -- ---- each way on
 
-module _ {starts net : List ℕ} {s : ℕ} {sheet leaders : List ℕ} {source transitions nodes : ℕ} {awaits : List ℕ} {n : ℕ}
-    (w : Passing starts net s sheet leaders source transitions nodes awaits n) where
+module _ {net : List ℕ} {s : ℕ} {sheet leaders : List ℕ} {source transitions nodes : ℕ} {awaits : List ℕ} {n : ℕ}
+    (w : Passing net s sheet leaders source transitions nodes awaits n) where
   -- a refusal at node n
-  pub refused-at : (a : NodesAnswer) (r : Refusal) → n < nodes → offerFault (only (netByRows net) s) (graphByRows starts net sheet) n ≡ some r → a ≡ nodesRefused r
-      → a ≡ taskNodesReply starts net s sheet
+  pub refused-at : (a : NodesAnswer) (r : Refusal) → n < nodes → offerFault (only (netByRows net) s) (graphByRows net sheet) n ≡ some r → a ≡ nodesRefused r
+      → a ≡ taskNodesReply net s sheet
   unfolding taskNodesReply offersFault
   refused-at a r l e h =
-      rw (orElse-hit _ (when (not (awaitsBelow (only (netByRows net) s) (graphByRows starts net sheet) (graphByRows starts net sheet .nodes) 0)) (refusal 13 (Node 0))) r
-      (first-hit (offerFault (only (netByRows net) s) (graphByRows starts net sheet)) n r (w .passed) e (graphByRows starts net sheet .nodes) (rw (w .ground .nodes-are) at l)))
+      rw (orElse-hit _ (when (not (awaitsBelow (only (netByRows net) s) (graphByRows net sheet) (graphByRows net sheet .nodes) 0)) (refusal 13 (Node 0))) r
+      (first-hit (offerFault (only (netByRows net) s) (graphByRows net sheet)) n r (w .passed) e (graphByRows net sheet .nodes) (rw (w .ground .nodes-are) at l)))
       h
 
   -- one whole choice set
-  pub passes-at : (c v : ℕ) → n < nodes → Tells (only (netByRows net) s) (graphByRows starts net sheet) n (Whole c) → v ≡ bit (eqb c source)
-      → Passing starts net s sheet leaders source transitions nodes (set awaits n v) (n + 1)
+  pub passes-at : (c v : ℕ) → n < nodes → Tells (only (netByRows net) s) (graphByRows net sheet) n (Whole c) → v ≡ bit (eqb c source)
+      → Passing net s sheet leaders source transitions nodes (set awaits n v) (n + 1)
   passes-at c v l (t, a) e = record {
     ground = w .ground;
     passed = first-more _ n (w .passed) t;
     marks = rw (w .marks)
-        (marks-more (only (netByRows net) s) (graphByRows starts net sheet) n v (let z = w .ground .few-nodes in omega arith) (e ∙ ap bit (rw (w .ground .choices .source-is) (sym a))));
+        (marks-more (only (netByRows net) s) (graphByRows net sheet) n v (let z = w .ground .few-nodes in omega arith) (e ∙ ap bit (rw (w .ground .choices .source-is) (sym a))));
   }
 
-  all-marks : n ≡ nodes → awaits ≡ tabulate (awaitMark (only (netByRows net) s) (graphByRows starts net sheet) (graphByRows starts net sheet .nodes)) 128
-  all-marks e = w .marks ∙ ap (λ (k : ℕ). tabulate (awaitMark (only (netByRows net) s) (graphByRows starts net sheet) k) 128) (e ∙ w .ground .nodes-are)
+  all-marks : n ≡ nodes → awaits ≡ tabulate (awaitMark (only (netByRows net) s) (graphByRows net sheet) (graphByRows net sheet .nodes)) 128
+  all-marks e = w .marks ∙ ap (λ (k : ℕ). tabulate (awaitMark (only (netByRows net) s) (graphByRows net sheet) k) 128) (e ∙ w .ground .nodes-are)
 
   -- every node is passed: the root's mark tells
-  rest : n ≡ nodes → offersFault (only (netByRows net) s) (graphByRows starts net sheet) ≡ when (eqb (getD awaits 0 0) 0) (refusal 13 (Node 0))
+  rest : n ≡ nodes → offersFault (only (netByRows net) s) (graphByRows net sheet) ≡ when (eqb (getD awaits 0 0) 0) (refusal 13 (Node 0))
   unfolding offersFault
   rest e =
       let q = e ∙ w .ground .nodes-are in
       orElse-next _ _ (rw q at (w .passed))
       ∙ ap (λ (b : Bool). when b (refusal 13 (Node 0)))
-      (root-mark (only (netByRows net) s) (graphByRows starts net sheet) (graphByRows starts net sheet .nodes) ∙ ap (λ (l : List ℕ). eqb (getD l 0 0) 0) (sym (all-marks e)))
+      (root-mark (only (netByRows net) s) (graphByRows net sheet) (graphByRows net sheet .nodes) ∙ ap (λ (l : List ℕ). eqb (getD l 0 0) 0) (sym (all-marks e)))
 
-  pub busy-root : (a : NodesAnswer) → n ≡ nodes → getD awaits 0 0 ≡ 0 → a ≡ nodesRefused (refusal 13 (Node 0)) → a ≡ taskNodesReply starts net s sheet
+  pub busy-root : (a : NodesAnswer) → n ≡ nodes → getD awaits 0 0 ≡ 0 → a ≡ nodesRefused (refusal 13 (Node 0)) → a ≡ taskNodesReply net s sheet
   unfolding taskNodesReply when
   busy-root a e z h = rw (rest e, z) h
 
-  pub all-pass : n ≡ nodes → 0 < getD awaits 0 0 → record { verdict = Accepted; awaits = awaits } ≡ taskNodesReply starts net s sheet
+  pub all-pass : n ≡ nodes → 0 < getD awaits 0 0 → record { verdict = Accepted; awaits = awaits } ≡ taskNodesReply net s sheet
   unfolding taskNodesReply when awaitMarks
   all-pass e z = rw (rest e, ne-eqb (getD awaits 0 0) 0 (λ x. omega arith)) (ap (λ (l : List ℕ). record { verdict = Accepted; awaits = l }) (all-marks e))

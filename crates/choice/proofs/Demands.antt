@@ -62,11 +62,11 @@ module _ (N : PetriNet) (sheet : List ℕ) {answer : NodesAnswer} (told : answer
   }
 
 pub nodes-mean : NodesMean
-nodes-mean starts net sheet q i w =
+nodes-mean net sheet i w =
     let r = arcs-readable (net-judged net .accepts .1 i) (arcs-hold (petriNet net) sheet w) in
-    right (petriNet net) sheet (verdict-right q net sheet r) (awaits-right q net sheet r)
+    right (petriNet net) sheet (verdict-right net sheet r) (awaits-right net sheet r)
 
 pub task-nodes-mean : TaskNodesMean
-task-nodes-mean starts net s sheet q i w =
+task-nodes-mean net s sheet i w =
     let r = arcs-readable (net-judged net .accepts .1 i) (arcs-hold (petriNet net) sheet w) in
-    right (only (petriNet net) s) sheet (task-verdict-right q net s sheet r) (task-awaits-right q net s sheet r)
+    right (only (petriNet net) s) sheet (task-verdict-right net s sheet r) (task-awaits-right net s sheet r)

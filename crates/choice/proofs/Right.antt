@@ -5,7 +5,6 @@ use Rattle.net.specs.Net.{transitionCount}
 use Rattle.scan.proofs.Tests.{lt-ltb, le-ltb}
 use Rattle.scan.specs.Scan.{orElse, first, bit}
 use Rattle.scan.proofs.Tabulate.{tabulate-at}
-use Rattle.row_starts.specs.RowStarts.{page}
 use Rattle.refusal.specs.Finding.{lineFinds, foundAt}
 use Rattle.refusal.specs.Verdict.{verdictOf}
 use Rattle.refusal.specs.declared.Refusal.{Refusal}
@@ -33,10 +32,10 @@ of-accepted marks none h = refl
 of-accepted marks (some x) h = absurd (let z : _≡_ {A = ℕ} 0 1 = cc in omega arith)
 
 -- the whole net
-pub whole-nodes : (starts net sheet : List ℕ) → taskNodesReply starts net 32 sheet ≡ nodesReply starts net sheet
+pub whole-nodes : (net sheet : List ℕ) → taskNodesReply net 32 sheet ≡ nodesReply net sheet
 unfolding taskNodesReply nodesReply
-whole-nodes starts net sheet =
-    ap (λ (N : PetriNet). markedOr (awaitMarks N (graphByRows starts net sheet)) (offersFault N (graphByRows starts net sheet)))
+whole-nodes net sheet =
+    ap (λ (N : PetriNet). markedOr (awaitMarks N (graphByRows net sheet)) (offersFault N (graphByRows net sheet)))
     (only-whole (netByRows net) 32 (unfold isSourceOf netByRows in (rw (le-ltb 32 (min (transitionCount net) 32) (omega arith)))))
 
 -- what is found at the nodes, and marked there, as of a schedule of N
@@ -61,31 +60,31 @@ module _ (N : PetriNet) (sheet : List ℕ) (some-node : 1 ≤ nodeCount sheet) (
         let marks : answer .awaits ≡ awaitMarks N G = rw told (of-accepted (awaitMarks N G) (offersFault N G) (rw told at h)) in
         rw (marks, tabulate-at (awaitMark N G (nodeCount sheet)) 0 128 n (omega arith), lt-ltb n (nodeCount sheet) l)
 
-module _ {starts : List ℕ} (e : starts ≡ page) (net : List ℕ) (s : ℕ) (sheet : List ℕ) (r : ArcsReadable net sheet) where
+module _ (net : List ℕ) (s : ℕ) (sheet : List ℕ) (r : ArcsReadable net sheet) where
   abbrev M : PetriNet
   M = only (petriNet net) s
 
-  nodes-right : taskNodesReply starts net s sheet ≡ markedOr (awaitMarks M (graph M sheet)) (offersFault M (graph M sheet))
+  nodes-right : taskNodesReply net s sheet ≡ markedOr (awaitMarks M (graph M sheet)) (offersFault M (graph M sheet))
   unfolding taskNodesReply
   nodes-right =
-      rw (net-told net (r .accepted), graph-told e net sheet r)
+      rw (net-told net (r .accepted), graph-told net sheet r)
       (ap (λ (A : Automaton). markedOr (awaitMarks M A) (offersFault M A)) (sym (graph-only (petriNet net) s sheet)))
 
-  pub task-verdict-right : taskNodesReply starts net s sheet .verdict ≡ verdictOf (orElse (first (nodeFault M sheet) (nodeCount sheet)) (rootFault M sheet))
+  pub task-verdict-right : taskNodesReply net s sheet .verdict ≡ verdictOf (orElse (first (nodeFault M sheet) (nodeCount sheet)) (rootFault M sheet))
   task-verdict-right = verdict-as M sheet (r .sizes .some-node) (r .sizes .few-nodes) nodes-right
 
-  pub task-awaits-right : taskNodesReply starts net s sheet .verdict ≡ Accepted → (n : ℕ) → n < nodeCount sheet
-      → getD (taskNodesReply starts net s sheet .awaits) n 0 ≡ bit (isAwait M (graph M sheet) n)
+  pub task-awaits-right : taskNodesReply net s sheet .verdict ≡ Accepted → (n : ℕ) → n < nodeCount sheet
+      → getD (taskNodesReply net s sheet .awaits) n 0 ≡ bit (isAwait M (graph M sheet) n)
   task-awaits-right = awaits-as M sheet (r .sizes .some-node) (r .sizes .few-nodes) nodes-right
 
-module _ {starts : List ℕ} (e : starts ≡ page) (net sheet : List ℕ) (r : ArcsReadable net sheet) where
-  whole-right : nodesReply starts net sheet ≡ markedOr (awaitMarks (petriNet net) (graph (petriNet net) sheet)) (offersFault (petriNet net) (graph (petriNet net) sheet))
+module _ (net sheet : List ℕ) (r : ArcsReadable net sheet) where
+  whole-right : nodesReply net sheet ≡ markedOr (awaitMarks (petriNet net) (graph (petriNet net) sheet)) (offersFault (petriNet net) (graph (petriNet net) sheet))
   unfolding nodesReply
-  whole-right = rw (net-told net (r .accepted), graph-told e net sheet r)
+  whole-right = rw (net-told net (r .accepted), graph-told net sheet r)
 
-  pub verdict-right : nodesReply starts net sheet .verdict ≡ verdictOf (orElse (first (nodeFault (petriNet net) sheet) (nodeCount sheet)) (rootFault (petriNet net) sheet))
+  pub verdict-right : nodesReply net sheet .verdict ≡ verdictOf (orElse (first (nodeFault (petriNet net) sheet) (nodeCount sheet)) (rootFault (petriNet net) sheet))
   verdict-right = verdict-as (petriNet net) sheet (r .sizes .some-node) (r .sizes .few-nodes) whole-right
 
-  pub awaits-right : nodesReply starts net sheet .verdict ≡ Accepted → (n : ℕ) → n < nodeCount sheet
-      → getD (nodesReply starts net sheet .awaits) n 0 ≡ bit (isAwait (petriNet net) (graph (petriNet net) sheet) n)
+  pub awaits-right : nodesReply net sheet .verdict ≡ Accepted → (n : ℕ) → n < nodeCount sheet
+      → getD (nodesReply net sheet .awaits) n 0 ≡ bit (isAwait (petriNet net) (graph (petriNet net) sheet) n)
   awaits-right = awaits-as (petriNet net) sheet (r .sizes .some-node) (r .sizes .few-nodes) whole-right

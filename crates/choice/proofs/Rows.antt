@@ -11,7 +11,6 @@ use Rattle.table.specs.Row.{entryCode}
 use Rattle.net.specs.Net.{transitionCount, taken, put, start, capacity}
 use Rattle.net.specs.Check.{netReply}
 use Rattle.net.proofs.Laws.{accessors, sizes, taken-no-place, put-no-place, start-no-place, capacity-no-place, capacity-some}
-use Rattle.row_starts.specs.RowStarts.{page}
 use Rattle.refusal.specs.declared.Verdict.the-variants.{Accepted}
 use Rattle.automaton.specs.Automaton.{Automaton}
 use Rattle.sequential.specs.Petri.{PetriNet, petriNet}
@@ -59,13 +58,13 @@ unfolding arcByRow present when
 arc-of-code sheet none row t e = rw e
 arc-of-code sheet (some i) row t e = let z : i + 1 - 1 ≡ i = omega arith in rw (e, lt-ltb 0 (i + 1) (omega arith), z)
 
-no-node : (starts net sheet : List ℕ) (n : ℕ) → nodeCount sheet ≤ n → arcEntryRow starts net sheet n ≡ tabulate (λ t. 0) 32
+no-node : (net sheet : List ℕ) (n : ℕ) → nodeCount sheet ≤ n → arcEntryRow net sheet n ≡ tabulate (λ t. 0) 32
 unfolding arcEntryRow
-no-node starts net sheet n l =
+no-node net sheet n l =
     byTest (hasRow net sheet n) (λ e. let z = has-row-out net sheet n e .node in absurd (omega arith))
     (λ e. rw e (tabulate-is (λ t. 0) 0 32 (replicate 32 0) refl (λ i k. getD-replicate {A = ℕ} 32 i 0 0 k)))
 
-module _ {starts : List ℕ} (e : starts ≡ page) (net sheet : List ℕ) (r : ArcsReadable net sheet) where
+module _ (net sheet : List ℕ) (r : ArcsReadable net sheet) where
   code-past : (n t : ℕ) → transitionCount net ≤ t → arcEntryCode (petriNet net) sheet n t ≡ 0
   unfolding arcEntryCode arcEntry
   code-past n t l = rw (le-ltb t (transitionCount net) l, and-false (ltb n (nodeCount sheet)))
@@ -74,24 +73,24 @@ module _ {starts : List ℕ} (e : starts ≡ page) (net sheet : List ℕ) (r : A
   unfolding arcEntryCode arcEntry
   code-no-node n t l = rw (le-ltb n (nodeCount sheet) l)
 
-  code-told : (n : ℕ) → (λ t. getD (arcEntryRow starts net sheet n) t 0) ≡ arcEntryCode (petriNet net) sheet n
+  code-told : (n : ℕ) → (λ t. getD (arcEntryRow net sheet n) t 0) ≡ arcEntryCode (petriNet net) sheet n
   code-told n = elim (decLt n (nodeCount sheet)) [
-    | yes l ↦ told-row (arcEntryRow starts net sheet n) (arcEntryCode (petriNet net) sheet n) (arcs-right net sheet r n l e)
+    | yes l ↦ told-row (arcEntryRow net sheet n) (arcEntryCode (petriNet net) sheet n) (arcs-right net sheet r n l)
         (λ t k. code-past n t (let z = r .sizes in omega arith))
-    | no l ↦ told-row (arcEntryRow starts net sheet n) (λ t. 0) (no-node _ net sheet n (omega arith)) (λ t k. refl) ∙ sym (fun-ext (λ t. code-no-node n t (omega arith)))
+    | no l ↦ told-row (arcEntryRow net sheet n) (λ t. 0) (no-node net sheet n (omega arith)) (λ t k. refl) ∙ sym (fun-ext (λ t. code-no-node n t (omega arith)))
   ]
 
-  arc-told : (n t : ℕ) → arcByRow sheet (arcEntryRow starts net sheet n) t ≡ arc (petriNet net) sheet n t
+  arc-told : (n t : ℕ) → arcByRow sheet (arcEntryRow net sheet n) t ≡ arc (petriNet net) sheet n t
   unfolding arcEntryCode arc
-  arc-told n t = arc-of-code sheet (arcEntry (petriNet net) sheet n t) (arcEntryRow starts net sheet n) t (ap (λ (f : ℕ → ℕ). f t) (code-told n))
+  arc-told n t = arc-of-code sheet (arcEntry (petriNet net) sheet n t) (arcEntryRow net sheet n) t (ap (λ (f : ℕ → ℕ). f t) (code-told n))
 
 same-graph : (v T v′ T′ : ℕ) (f f′ : ℕ → ℕ → Option ℕ) (s s′ : ℕ → List ℕ) → v ≡ v′ → T ≡ T′ → f ≡ f′ → s ≡ s′
     → _≡_ {A = Automaton} (record { nodes = v; transitions = T; arc = f; label = s }) (record { nodes = v′; transitions = T′; arc = f′; label = s′ })
 same-graph v T v′ T′ f f′ s s′ a b c d = rw (a, b, c, d)
 
-pub graph-told : {starts : List ℕ} → starts ≡ page → (net sheet : List ℕ) → ArcsReadable net sheet → graphByRows starts net sheet ≡ graph (petriNet net) sheet
+pub graph-told : (net sheet : List ℕ) → ArcsReadable net sheet → graphByRows net sheet ≡ graph (petriNet net) sheet
 unfolding graphByRows
-graph-told e net sheet r =
+graph-told net sheet r =
     let k = r .sizes in
-    same-graph _ _ _ _ _ _ _ _ (omega arith) (omega arith) (fun-ext (λ n. fun-ext (arc-told e net sheet r n)))
+    same-graph _ _ _ _ _ _ _ _ (omega arith) (omega arith) (fun-ext (λ n. fun-ext (arc-told net sheet r n)))
     (ap (λ (N : PetriNet). marking N sheet) (net-told net (r .accepted)))

@@ -4,7 +4,6 @@ use mathlib.Core.Path.{_≡_}
 use mathlib.Core.Logic.{_↔_}
 use mathlib.Core.List.{List}
 use lib.ListN.{getD}
-use Rattle.row_starts.specs.RowStarts.{page}
 use Rattle.refusal.specs.Checks.{AllPass}
 use Rattle.refusal.specs.declared.Verdict.the-variants.{Accepted}
 use Rattle.net.specs.Checks.{IsNet}
@@ -22,10 +21,10 @@ pub record NodesRight (N : PetriNet) (sheet : List ℕ) (answer : NodesAnswer) :
   pub marks : answer .verdict ≡ Accepted → (n : ℕ) → n < nodeCount sheet → (getD (answer .awaits) n 0 ≡ 1) ↔ Await N (graph N sheet) n
 
 abbrev pub NodesMean : Type 0
-NodesMean = (starts net sheet : List ℕ) → starts ≡ page → IsNet net → AllPass (arcWordChecks (petriNet net) sheet)
-    → NodesRight (petriNet net) sheet (nodesReply starts net sheet)
+NodesMean = (net sheet : List ℕ) → IsNet net → AllPass (arcWordChecks (petriNet net) sheet)
+    → NodesRight (petriNet net) sheet (nodesReply net sheet)
 
 -- the same of a schedule of the net with the sources other than s removed
 abbrev pub TaskNodesMean : Type 0
-TaskNodesMean = (starts net : List ℕ) (s : ℕ) (sheet : List ℕ) → starts ≡ page → IsNet net → AllPass (arcWordChecks (petriNet net) sheet)
-    → NodesRight (only (petriNet net) s) sheet (taskNodesReply starts net s sheet)
+TaskNodesMean = (net : List ℕ) (s : ℕ) (sheet : List ℕ) → IsNet net → AllPass (arcWordChecks (petriNet net) sheet)
+    → NodesRight (only (petriNet net) s) sheet (taskNodesReply net s sheet)

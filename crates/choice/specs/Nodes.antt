@@ -47,15 +47,15 @@ abbrev pub markedOr : List ℕ → Option Refusal → NodesAnswer
 markedOr marks none = record { verdict = Accepted; awaits = marks }
 markedOr marks (some r) = nodesRefused r
 
-unfoldable pub nodesReply : List ℕ → List ℕ → List ℕ → NodesAnswer
-nodesReply starts net sheet =
+unfoldable pub nodesReply : List ℕ → List ℕ → NodesAnswer
+nodesReply net sheet =
     let N = netByRows net in
-    let A = graphByRows starts net sheet in
+    let A = graphByRows net sheet in
     markedOr (awaitMarks N A) (offersFault N A)
 
 -- the same with the sources other than s removed
-unfoldable pub taskNodesReply : List ℕ → List ℕ → ℕ → List ℕ → NodesAnswer
-taskNodesReply starts net s sheet =
+unfoldable pub taskNodesReply : List ℕ → ℕ → List ℕ → NodesAnswer
+taskNodesReply net s sheet =
     let N = only (netByRows net) s in
-    let A = graphByRows starts net sheet in
+    let A = graphByRows net sheet in
     markedOr (awaitMarks N A) (offersFault N A)

@@ -35,10 +35,10 @@ unfoldable pub arcByRow : List ℕ → List ℕ → ℕ → Option ℕ
 arcByRow sheet row t = when (present row t) (entryValue sheet (getD row t 0 - 1))
 
 -- no row tells of labels, and nothing here asks for them
-unfoldable pub graphByRows : List ℕ → List ℕ → List ℕ → Automaton
-graphByRows starts net sheet = record {
+unfoldable pub graphByRows : List ℕ → List ℕ → Automaton
+graphByRows net sheet = record {
   nodes = min (nodeCount sheet) mostNodes;
   transitions = min (transitionCount net) mostTransitions;
-  arc = λ n t. arcByRow sheet (arcEntryRow starts net sheet n) t;
+  arc = λ n t. arcByRow sheet (arcEntryRow net sheet n) t;
   label = marking (netByRows net) sheet;
 }

@@ -52,15 +52,15 @@ fn refused(number: u32, n: usize) -> NodesAnswer
 }
 
 // Refusals 11 and 12 node by node (§6.3), and then 13 (§6.4), on any words.
-pub fn nodes(net: &[u32], sheet: &[u32], starts: &[u16; 4096]) -> NodesAnswer
-    ensures { λ r. ⌜ r ≡ nodesReply (now (starts .entry)) (now (net .entry)) (now (sheet .entry)) ⌝ }
+pub fn nodes(net: &[u32], sheet: &[u32]) -> NodesAnswer
+    ensures { λ r. ⌜ r ≡ nodesReply (now (net .entry)) (now (sheet .entry)) ⌝ }
 {
-    task_nodes(net, Limits::TRANSITIONS, sheet, starts)
+    task_nodes(net, Limits::TRANSITIONS, sheet)
 }
 
 // The same with the sources other than s removed: an arc of a removed one is 12. A number that is no source removes none.
-pub fn task_nodes(net: &[u32], s: u32, sheet: &[u32], starts: &[u16; 4096]) -> NodesAnswer
-    ensures { λ r. ⌜ r ≡ taskNodesReply (now (starts .entry)) (now (net .entry)) s (now (sheet .entry)) ⌝ }
+pub fn task_nodes(net: &[u32], s: u32, sheet: &[u32]) -> NodesAnswer
+    ensures { λ r. ⌜ r ≡ taskNodesReply (now (net .entry)) s (now (sheet .entry)) ⌝ }
 {
     let choices = choice_sets::choices_only(net, s);
     let leaders = choices.leaders;
@@ -71,7 +71,7 @@ pub fn task_nodes(net: &[u32], s: u32, sheet: &[u32], starts: &[u16; 4096]) -> N
     let mut n = 0;
     while n < nodes {
         let offer = offers::offered(
-            graph::arc_entries(net, sheet, starts, n as u32),
+            graph::arc_entries(net, sheet, n as u32),
             leaders,
             transitions,
         );

@@ -9,7 +9,6 @@ use Rattle.scan.proofs.Tests.{le-ltb, lt-suc-cases}
 use Rattle.scan.proofs.Tabulate.{tabulate-at, stored-more}
 use Rattle.automaton.specs.Automaton.{Automaton}
 use Rattle.table.specs.Row.{entryCode}
-use Rattle.row_starts.specs.RowStarts.{page}
 use Rattle.sequential.specs.Petri.{PetriNet, petriNet}
 use Rattle.sequential.specs.Words.{nodeCount, entryValue, arcEntry, arc, countAt, graph}
 use Rattle.sequential.proofs.Entries.{marking-at, graph-closed}
@@ -88,20 +87,20 @@ module _ {net sheet : List ℕ} (r : ArcsReadable net sheet) {M : Automaton} {no
   abbrev n : ℕ
   n = getD nodes i 0
 
-  arc-at : {starts : List ℕ} → starts ≡ page → (t : ℕ) → t < 32 → getD (arcCells starts net sheet numbers n) t 0 ≡ arcCode (M .arc i t)
+  arc-at : (t : ℕ) → t < 32 → getD (arcCells net sheet numbers n) t 0 ≡ arcCode (M .arc i t)
   unfolding arcCells arcCellAt arcEntryCode arc
-  arc-at {starts} e t h =
-      tabulate-at (arcCellAt starts net sheet numbers n) 0 32 t h
-      ∙ rw (arcs-right net sheet r n (k .node i l) e, tabulate-at (arcEntryCode N sheet n) 0 32 t h, k .arcs i t l) (cell-code sheet numbers (arcEntry N sheet n t))
+  arc-at t h =
+      tabulate-at (arcCellAt net sheet numbers n) 0 32 t h
+      ∙ rw (arcs-right net sheet r n (k .node i l), tabulate-at (arcEntryCode N sheet n) 0 32 t h, k .arcs i t l) (cell-code sheet numbers (arcEntry N sheet n t))
 
   arc-past : (t : ℕ) → N .transitions ≤ t → M .arc i t ≡ none
   arc-past t h = k .arcs i t l ∙ ap (Option·map (numberIn numbers)) (graph-closed N sheet (r .sizes .some-transition) (r .holds) .bounded n t h)
 
-  pub arc-row : {starts : List ℕ} → starts ≡ page → {row : Row} → row .first ≡ i * N .transitions → row .cells ≡ arcCells starts net sheet numbers (getD nodes i 0) → RowOf N M Numbers i row
-  arc-row e f c = record {
+  pub arc-row : {row : Row} → row .first ≡ i * N .transitions → row .cells ≡ arcCells net sheet numbers (getD nodes i 0) → RowOf N M Numbers i row
+  arc-row f c = record {
     first = f;
-    entry = λ t h. rw c (arc-at e t (omega (arith, r .sizes .few-transitions)));
-    past = λ t h m. rw c (arc-at e t m ∙ ap arcCode (arc-past t h));
+    entry = λ t h. rw c (arc-at t (omega (arith, r .sizes .few-transitions)));
+    past = λ t h m. rw c (arc-at t m ∙ ap arcCode (arc-past t h));
   }
 
   count-at : (p : ℕ) → p < 32 → getD (markingRow net sheet n) p 0 ≡ countAt N sheet n p

@@ -26,10 +26,9 @@ unfoldable pub arcCell : List ℕ → List ℕ → ℕ → ℕ
 arcCell sheet numbers zero = 0
 arcCell sheet numbers (suc i) = numberIn numbers (entryValue sheet i) + 1
 
--- by a page of row starts
-module _ (starts net sheet numbers : List ℕ) (n : ℕ) where
+module _ (net sheet numbers : List ℕ) (n : ℕ) where
   unfoldable pub arcCellAt : ℕ → ℕ
-  arcCellAt t = arcCell sheet numbers (getD (arcEntryRow starts net sheet n) t 0)
+  arcCellAt t = arcCell sheet numbers (getD (arcEntryRow net sheet n) t 0)
 
   unfoldable pub arcCells : List ℕ
   arcCells = tabulate arcCellAt 32

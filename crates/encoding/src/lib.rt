@@ -102,16 +102,10 @@ fn arc_cell(sheet: &[u32], numbers: [u8; 128], told: usize) -> u32
 }
 
 // The cells of node n's arcs, with the numbers of a table for the nodes that they lead to, and 0 for one that it does not have.
-pub fn arc_cells(
-    net: &[u32],
-    sheet: &[u32],
-    starts: &[u16; 4096],
-    numbers: [u8; 128],
-    n: u32,
-) -> [u32; 32]
-    ensures { λ r. ⌜ r ≡ arcCells (now (starts .entry)) (now (net .entry)) (now (sheet .entry)) numbers n ⌝ }
+pub fn arc_cells(net: &[u32], sheet: &[u32], numbers: [u8; 128], n: u32) -> [u32; 32]
+    ensures { λ r. ⌜ r ≡ arcCells (now (net .entry)) (now (sheet .entry)) numbers n ⌝ }
 {
-    let told = graph::arc_entries(net, sheet, starts, n);
+    let told = graph::arc_entries(net, sheet, n);
     let mut cells = [0u32; 32];
     let mut t = 0;
     while t < 32 {

@@ -17,18 +17,18 @@ readable : {net sheet : List ℕ} → IsNet net → WordsPass (petriNet net) she
 readable {net} {sheet} i w = arcs-readable (net-judged net .accepts .1 i) (words-hold (petriNet net) sheet w .arcs)
 
 pub rows-mean : RowsMean
-rows-mean starts net sheet n e i w l =
+rows-mean net sheet n i w l =
     let r : ArcsReadable net sheet = readable i w in
     record {
       marking = marking-right net sheet r n l;
-      arcs = arcs-right net sheet r n l e;
+      arcs = arcs-right net sheet r n l;
       counts = counts-right net sheet r n l;
       target = λ t. unfold arc in refl;
       held = count-held (petriNet net) sheet n;
     }
 
 pub arc-look-up-means : ArcLookUpMeans
-arc-look-up-means starts net sheet n t e i w = look-up-right e net sheet (readable i w) n t
+arc-look-up-means net sheet n t i w = look-up-right net sheet (readable i w) n t
 
 pub arc-count-means : ArcCountMeans
 arc-count-means net sheet i p = arc-count-right net sheet (arcs-readable (net-judged net .accepts .1 i) (arcs-hold (petriNet net) sheet p))

@@ -3,7 +3,6 @@ use Rattle.scan.proofs.Basics.{ℕ, _+_, _≤_, _<_, arith, _≡_, refl, sym, _
 use native.Mathlib.Decide.{decLt}
 use lib.ListN.{List·getD-eq-default}
 use Rattle.scan.proofs.Tests.{lt-ltb, le-ltb, byTest, not-true→false}
-use Rattle.row_starts.specs.RowStarts.{page}
 use Rattle.table.specs.Table.{valueAt}
 use Rattle.table.specs.Bisection.{foundOf}
 use Rattle.table.specs.declared.Found.the-variants.{At, Nothing}
@@ -24,9 +23,9 @@ found-same none (some i) e = cc
 found-same (some i) none e = cc
 found-same (some i) (some j) e = cc
 
-module _ {starts : List ℕ} (q : starts ≡ page) (net sheet : List ℕ) (r : ArcsReadable net sheet) (n t : ℕ) where
+module _ (net sheet : List ℕ) (r : ArcsReadable net sheet) (n t : ℕ) where
   -- at a node, below T, the look-up among rising keys is the entry with the key; elsewhere there is neither
-  pub look-up-right : arcLookUp starts net sheet n t ≡ foundOf (arcEntry (petriNet net) sheet n t)
+  pub look-up-right : arcLookUp net sheet n t ≡ foundOf (arcEntry (petriNet net) sheet n t)
   unfolding arcLookUp arcEntry entryWithKey
   look-up-right =
       let w = r .holds in
@@ -35,7 +34,7 @@ module _ {starts : List ℕ} (q : starts ≡ page) (net sheet : List ℕ) (r : A
         | yes l ↦
             let m : n < 128 = omega arith in
             byTest (ltb t (transitionCount net))
-            (λ e. rw (lt-ltb n (nodeCount sheet) l, e, has-row net sheet n r l, arcs-start-is q net n m (s .some-transition) (s .few-transitions))
+            (λ e. rw (lt-ltb n (nodeCount sheet) l, e, has-row net sheet n r l, arcs-start-is net n m (s .some-transition) (s .few-transitions))
             (look-up sheet 2 (entryCount sheet) _ (words-rise _ sheet w) (words-fit _ sheet w)))
             (λ e. rw (lt-ltb n (nodeCount sheet) l, e))
         | no l ↦
@@ -46,10 +45,10 @@ module _ {starts : List ℕ} (q : starts ≡ page) (net sheet : List ℕ) (r : A
       ]
 
   -- so what is found is the arc's entry, and where nothing is found it has none
-  pub arc-found : (i : ℕ) → arcLookUp starts net sheet n t ≡ At i → arcEntry (petriNet net) sheet n t ≡ some i
+  pub arc-found : (i : ℕ) → arcLookUp net sheet n t ≡ At i → arcEntry (petriNet net) sheet n t ≡ some i
   arc-found i h = found-same _ (some i) (sym look-up-right ∙ h)
 
-  pub arc-missing : arcLookUp starts net sheet n t ≡ Nothing → arcEntry (petriNet net) sheet n t ≡ none
+  pub arc-missing : arcLookUp net sheet n t ≡ Nothing → arcEntry (petriNet net) sheet n t ≡ none
   arc-missing h = found-same _ none (sym look-up-right ∙ h)
 
 -- past the words an entry's value is 0

@@ -2,7 +2,6 @@
 use Rattle.scan.proofs.Basics.{ℕ, _+_, _*_, _≤_, _<_, arith, _≡_, refl, sym, _∙_, Bool, true, false, cond, _&&_, ltb, Option, none, List}
 use Rattle.scan.proofs.Tests.{lt-ltb, byTest}
 use Rattle.scan.specs.Scan.{foundOr, tabulate}
-use Rattle.row_starts.specs.RowStarts.{page}
 use Rattle.table.specs.Row.{entryCode}
 use Rattle.table.proofs.Row.{entry-row-is, value-row-is}
 use Rattle.net.specs.Net.{placeCount, transitionCount}
@@ -37,8 +36,8 @@ module _ (net sheet : List ℕ) (r : ArcsReadable net sheet) (n : ℕ) (l : n < 
   few : n ≤ 128
   few = omega (arith, r .sizes .few-nodes)
 
-  first-arc : {starts : List ℕ} → starts ≡ page → arcsStart starts net n ≡ n * transitionCount net
-  first-arc e = let s = r .sizes in arcs-start-is e net n (omega arith) (s .some-transition) (s .few-transitions)
+  first-arc : arcsStart net n ≡ n * transitionCount net
+  first-arc = let s = r .sizes in arcs-start-is net n (omega arith) (s .some-transition) (s .few-transitions)
 
   first-count : countsStart net (nodeCount sheet) n ≡ nodeCount sheet * transitionCount net + n * placeCount net
   first-count = sym (counts-start net (nodeCount sheet) n few (r .sizes .few-places)) ∙ rw (← arcs-end net (nodeCount sheet) (r .sizes .few-nodes) (r .sizes .few-transitions)) refl
@@ -49,10 +48,10 @@ module _ (net sheet : List ℕ) (r : ArcsReadable net sheet) (n : ℕ) (l : n < 
       rw (has-row net sheet n r l, first-count) (value-row-is sheet 2 (entryCount sheet) (nodeCount sheet * transitionCount net + n * placeCount net) (placeCount net)
       (words-rise N sheet w) (omega (arith, w .shape .whole)) (countAt N sheet n) (λ p h. rw (lt-ltb n (nodeCount sheet) l)))
 
-  pub arcs-right : {starts : List ℕ} → starts ≡ page → arcEntryRow starts net sheet n ≡ tabulate (arcEntryCode (petriNet net) sheet n) 32
+  pub arcs-right : arcEntryRow net sheet n ≡ tabulate (arcEntryCode (petriNet net) sheet n) 32
   unfolding arcEntryRow arcEntryCode arcEntry entryWithKey
-  arcs-right e =
-      rw (has-row net sheet n r l, first-arc e) (entry-row-is sheet 2 (entryCount sheet) (n * transitionCount net) (transitionCount net) (words-rise N sheet w) (words-fit N sheet w)
+  arcs-right =
+      rw (has-row net sheet n r l, first-arc) (entry-row-is sheet 2 (entryCount sheet) (n * transitionCount net) (transitionCount net) (words-rise N sheet w) (words-fit N sheet w)
       (arcEntryCode N sheet n) (λ t h. rw (lt-ltb n (nodeCount sheet) l) (code-cond (ltb t (transitionCount net)) _)))
 
   pub counts-right : countEntryRow net sheet n ≡ tabulate (countEntryCode (petriNet net) sheet n) 32

@@ -2,7 +2,6 @@
 use Rattle.scan.proofs.Basics.{ℕ, _+_, _*_, _≤_, _<_, arith, _≡_, refl, _&&_, leb, List}
 use native.Mathlib.Nat.{mul-le-mul}
 use Rattle.scan.proofs.Tests.{leb-true, le-leb, byTest, and-left, and-right}
-use Rattle.row_starts.specs.RowStarts.{page}
 use Rattle.row_starts.proofs.Page.{start-is}
 use Rattle.net.specs.Net.{placeCount, transitionCount}
 use Rattle.graph.specs.Rows.{arcsStart, arcsEnd, countsStart}
@@ -30,8 +29,7 @@ module _ (net : List ℕ) (nodes n : ℕ) where
       (λ e. rw e (omega (arith, arcs-end-low net nodes, mul-le-mul (leb-true n 128 (and-left _ _ e)) (leb-true (placeCount net) 32 (and-right (leb n 128) _ e)))))
       (λ e. rw e (omega arith))
 
--- on the manual's page the first key of a node's arcs is n × T
-pub arcs-start-is : {starts : List ℕ} → starts ≡ page → (net : List ℕ) (n : ℕ) → n < 128 → 1 ≤ transitionCount net → transitionCount net ≤ 32
-    → arcsStart starts net n ≡ n * transitionCount net
+-- the first key of a node's arcs is n × T
+pub arcs-start-is : (net : List ℕ) (n : ℕ) → n < 128 → 1 ≤ transitionCount net → transitionCount net ≤ 32 → arcsStart net n ≡ n * transitionCount net
 unfolding arcsStart
-arcs-start-is e net n l a b = start-is n (transitionCount net) e l a b
+arcs-start-is net n l a b = start-is n (transitionCount net) l a b

@@ -4,7 +4,6 @@ use mathlib.Core.Path.{_≡_}
 use mathlib.Core.List.{List}
 use mathlib.Core.Option.{Option·map}
 use Rattle.scan.specs.Scan.{foundOr, tabulate}
-use Rattle.row_starts.specs.RowStarts.{page}
 use Rattle.refusal.specs.Limits.{mostPlaces, mostTransitions}
 use Rattle.refusal.specs.Checks.{AllPass}
 use Rattle.net.specs.Checks.{IsNet}
@@ -17,16 +16,16 @@ use Rattle.graph.specs.Rows.{countEntry, arcEntryCode, countEntryCode, m
 use Rattle.graph.specs.LookUp.{arcLookUp}
 
 -- what each place holds at a node, 0 from P on; and the entries of its arcs and of its counts, told as 1 plus the index and as 0 where there is none
-pub record RowsRight (starts net sheet : List ℕ) (n : ℕ) : Type 0 where
+pub record RowsRight (net sheet : List ℕ) (n : ℕ) : Type 0 where
   pub marking : markingRow net sheet n ≡ tabulate (countAt (petriNet net) sheet n) mostPlaces
-  pub arcs : arcEntryRow starts net sheet n ≡ tabulate (arcEntryCode (petriNet net) sheet n) mostTransitions
+  pub arcs : arcEntryRow net sheet n ≡ tabulate (arcEntryCode (petriNet net) sheet n) mostTransitions
   pub counts : countEntryRow net sheet n ≡ tabulate (countEntryCode (petriNet net) sheet n) mostPlaces
   -- the value of an arc's entry is its target, that of a count's the count
   pub target : (t : ℕ) → arc (petriNet net) sheet n t ≡ Option·map (entryValue sheet) (arcEntry (petriNet net) sheet n t)
   pub held : (p : ℕ) → countAt (petriNet net) sheet n p ≡ foundOr 0 (entryValue sheet) (countEntry (petriNet net) sheet n p)
 
 abbrev pub RowsMean : Type 0
-RowsMean = (starts net sheet : List ℕ) (n : ℕ) → starts ≡ page → IsNet net → WordsPass (petriNet net) sheet → n < nodeCount sheet → RowsRight starts net sheet n
+RowsMean = (net sheet : List ℕ) (n : ℕ) → IsNet net → WordsPass (petriNet net) sheet → n < nodeCount sheet → RowsRight net sheet n
 
 -- what is answered as the number of arcs is how many entries are arcs, whatever the counts
 abbrev pub ArcCountMeans : Type 0
@@ -34,5 +33,4 @@ ArcCountMeans = (net sheet : List ℕ) → IsNet net → AllPass (arcWordChecks 
 
 -- the look-up of an arc finds its entry, where it has one
 abbrev pub ArcLookUpMeans : Type 0
-ArcLookUpMeans = (starts net sheet : List ℕ) (n t : ℕ) → starts ≡ page → IsNet net → WordsPass (petriNet net) sheet
-    → arcLookUp starts net sheet n t ≡ foundOf (arcEntry (petriNet net) sheet n t)
+ArcLookUpMeans = (net sheet : List ℕ) (n t : ℕ) → IsNet net → WordsPass (petriNet net) sheet → arcLookUp net sheet n t ≡ foundOf (arcEntry (petriNet net) sheet n t)

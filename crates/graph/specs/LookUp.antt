@@ -11,6 +11,6 @@ use Rattle.net.specs.Net.{transitionCount}
 use Rattle.sequential.specs.Words.{entryCount}
 use Rattle.graph.specs.Rows.{arcsStart, hasRow}
 
-module _ (starts net sheet : List ℕ) (n t : ℕ) where
+module _ (net sheet : List ℕ) (n t : ℕ) where
   unfoldable pub arcLookUp : Found
-  arcLookUp = cond (ltb t (transitionCount net)) (cond (hasRow net sheet n) (lookUp sheet 2 (entryCount sheet) (arcsStart starts net n + t)) Nothing) Nothing
+  arcLookUp = cond (ltb t (transitionCount net)) (cond (hasRow net sheet n) (lookUp sheet 2 (entryCount sheet) (arcsStart net n + t)) Nothing) Nothing

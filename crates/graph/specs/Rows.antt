@@ -32,9 +32,9 @@ module _ (N : PetriNet) (sheet : List ℕ) (n : ℕ) where
 
 -- ---- rows
 
--- the first key of node n's arcs (§3.5), which a page of row starts has: n × T on the manual's (§3.9)
-unfoldable pub arcsStart : List ℕ → List ℕ → ℕ → ℕ
-arcsStart starts net n = rowStart starts n (transitionCount net)
+-- the first key of node n's arcs (§3.5), which the page of row starts has (§3.9)
+unfoldable pub arcsStart : List ℕ → ℕ → ℕ
+arcsStart net n = rowStart n (transitionCount net)
 
 -- where the keys of all arcs end (§3.5), 0 where a size is out of range
 unfoldable pub arcsEnd : List ℕ → ℕ → ℕ
@@ -64,10 +64,8 @@ module _ (net sheet : List ℕ) (n : ℕ) where
   unfoldable pub countEntryRow : List ℕ
   countEntryRow = cond hasRow (entryRow sheet 2 (entryCount sheet) (countsStart net (nodeCount sheet) n) (placeCount net)) (replicate mostPlaces 0)
 
--- by a page of row starts
-unfoldable pub arcEntryRow : List ℕ → List ℕ → List ℕ → ℕ → List ℕ
-arcEntryRow starts net sheet n =
-    cond (hasRow net sheet n) (entryRow sheet 2 (entryCount sheet) (arcsStart starts net n) (transitionCount net)) (replicate mostTransitions 0)
+  unfoldable pub arcEntryRow : List ℕ
+  arcEntryRow = cond hasRow (entryRow sheet 2 (entryCount sheet) (arcsStart net n) (transitionCount net)) (replicate mostTransitions 0)
 
 -- how many entries have a key before those of counts: on keys that rise, the arcs
 unfoldable pub arcCountReply : List ℕ → List ℕ → ℕ

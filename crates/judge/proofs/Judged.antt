@@ -4,7 +4,6 @@ use Rattle.scan.proofs.Tests.{le-ltb}
 use Rattle.scan.specs.Scan.{orElse, first, count}
 use Rattle.scan.proofs.Count.{count-ext}
 use Rattle.scan.proofs.First.{orElse-left, orElse-right, orElse-assoc}
-use Rattle.row_starts.specs.RowStarts.{page}
 use Rattle.refusal.proofs.Verdicts.{answer-none, verdict-next, then-next, then-accepted}
 use Rattle.refusal.specs.Verdict.{verdictOf, andThen}
 use Rattle.net.specs.Net.{transitionCount}
@@ -85,16 +84,16 @@ return-to N s sheet = refl
 -- ---- the await nodes
 
 -- what is found at the nodes, and the marks that come where nothing is
-module _ {starts net sheet : List ℕ} (s : ℕ) (p : starts ≡ page) (r : Readable net sheet) {nodes : NodesAnswer} (told : nodes ≡ taskNodesReply starts net s sheet) where
+module _ {net sheet : List ℕ} (s : ℕ) (r : Readable net sheet) {nodes : NodesAnswer} (told : nodes ≡ taskNodesReply net s sheet) where
   abbrev N : PetriNet
   N = only (petriNet net) s
 
   pub nodes-told : nodes .verdict ≡ verdictOf (orElse (first (nodeFault N sheet) (nodeCount sheet)) (rootFault N sheet))
-  nodes-told = rw told (task-verdict-right p net s sheet (r .arcs))
+  nodes-told = rw told (task-verdict-right net s sheet (r .arcs))
 
   await-marks : nodes .verdict ≡ Accepted → AwaitMarks N sheet (nodes .awaits)
   unfolding isMarked
-  await-marks h n l = rw told (ap (ltb 0) (task-awaits-right p net s sheet (r .arcs) (rw told at h) n l) ∙ bit-mark (isAwait N (graph N sheet) n))
+  await-marks h n l = rw told (ap (ltb 0) (task-awaits-right net s sheet (r .arcs) (rw told at h) n l) ∙ bit-mark (isAwait N (graph N sheet) n))
 
   -- 16 and 17 by these marks
   pub paths-told : nodes .verdict ≡ Accepted → {v : Verdict} → v ≡ pathsReply net sheet (nodes .awaits)
@@ -114,12 +113,12 @@ module _ {net : List ℕ} {s : ℕ} {sheet : List ℕ} where
       let q = words-refused net s sheet r (sym e ∙ h) in
       record { reply = e ∙ q; marks = λ a. absurd (let z : _≡_ {A = ℕ} 0 1 = cc in omega arith) }
 
-  pub judged-graph : {starts : List ℕ} → starts ≡ page → wordsReply net sheet ≡ Accepted → {v : Verdict} {nodes : NodesAnswer} → nodes ≡ taskNodesReply starts net s sheet
+  pub judged-graph : wordsReply net sheet ≡ Accepted → {v : Verdict} {nodes : NodesAnswer} → nodes ≡ taskNodesReply net s sheet
       → v ≡ verdictOf (graphFault (only (petriNet net) s) sheet)
       → Judged net s sheet (record { verdict = v; awaits = nodes .awaits })
-  judged-graph p w told e =
+  judged-graph w told e =
       let q = words-accepted net s sheet w in
-      record { reply = e ∙ sym q; marks = λ a. graph-marks s p (reply-readable net sheet w) told (sym q ∙ a) }
+      record { reply = e ∙ sym q; marks = λ a. graph-marks s (reply-readable net sheet w) told (sym q ∙ a) }
 
 -- ---- of the whole net
 

@@ -5,7 +5,6 @@ use Rattle.scan.specs.Scan.{orElse, when, first, bit}
 use Rattle.scan.proofs.First.{orElse-left, orElse-right, when-hit, when-miss, when-none, first-all}
 use Rattle.scan.proofs.Every.{all-in}
 use Rattle.scan.proofs.Tabulate.{tabulate-at}
-use Rattle.row_starts.specs.RowStarts.{page}
 use Rattle.refusal.specs.Limits.{mostEntries}
 use Rattle.refusal.specs.Refusal.{refusal}
 use Rattle.refusal.specs.Finding.{foundAt, lineFinds}
@@ -58,16 +57,16 @@ module _ (net sheet : List ℕ) where
   unfolding arcsVerdict
   words-refused e h = e ∙ sym (then-refused (arcsReply net sheet) _ _ (sym e ∙ h))
 
-  module _ {starts : List ℕ} (p : starts ≡ page) (w : arcsReply net sheet ≡ Accepted) {nodes : NodesAnswer} (told : nodes ≡ nodesReply starts net sheet) where
+  module _ (w : arcsReply net sheet ≡ Accepted) {nodes : NodesAnswer} (told : nodes ≡ nodesReply net sheet) where
     r : ArcsReadable net sheet
     r = reply-arcs net sheet w
 
     nodes-told : nodes .verdict ≡ verdictOf (orElse (first (nodeFault (petriNet net) sheet) (nodeCount sheet)) (rootFault (petriNet net) sheet))
-    nodes-told = rw told (verdict-right p net sheet r)
+    nodes-told = rw told (verdict-right net sheet r)
 
     await-marks : nodes .verdict ≡ Accepted → AwaitMarks (petriNet net) sheet (nodes .awaits)
     unfolding isMarked
-    await-marks h n l = rw told (ap (ltb 0) (awaits-right p net sheet r (rw told at h) n l) ∙ bit-mark (isAwait (petriNet net) (graph (petriNet net) sheet) n))
+    await-marks h n l = rw told (ap (ltb 0) (awaits-right net sheet r (rw told at h) n l) ∙ bit-mark (isAwait (petriNet net) (graph (petriNet net) sheet) n))
 
     pub nodes-refused : {v : Verdict} {r : Refusal} → v ≡ nodes .verdict → v ≡ Refused r → v ≡ arcsVerdict net sheet
     unfolding arcsVerdict

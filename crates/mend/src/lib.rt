@@ -16,7 +16,7 @@ use refusal::Verdict;
 pub fn mend_into(net: &[u32], sheet: &[u32], out: &mut [u32], list: &mut [u32]) -> MendAnswer
     ensures { λ r. ⌜ MendWritten (now (net .entry)) (now (sheet .entry)) (now (out .entry)) (now (list .entry)) r (now (out .exit)) (now (list .exit)) ⌝ }
 {
-    let measure = measure::measured(net, sheet, &row_starts::PAGE);
+    let measure = measure::measured(net, sheet);
     let found = measure.verdict;
     if let Verdict::Refused(r) = found {
         return MendAnswer::Refused(r);

@@ -1,6 +1,5 @@
 // What mending finds out before it writes: the checks in their order, and how many words both results have.
 ghost use mathlib.Core.Path.{_≡_};
-ghost use Rattle.row_starts.specs.RowStarts as manual;
 ghost use Rattle.refusal.specs.Refusal.{refusal};
 ghost use Rattle.refusal.specs.declared.Position.the-variants.{Nothing};
 ghost use Rattle.mend.specs.Measure.{arcsVerdict, Measured};
@@ -21,15 +20,14 @@ pub(crate) struct Measure {
 }
 
 // Refusals 1 to 9 and 26, 9 of arcs alone, 11 to 13, 16 and 17.
-fn checked(net: &[u32], sheet: &[u32], page: &[u16; 4096]) -> Verdict
-    requires { ⌜ now page ≡ manual.page ⌝ }
+fn checked(net: &[u32], sheet: &[u32]) -> Verdict
     ensures { λ r. ⌜ r ≡ arcsVerdict (now (net .entry)) (now (sheet .entry)) ⌝ }
 {
     let found = graph::check_arcs(net, sheet);
     if let Verdict::Refused(_) = found {
         return found;
     }
-    let nodes = choice::nodes(net, sheet, page);
+    let nodes = choice::nodes(net, sheet);
     let found = nodes.verdict;
     if let Verdict::Refused(_) = found {
         return found;
@@ -56,15 +54,14 @@ fn no_counts() -> Measure
     refused(refusal::refuse(Refusal::NO_COUNTS_FIT, Position::Nothing))
 }
 
-pub(crate) fn measured(net: &[u32], sheet: &[u32], page: &[u16; 4096]) -> Measure
-    requires { ⌜ now page ≡ manual.page ⌝ }
+pub(crate) fn measured(net: &[u32], sheet: &[u32]) -> Measure
     ensures { λ r. ⌜ Measured (now (net .entry)) (now (sheet .entry)) (r .verdict) (r .finder) (r .entries) (r .changes) ⌝ }
 {
-    let found = checked(net, sheet, page);
+    let found = checked(net, sheet);
     if let Verdict::Refused(_) = found {
         return refused(found);
     }
-    let nodes = search::search(net, sheet, page);
+    let nodes = search::search(net, sheet);
     if !places::all_fit(net, sheet, nodes) {
         return no_counts();
     }

@@ -19,11 +19,11 @@ use Rattle.sequential.specs.Words.{nodeCount, entryCount, entryKey, entryValue,
 use Rattle.sequential.specs.Known.{WordsHold}
 use Rattle.sequential.proofs.Words.{words-rise, words-fit}
 use Rattle.sequential.proofs.Entries.{marking-node, row-lt}
-use Rattle.graph.specs.Readable.{Sizes}
+use Rattle.graph.specs.Readable.{Readable, Sizes}
 use Rattle.graph.proofs.Readable.{known, words}
 use Rattle.graph.proofs.Starts.{arcs-end, arcs-start-is, counts-start, counts-start-low}
 use Rattle.encoding.proofs.Reading.{arc-inside}
-use Rattle.minimize.specs.Tables.{Paged, classIn}
+use Rattle.minimize.specs.Tables.{classIn}
 use Rattle.minimize.specs.Agree.{hasKey, keyValue, valuesAgree, keysAgree, Valued, Row, Rows, rowKey, rowWidth, firstEntry}
 use Rattle.minimize.specs.Leaders.{rowsAlike}
 
@@ -167,43 +167,43 @@ value-test sheet none (some j) p q = ne-eqb 0 (entryValue sheet j) (λ e. let z 
 value-test sheet (some i) none p q = ne-eqb (entryValue sheet i) 0 (λ e. let z = p i refl in omega arith)
 value-test sheet (some i) (some j) p q = refl
 
-module _ {starts net sheet : List ℕ} (paged : Paged starts net sheet) where
+module _ {net sheet : List ℕ} (readable : Readable net sheet) where
   abbrev N : PetriNet
   N = petriNet net
 
   w : WordsHold N sheet
-  w = words net sheet (paged .readable)
+  w = words net sheet readable
 
   k : Sizes net sheet
-  k = known net sheet (paged .readable)
+  k = known net sheet readable
 
   -- ---- the first key of a row, and where the row starts
 
-  pub first-arc : {n : ℕ} → n < nodeCount sheet → rowKey starts net sheet false n ≡ n * N .transitions
+  pub first-arc : {n : ℕ} → n < nodeCount sheet → rowKey net sheet false n ≡ n * N .transitions
   unfolding rowKey
-  first-arc {n} l = arcs-start-is (paged .by-page) net n (omega (arith, k .few-nodes)) (k .some-transition) (k .few-transitions)
+  first-arc {n} l = arcs-start-is net n (omega (arith, k .few-nodes)) (k .some-transition) (k .few-transitions)
 
-  first-count : {n : ℕ} → n < nodeCount sheet → rowKey starts net sheet true n ≡ nodeCount sheet * N .transitions + n * N .places
+  first-count : {n : ℕ} → n < nodeCount sheet → rowKey net sheet true n ≡ nodeCount sheet * N .transitions + n * N .places
   unfolding rowKey
   first-count {n} l =
       sym (counts-start net (nodeCount sheet) n (omega (arith, k .few-nodes)) (k .few-places)) ∙ rw (← arcs-end net (nodeCount sheet) (k .few-nodes) (k .few-transitions)) refl
 
-  row-low : (counts : Bool) {n : ℕ} → n < nodeCount sheet → rowKey starts net sheet counts n + rowWidth net counts ≤ 8224
+  row-low : (counts : Bool) {n : ℕ} → n < nodeCount sheet → rowKey net sheet counts n + rowWidth net counts ≤ 8224
   unfolding rowWidth
   row-low true {n} l = unfold rowKey in (omega (arith, counts-start-low net (nodeCount sheet) n, k .few-places))
   row-low false {n} l =
       let few : n ≤ 128 = omega (arith, k .few-nodes) in
       rw (first-arc l) (omega (arith, mul-le-mul few (k .few-transitions), k .few-transitions))
 
-  pub start-low : (counts : Bool) (n : ℕ) → firstEntry starts net sheet counts n ≤ 4096
+  pub start-low : (counts : Bool) (n : ℕ) → firstEntry net sheet counts n ≤ 4096
   unfolding firstEntry
   start-low counts n =
-      omega (arith, lower-bound sheet 2 (entryCount sheet) (rowKey starts net sheet counts n) (words-rise N sheet (w .arcs)) (words-fit N sheet (w .arcs)) .within, k .few-entries)
+      omega (arith, lower-bound sheet 2 (entryCount sheet) (rowKey net sheet counts n) (words-rise N sheet (w .arcs)) (words-fit N sheet (w .arcs)) .within, k .few-entries)
 
   -- ---- an arc's target is a node
 
   pub row-valued : {classes : List ℕ} (counts : Bool) {n : ℕ} → length classes ≡ 128 → n < nodeCount sheet → (t i : ℕ) → t < rowWidth net counts
-      → hasKey sheet i (rowKey starts net sheet counts n + t) ≡ true → Valued sheet classes counts i
+      → hasKey sheet i (rowKey net sheet counts n + t) ≡ true → Valued sheet classes counts i
   unfolding rowWidth
   row-valued true long ln t i l h = record { whole = k .long; within = has-within sheet i _ h; target = λ z. true-false true refl z }
   row-valued false {n} long ln t i l h = record {
@@ -215,32 +215,32 @@ module _ {starts net sheet : List ℕ} (paged : Paged starts net sheet) where
   }
 
   module _ {classes : List ℕ} {counts : Bool} {n m : ℕ} (long : length classes ≡ 128) (ln : n < nodeCount sheet) (lm : m < nodeCount sheet) where
-    row : {j i : ℕ} → j < nodeCount sheet → i ≡ firstEntry starts net sheet counts j → Row sheet classes counts (rowWidth net counts) (rowKey starts net sheet counts j) i
+    row : {j i : ℕ} → j < nodeCount sheet → i ≡ firstEntry net sheet counts j → Row sheet classes counts (rowWidth net counts) (rowKey net sheet counts j) i
     unfolding firstEntry
     row l p = record { low = row-low counts l; start = p; valued = row-valued counts long l }
 
-    pub rows : {i j : ℕ} → i ≡ firstEntry starts net sheet counts n → j ≡ firstEntry starts net sheet counts m
-        → Rows sheet classes counts (rowWidth net counts) (rowKey starts net sheet counts n) (rowKey starts net sheet counts m) i j
+    pub rows : {i j : ℕ} → i ≡ firstEntry net sheet counts n → j ≡ firstEntry net sheet counts m
+        → Rows sheet classes counts (rowWidth net counts) (rowKey net sheet counts n) (rowKey net sheet counts m) i j
     rows p q = record { whole = k .long; rising = words-rise N sheet (w .arcs); left = row ln p; right = row lm q }
 
   -- ---- the rows walked to the end
 
-  pub arc-value : {n t : ℕ} → n < nodeCount sheet → t < N .transitions → arc N sheet n t ≡ keyValue sheet (rowKey starts net sheet false n + t)
+  pub arc-value : {n t : ℕ} → n < nodeCount sheet → t < N .transitions → arc N sheet n t ≡ keyValue sheet (rowKey net sheet false n + t)
   unfolding keyValue
   arc-value {n} {t} l m = rw (first-arc l) (arc-inside N sheet n t l m)
 
-  count-some : (n p i : ℕ) → n < nodeCount sheet → entryWithKey sheet (rowKey starts net sheet true n + p) ≡ some i → 1 ≤ entryValue sheet i
+  count-some : (n p i : ℕ) → n < nodeCount sheet → entryWithKey sheet (rowKey net sheet true n + p) ≡ some i → 1 ≤ entryValue sheet i
   unfolding entryWithKey
   count-some n p i l z =
-      let (h, e) = entry-some sheet 2 (entryCount sheet) (rowKey starts net sheet true n + p) i z in
+      let (h, e) = entry-some sheet 2 (entryCount sheet) (rowKey net sheet true n + p) i z in
       w .values i h .some (unfold entryKey arcKeys in (rw (e, first-count l) (omega arith)))
 
-  count-value : {n p : ℕ} → n < nodeCount sheet → p < N .places → countAt N sheet n p ≡ foundOr 0 (entryValue sheet) (entryWithKey sheet (rowKey starts net sheet true n + p))
+  count-value : {n p : ℕ} → n < nodeCount sheet → p < N .places → countAt N sheet n p ≡ foundOr 0 (entryValue sheet) (entryWithKey sheet (rowKey net sheet true n + p))
   unfolding countAt arcKeys
   count-value {n} {p} l h = rw (first-count l, lt-ltb n (nodeCount sheet) l, lt-ltb p (N .places) h)
 
   pub walked : (classes : List ℕ) (counts : Bool) {n m : ℕ} → n < nodeCount sheet → m < nodeCount sheet
-      → all (keysAgree sheet (valuesAgree classes counts) (rowKey starts net sheet counts n) (rowKey starts net sheet counts m)) (rowWidth net counts)
+      → all (keysAgree sheet (valuesAgree classes counts) (rowKey net sheet counts n) (rowKey net sheet counts m)) (rowWidth net counts)
       ≡ rowsAlike (graph N sheet) counts (classIn classes) n m
   unfolding valuesAgree keysAgree keyValue rowWidth rowsAlike sameIn agree
   walked classes false ln lm = all-ext _ _ (N .transitions) (λ t l. unfold keyValue in (rw (arc-value ln l, arc-value lm l)))

@@ -96,10 +96,10 @@ module _ (A : Automaton) (counts : Bool) (class : ℕ → ℕ) where
       (λ d. leader-not (split A counts class) n i z (split-other-class i n d)))) r l (omega arith)
 
 -- what is read is low
-pub node-low : {page net sheet starts classes : List ℕ} {counts level : Bool} → Round page net sheet starts classes counts level → {n : ℕ} → n < nodeCount sheet → n < 128
-node-low r l = omega (arith, r .of .paged .readable .arcs .sizes .few-nodes)
+pub node-low : {net sheet starts classes : List ℕ} {counts level : Bool} → Round net sheet starts classes counts level → {n : ℕ} → n < nodeCount sheet → n < 128
+node-low r l = omega (arith, r .of .readable .arcs .sizes .few-nodes)
 
-pub own-class-low : {page net sheet starts classes : List ℕ} {counts level : Bool} → Round page net sheet starts classes counts level
+pub own-class-low : {net sheet starts classes : List ℕ} {counts level : Bool} → Round net sheet starts classes counts level
     → {n : ℕ} → n < nodeCount sheet → getD classes n 0 ≤ n
 unfolding classIn
 own-class-low r {n} l = r .least n n l l refl
@@ -176,9 +176,9 @@ module _ (A : Automaton) (c : Closed A) (k : ℕ) (classes : List ℕ) (is : Lea
 
 -- ---- what the rounds read
 
-module _ {page net sheet starts classes : List ℕ} (long : length classes ≡ 128) where
+module _ {net sheet starts classes : List ℕ} (long : length classes ≡ 128) where
   -- the first, by counts: all nodes are of one class
-  pub first-reads : StartsOf page net sheet true starts → ((n : ℕ) → getD classes n 0 ≡ 0) → Round page net sheet starts classes true false
+  pub first-reads : StartsOf net sheet true starts → ((n : ℕ) → getD classes n 0 ≡ 0) → Round net sheet starts classes true false
   unfolding classIn
   first-reads S z = record {
     of = S;
@@ -190,9 +190,9 @@ module _ {page net sheet starts classes : List ℕ} (long : length classes ≡ 1
   }
 
   -- the others, by arcs, and level from the second on
-  pub next-reads : StartsOf page net sheet false starts → Closed (graph (petriNet net) sheet) → (k : ℕ)
+  pub next-reads : StartsOf net sheet false starts → Closed (graph (petriNet net) sheet) → (k : ℕ)
       → LeadersBy (sameIn (graph (petriNet net) sheet) k) (nodeCount sheet) classes → (level : Bool) → (level ≡ true → 1 ≤ k)
-      → Round page net sheet starts classes false level
+      → Round net sheet starts classes false level
   next-reads S c k is level l = record {
     of = S;
     long = long;

@@ -11,8 +11,9 @@ use Rattle.automaton.specs.Equivalence.{equalArcs}
 use Rattle.sequential.specs.Petri.{PetriNet, petriNet}
 use Rattle.sequential.specs.Words.{nodeCount, entryCount, entryValue, graph}
 use Rattle.sequential.proofs.Words.{words-rise, words-fit}
+use Rattle.graph.specs.Readable.{Readable}
 use Rattle.graph.proofs.Readable.{words}
-use Rattle.minimize.specs.Tables.{Paged, classIn}
+use Rattle.minimize.specs.Tables.{classIn}
 use Rattle.minimize.specs.Agree.{hasKey, valuesAgree, keysAgree, Valued, rowKey, rowWidth, firstEntry, SameOffers, StartsOf, targetsAgree, LevelRows, TwoRows}
 use Rattle.minimize.specs.Leaders.{rowsAlike}
 use Rattle.minimize.proofs.Agree.{value-at-bound, bound-hit, bound-miss, first-arc, row-valued, arc-value, start-low, walked}
@@ -37,27 +38,27 @@ module _ (sheet : List ℕ) where
       byLess x y (λ l. let a = q .below x l in let b = p .above x (omega arith) (omega (arith, q .within)) in omega arith)
       (λ g. byLess y x (λ l. let a = p .below y l in let b = q .above y (omega arith) (omega (arith, p .within)) in omega arith) (λ h. omega arith))
 
-module _ {page net sheet : List ℕ} (paged : Paged page net sheet) where
+module _ {net sheet : List ℕ} (readable : Readable net sheet) where
   abbrev N : PetriNet
   N = petriNet net
 
   -- the first key of a node's arcs, and their first entry
   abbrev key : ℕ → ℕ
-  key n = rowKey page net sheet false n
+  key n = rowKey net sheet false n
 
   abbrev first : ℕ → ℕ
-  first n = firstEntry page net sheet false n
+  first n = firstEntry net sheet false n
 
   abbrev Bound : ℕ → ℕ → Type 0
   Bound k x = LowerBound sheet 2 (entryCount sheet) k x
 
   bound : (k : ℕ) → Bound k (lowerBound sheet 2 (entryCount sheet) k)
   bound k =
-      let w = words net sheet (paged .readable) in
+      let w = words net sheet readable in
       lower-bound sheet 2 (entryCount sheet) k (words-rise N sheet (w .arcs)) (words-fit N sheet (w .arcs))
 
   rises : Rising sheet 2 (entryCount sheet)
-  rises = words-rise N sheet (words net sheet (paged .readable) .arcs)
+  rises = words-rise N sheet (words net sheet readable .arcs)
 
   -- where the arcs of n start, and where they end
   row-bound : (n : ℕ) → Bound (key n + 0) (first n)
@@ -65,7 +66,7 @@ module _ {page net sheet : List ℕ} (paged : Paged page net sheet) where
   row-bound n = rw add-zero (bound (key n))
 
   next-key : (n : ℕ) → n + 1 < nodeCount sheet → key (n + 1) ≡ key n + N .transitions
-  next-key n l = let k : n < nodeCount sheet = omega arith in first-arc paged l ∙ rw (first-arc paged k, add-one, suc-mul) refl
+  next-key n l = let k : n < nodeCount sheet = omega arith in first-arc readable l ∙ rw (first-arc readable k, add-one, suc-mul) refl
 
   row-end : (n : ℕ) → n + 1 < nodeCount sheet → Bound (key n + N .transitions) (first (n + 1))
   unfolding firstEntry
@@ -79,7 +80,7 @@ module _ {page net sheet : List ℕ} (paged : Paged page net sheet) where
   arcs-valued {classes} {n} long l p q i g h =
       let low = p .above i g (omega (arith, q .within)) in
       let top = q .below i h in
-      row-valued paged false long l (keyAt sheet 2 i - key n) i (unfold rowWidth in (omega arith))
+      row-valued readable false long l (keyAt sheet 2 i - key n) i (unfold rowWidth in (omega arith))
       (and-both _ _ (lt-ltb i (entryCount sheet) (omega (arith, q .within))) (eq-eqb (keyAt sheet 2 i) (key n + (keyAt sheet 2 i - key n)) (omega arith)))
 
   module _ (classes : List ℕ) {n m : ℕ} (ln : n < nodeCount sheet) (lm : m < nodeCount sheet) (offers : SameOffers (graph N sheet) n m) where
@@ -98,7 +99,7 @@ module _ {page net sheet : List ℕ} (paged : Paged page net sheet) where
       -- both have the key or neither
       key-there : {k e : ℕ} → k < nodeCount sheet → Bound (key k + t) e
           → found (graph N sheet .arc k t) ≡ hasKey sheet e (key k + t)
-      key-there {k} {e} lk b = ap found (arc-value paged lk l ∙ value-at-bound sheet rises (key k) t b) ∙ found-cond _ _
+      key-there {k} {e} lk b = ap found (arc-value readable lk l ∙ value-at-bound sheet rises (key k) t b) ∙ found-cond _ _
 
       both : hasKey sheet (first m + s) (key m + t) ≡ hasKey sheet (first n + s) (key n + t)
       unfolding SameOffers
@@ -157,32 +158,32 @@ module _ {page net sheet : List ℕ} (paged : Paged page net sheet) where
       pub level-walked : all (targetsAgree sheet classes (first n) (first m)) size
           ≡ rowsAlike (graph N sheet) false (classIn classes) n m
       unfolding rowWidth
-      level-walked = sym (over .0 .agreed) ∙ walked paged classes false ln lm
+      level-walked = sym (over .0 .agreed) ∙ walked readable classes false ln lm
 
 -- ---- as the code reads them
 
-pub starts-low : {page net sheet starts : List ℕ} {counts : Bool} → StartsOf page net sheet counts starts → (n : ℕ) → n < nodeCount sheet → getD starts n 0 ≤ 4096
-starts-low {counts = counts} S n l = rw (S .start n l) (start-low (S .paged) counts n)
+pub starts-low : {net sheet starts : List ℕ} {counts : Bool} → StartsOf net sheet counts starts → (n : ℕ) → n < nodeCount sheet → getD starts n 0 ≤ 4096
+starts-low {counts = counts} S n l = rw (S .start n l) (start-low (S .readable) counts n)
 
-module _ {page net sheet starts classes : List ℕ} {counts level : Bool} {n m : ℕ} (T : TwoRows page net sheet starts classes counts level n m) (e : level ≡ true) where
-  arcs-at : (k : ℕ) → k < nodeCount sheet → getD starts k 0 ≡ firstEntry page net sheet false k
-  arcs-at k l = T .of .start k l ∙ ap (λ (b : Bool). firstEntry page net sheet b k) (T .even e .arcs)
+module _ {net sheet starts classes : List ℕ} {counts level : Bool} {n m : ℕ} (T : TwoRows net sheet starts classes counts level n m) (e : level ≡ true) where
+  arcs-at : (k : ℕ) → k < nodeCount sheet → getD starts k 0 ≡ firstEntry net sheet false k
+  arcs-at k l = T .of .start k l ∙ ap (λ (b : Bool). firstEntry net sheet b k) (T .even e .arcs)
 
   pub end-inside : n + 1 < 128
-  end-inside = omega (arith, T .even e .inner, T .of .paged .readable .arcs .sizes .few-nodes)
+  end-inside = omega (arith, T .even e .inner, T .of .readable .arcs .sizes .few-nodes)
 
   pub end-low : (getD starts n 0 ≤ getD starts (n + 1) 0) × (getD starts (n + 1) 0 ≤ 4096)
   end-low =
       let d = T .even e in
-      (rw (arcs-at n (T .left), arcs-at (n + 1) (d .inner)) (level-low (T .of .paged) classes (T .left) (T .right) (d .offers) (d .inner)), starts-low (T .of) (n + 1) (d .inner))
+      (rw (arcs-at n (T .left), arcs-at (n + 1) (d .inner)) (level-low (T .of .readable) classes (T .left) (T .right) (d .offers) (d .inner)), starts-low (T .of) (n + 1) (d .inner))
 
   pub even-rows : LevelRows sheet classes (getD starts (n + 1) 0 - getD starts n 0) (getD starts n 0) (getD starts m 0)
   even-rows =
       let d = T .even e in
-      rw (arcs-at n (T .left), arcs-at m (T .right), arcs-at (n + 1) (d .inner)) (level-rows (T .of .paged) classes (T .left) (T .right) (d .offers) (d .inner) (T .long))
+      rw (arcs-at n (T .left), arcs-at m (T .right), arcs-at (n + 1) (d .inner)) (level-rows (T .of .readable) classes (T .left) (T .right) (d .offers) (d .inner) (T .long))
 
   pub even-walked : all (targetsAgree sheet classes (getD starts n 0) (getD starts m 0)) (getD starts (n + 1) 0 - getD starts n 0)
       ≡ rowsAlike (graph (petriNet net) sheet) counts (classIn classes) n m
   even-walked =
       let d = T .even e in
-      rw (d .arcs, arcs-at n (T .left), arcs-at m (T .right), arcs-at (n + 1) (d .inner)) (level-walked (T .of .paged) classes (T .left) (T .right) (d .offers) (d .inner))
+      rw (d .arcs, arcs-at n (T .left), arcs-at m (T .right), arcs-at (n + 1) (d .inner)) (level-walked (T .of .readable) classes (T .left) (T .right) (d .offers) (d .inner))

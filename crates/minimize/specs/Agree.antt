@@ -16,7 +16,8 @@ use Rattle.sequential.specs.Petri.{petriNet}
 use Rattle.sequential.specs.Words.{nodeCount, entryCount, entryValue, entryWithKey, graph}
 use Rattle.net.specs.Net.{placeCount, transitionCount}
 use Rattle.graph.specs.Rows.{arcsStart, countsStart}
-use Rattle.minimize.specs.Tables.{Paged, classIn}
+use Rattle.graph.specs.Readable.{Readable}
+use Rattle.minimize.specs.Tables.{classIn}
 
 -- counts agree where they are equal, targets of arcs where they have one class
 unfoldable pub valuesAgree : List ℕ → Bool → ℕ → ℕ → Bool
@@ -55,22 +56,22 @@ module _ (sheet : List ℕ) where
 
 -- ---- the rows of all nodes, of their counts or of their arcs
 
--- the first key of node n's row (§3.5, §3.6), that of its arcs by a page of row starts
-unfoldable pub rowKey : List ℕ → List ℕ → List ℕ → Bool → ℕ → ℕ
-rowKey starts net sheet counts n = cond counts (countsStart net (nodeCount sheet) n) (arcsStart starts net n)
+-- the first key of node n's row (§3.5, §3.6)
+unfoldable pub rowKey : List ℕ → List ℕ → Bool → ℕ → ℕ
+rowKey net sheet counts n = cond counts (countsStart net (nodeCount sheet) n) (arcsStart net n)
 
 -- how many keys it has
 unfoldable pub rowWidth : List ℕ → Bool → ℕ
 rowWidth net counts = cond counts (placeCount net) (transitionCount net)
 
 -- the entry at which it starts
-unfoldable pub firstEntry : List ℕ → List ℕ → List ℕ → Bool → ℕ → ℕ
-firstEntry starts net sheet counts n = lowerBound sheet 2 (entryCount sheet) (rowKey starts net sheet counts n)
+unfoldable pub firstEntry : List ℕ → List ℕ → Bool → ℕ → ℕ
+firstEntry net sheet counts n = lowerBound sheet 2 (entryCount sheet) (rowKey net sheet counts n)
 
 -- a table has it for each node
-pub record StartsOf (page net sheet : List ℕ) (counts : Bool) (starts : List ℕ) : Type 0 where
-  pub paged : Paged page net sheet
-  pub start : (n : ℕ) → n < nodeCount sheet → getD starts n 0 ≡ firstEntry page net sheet counts n
+pub record StartsOf (net sheet : List ℕ) (counts : Bool) (starts : List ℕ) : Type 0 where
+  pub readable : Readable net sheet
+  pub start : (n : ℕ) → n < nodeCount sheet → getD starts n 0 ≡ firstEntry net sheet counts n
 
 -- ---- level rows: of two nodes that have arcs by the same transitions
 
@@ -93,8 +94,8 @@ pub record Level (A : Automaton) (counts : Bool) (n m : ℕ) : Type 0 where
   pub offers : SameOffers A n m
 
 -- the rows of two nodes
-pub record TwoRows (page net sheet starts classes : List ℕ) (counts level : Bool) (n m : ℕ) : Type 0 where
-  pub of : StartsOf page net sheet counts starts
+pub record TwoRows (net sheet starts classes : List ℕ) (counts level : Bool) (n m : ℕ) : Type 0 where
+  pub of : StartsOf net sheet counts starts
   pub long : length classes ≡ 128
   pub left : n < nodeCount sheet
   pub right : m < nodeCount sheet

@@ -27,8 +27,8 @@ split A counts class n m = sameClass class n m && rowsAlike A counts class n m
 
 -- what a round reads: where the rows start, and a table whose classes are known by their least nodes; of a level round, that the nodes of a class
 -- have arcs by the same transitions
-pub record Round (page net sheet starts classes : List ℕ) (counts level : Bool) : Type 0 where
-  pub of : StartsOf page net sheet counts starts
+pub record Round (net sheet starts classes : List ℕ) (counts level : Bool) : Type 0 where
+  pub of : StartsOf net sheet counts starts
   pub long : length classes ≡ 128
   pub least : (m n : ℕ) → m < nodeCount sheet → n < nodeCount sheet → classIn classes m ≡ classIn classes n → classIn classes n ≤ m
   pub own : (n : ℕ) → n < nodeCount sheet → classIn classes (classIn classes n) ≡ classIn classes n

@@ -3,7 +3,6 @@ use Prim.Native.Nat.{ℕ, _≤_, _<_}
 use mathlib.Core.Path.{_≡_}
 use mathlib.Core.List.{List}
 use lib.ListN.{length, getD}
-use Rattle.row_starts.specs.RowStarts.{page}
 use Rattle.automaton.specs.Automaton.{Automaton}
 use Rattle.automaton.specs.Equivalence.{same, sameClass}
 use Rattle.automaton.specs.Quotient.{minimal}
@@ -13,11 +12,6 @@ use Rattle.graph.specs.Readable.{Readable}
 use Rattle.encoding.specs.Encoding.{keys}
 use Rattle.encoding.specs.Kept.{Kept}
 use Rattle.minimize.specs.declared.numbering.Numbers.{Numbers}
-
--- words that can be read, and by the manual's page of row starts (§3.9)
-pub record Paged (starts net sheet : List ℕ) : Type 0 where
-  pub by-page : starts ≡ page
-  pub readable : Readable net sheet
 
 -- the class of a node in a table
 unfoldable pub classIn : List ℕ → ℕ → ℕ
@@ -29,8 +23,8 @@ pub record Classes (A : Automaton) (classes : List ℕ) : Type 0 where
   pub right : (n m : ℕ) → n < A .nodes → m < A .nodes → sameClass (classIn classes) n m ≡ same A n m
 
 -- the minimal form's nodes of words that can be read: the nodes that stand for them, so many, and the new number of each node that an arc of theirs leads to
-pub record NewNodes (starts net sheet : List ℕ) (new : Numbers) : Type 0 where
-  pub paged : Paged starts net sheet
+pub record NewNodes (net sheet : List ℕ) (new : Numbers) : Type 0 where
+  pub readable : Readable net sheet
   pub size : minimal (graph (petriNet net) sheet) .nodes ≡ new .found
   pub few : new .found ≤ 128
   pub kept : Kept (graph (petriNet net) sheet) (minimal (graph (petriNet net) sheet)) (new .reps) (new .numbers)

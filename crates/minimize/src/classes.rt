@@ -8,7 +8,7 @@ ghost use Rattle.automaton.specs.Equivalence.{leaderBy};
 ghost use Rattle.sequential.specs.Petri.{petriNet};
 ghost use Rattle.sequential.specs.Words.{nodeCount, entryCount, entryValue, graph};
 ghost use Rattle.graph.specs.Readable.{Readable};
-ghost use Rattle.minimize.specs.Tables.{Paged, classIn, Classes};
+ghost use Rattle.minimize.specs.Tables.{classIn, Classes};
 ghost use Rattle.minimize.specs.Agree.{hasKey, valuesAgree, keysAgree, Valued, Rows, rowKey, rowWidth, StartsOf, targetsAgree, LevelRows, TwoRows};
 ghost use Rattle.minimize.specs.Leaders.{LeadersBy, rowsAlike, split, Round, RoundAt, NextLeast, sameEntry};
 
@@ -89,14 +89,14 @@ fn targets_agree(sheet: &[u32], classes: &[u8], size: usize, i: usize, j: usize)
 }
 
 // The first key of node n's row.
-fn first_key(net: &[u32], sheet: &[u32], page: &[u16; 4096], counts: bool, n: u32) -> u32
+fn first_key(net: &[u32], sheet: &[u32], counts: bool, n: u32) -> u32
     requires { ⌜ Readable (now net) (now sheet) ⌝ }
-    ensures { λ r. ⌜ r ≡ rowKey (now (page .entry)) (now (net .entry)) (now (sheet .entry)) counts n ⌝ }
+    ensures { λ r. ⌜ r ≡ rowKey (now (net .entry)) (now (sheet .entry)) counts n ⌝ }
 {
     if counts {
         return graph::counts_start(net, sheet[0], n);
     }
-    graph::arcs_start(net, page, n)
+    graph::arcs_start(net, n)
 }
 
 // How many keys a row has.
@@ -110,16 +110,16 @@ fn row_width(net: &[u32], counts: bool) -> u32
 }
 
 // The entry at which each node's row starts, of its counts or of its arcs.
-fn starts_of(net: &[u32], sheet: &[u32], page: &[u16; 4096], counts: bool) -> [u16; 128]
-    requires { ⌜ Paged (now page) (now net) (now sheet) ⌝ }
-    ensures { λ r. ⌜ StartsOf (now (page .entry)) (now (net .entry)) (now (sheet .entry)) counts r ⌝ }
+fn starts_of(net: &[u32], sheet: &[u32], counts: bool) -> [u16; 128]
+    requires { ⌜ Readable (now net) (now sheet) ⌝ }
+    ensures { λ r. ⌜ StartsOf (now (net .entry)) (now (sheet .entry)) counts r ⌝ }
 {
     let nodes = sheet[0];
     let entries = sheet[1] as usize;
     let mut starts = [0u16; 128];
     let mut n = 0;
     while n < nodes {
-        let key = first_key(net, sheet, page, counts, n);
+        let key = first_key(net, sheet, counts, n);
         starts[n as usize] = table::lower_bound(sheet, 2, entries, key) as u16;
         n += 1;
     }
@@ -130,7 +130,6 @@ fn starts_of(net: &[u32], sheet: &[u32], page: &[u16; 4096], counts: bool) -> [u
 fn nodes_agree(
     net: &[u32],
     sheet: &[u32],
-    page: &[u16; 4096],
     starts: &[u16; 128],
     classes: &[u8; 128],
     counts: bool,
@@ -138,7 +137,7 @@ fn nodes_agree(
     n: u32,
     m: u32,
 ) -> bool
-    requires { ⌜ TwoRows (now page) (now net) (now sheet) (now starts) (now classes) counts level n m ⌝ }
+    requires { ⌜ TwoRows (now net) (now sheet) (now starts) (now classes) counts level n m ⌝ }
     ensures { λ r. ⌜ r ≡ rowsAlike (graph (petriNet (now (net .entry))) (now (sheet .entry))) counts (classIn (now (classes .entry))) n m ⌝ }
 {
     let i = starts[n as usize] as usize;
@@ -148,8 +147,8 @@ fn nodes_agree(
         return targets_agree(sheet, classes, end - i, i, j);
     }
     let width = row_width(net, counts);
-    let a = first_key(net, sheet, page, counts, n);
-    let b = first_key(net, sheet, page, counts, m);
+    let a = first_key(net, sheet, counts, n);
+    let b = first_key(net, sheet, counts, m);
     rows_agree(sheet, classes, counts, width, a, b, i, j)
 }
 
@@ -175,7 +174,6 @@ fn next_least(classes: &[u8; 128], next: &[u8; 128], class: u8, k: u32, n: u32) 
 fn leader(
     net: &[u32],
     sheet: &[u32],
-    page: &[u16; 4096],
     starts: &[u16; 128],
     classes: &[u8; 128],
     next: &[u8; 128],
@@ -183,14 +181,14 @@ fn leader(
     level: bool,
     n: u32,
 ) -> u32
-    requires { ⌜ Round (now page) (now net) (now sheet) (now starts) (now classes) counts level ⌝ }
+    requires { ⌜ Round (now net) (now sheet) (now starts) (now classes) counts level ⌝ }
     requires { ⌜ RoundAt (now net) (now sheet) (now classes) (now next) counts n ⌝ }
     ensures { λ r. ⌜ r ≡ leaderBy (split (graph (petriNet (now (net .entry))) (now (sheet .entry))) counts (classIn (now (classes .entry)))) n ⌝ }
 {
     let class = classes[n as usize];
     let mut m = class as u32;
     while m < n {
-        if nodes_agree(net, sheet, page, starts, classes, counts, level, m, n) {
+        if nodes_agree(net, sheet, starts, classes, counts, level, m, n) {
             return m;
         }
         m = next_least(classes, next, class, m + 1, n);
@@ -202,20 +200,19 @@ fn leader(
 fn round(
     net: &[u32],
     sheet: &[u32],
-    page: &[u16; 4096],
     starts: &[u16; 128],
     classes: &[u8; 128],
     counts: bool,
     level: bool,
 ) -> [u8; 128]
-    requires { ⌜ Round (now page) (now net) (now sheet) (now starts) (now classes) counts level ⌝ }
+    requires { ⌜ Round (now net) (now sheet) (now starts) (now classes) counts level ⌝ }
     ensures { λ r. ⌜ LeadersBy (split (graph (petriNet (now (net .entry))) (now (sheet .entry))) counts (classIn (now (classes .entry)))) (nodeCount (now (sheet .entry))) r ⌝ }
 {
     let nodes = sheet[0];
     let mut next = [0u8; 128];
     let mut n = 0;
     while n < nodes {
-        let found = leader(net, sheet, page, starts, classes, &next, counts, level, n);
+        let found = leader(net, sheet, starts, classes, &next, counts, level, n);
         next[n as usize] = found as u8;
         n += 1;
     }
@@ -238,19 +235,19 @@ fn same_tables(a: [u8; 128], b: [u8; 128], nodes: usize) -> bool
 }
 
 // A table of classes in which two nodes have one entry exactly where they are equivalent.
-pub(crate) fn classes(net: &[u32], sheet: &[u32], page: &[u16; 4096]) -> [u8; 128]
-    requires { ⌜ Paged (now page) (now net) (now sheet) ⌝ }
+pub(crate) fn classes(net: &[u32], sheet: &[u32]) -> [u8; 128]
+    requires { ⌜ Readable (now net) (now sheet) ⌝ }
     ensures { λ r. ⌜ Classes (graph (petriNet (now (net .entry))) (now (sheet .entry))) r ⌝ }
 {
     let nodes = sheet[0] as usize;
-    let counts = starts_of(net, sheet, page, true);
-    let arcs = starts_of(net, sheet, page, false);
+    let counts = starts_of(net, sheet, true);
+    let arcs = starts_of(net, sheet, false);
     let one = [0u8; 128];
-    let first = round(net, sheet, page, &counts, &one, true, false);
-    let mut classes = round(net, sheet, page, &arcs, &first, false, false);
+    let first = round(net, sheet, &counts, &one, true, false);
+    let mut classes = round(net, sheet, &arcs, &first, false, false);
     let mut rounds = 1;
     while rounds < nodes {
-        let next = round(net, sheet, page, &arcs, &classes, false, true);
+        let next = round(net, sheet, &arcs, &classes, false, true);
         if same_tables(classes, next, nodes) {
             return classes;
         }

@@ -4,7 +4,6 @@ mod numbering;
 mod writer;
 
 ghost use mathlib.Core.Path.{_≡_};
-ghost use Rattle.row_starts.specs.RowStarts as manual;
 ghost use Rattle.refusal.specs.declared.Verdict.the-variants.{Accepted};
 ghost use Rattle.graph.specs.Readable.{wordsReply};
 ghost use Rattle.minimal.specs.Form.{FormOf, FormWritten, FormDone};
@@ -12,15 +11,14 @@ use minimal::FormAnswer;
 use refusal::Verdict;
 use schedule::Walker;
 
-// The minimal form of words that can be read, by the page of row starts (§3.9).
-fn written(net: &[u32], sheet: &[u32], page: &[u16; 4096], out: &mut [u32]) -> FormAnswer
+// The minimal form of words that can be read.
+fn written(net: &[u32], sheet: &[u32], out: &mut [u32]) -> FormAnswer
     requires { ⌜ wordsReply (now net) (now sheet) ≡ Accepted ⌝ }
-    requires { ⌜ now page ≡ manual.page ⌝ }
     ensures { λ r. ⌜ FormOf (now (net .entry)) (now (sheet .entry)) (now (out .entry)) r (now (out .exit)) ⌝ }
 {
-    let classes = classes::classes(net, sheet, page);
-    let new = numbering::numbering(net, sheet, page, classes);
-    writer::write(net, sheet, page, new, out)
+    let classes = classes::classes(net, sheet);
+    let new = numbering::numbering(net, sheet, classes);
+    writer::write(net, sheet, new, out)
 }
 
 // The minimal form of words that can be read, whether they are a schedule or not: a refusal by 1 to 9 or 26 is the reply.
@@ -31,7 +29,7 @@ pub fn form_of(net: &[u32], sheet: &[u32], out: &mut [u32]) -> FormAnswer
     if let Verdict::Refused(r) = found {
         return FormAnswer::Refused(r);
     }
-    written(net, sheet, &row_starts::PAGE, out)
+    written(net, sheet, out)
 }
 
 // The minimal form of a schedule without scratch.

@@ -5,7 +5,6 @@ use Rattle.scan.proofs.Tabulate.{tabulate-length, tabulate-at}
 use Rattle.scan.specs.Scan.{first}
 use Rattle.scan.proofs.First.{first-none, first-more, first-hit}
 use Rattle.table.specs.declared.Found.the-variants.{At, Nothing}
-use Rattle.row_starts.specs.RowStarts.{page}
 use Rattle.refusal.specs.Refusal.{refusal}
 use Rattle.refusal.specs.Verdict.{verdictOf}
 use Rattle.refusal.specs.declared.Position.the-variants.{Record}
@@ -39,8 +38,7 @@ module _ (log : List ℕ) where
   firings-at i l = tabulate-at (firedAt log) 0 (firingCount log) i l
 
 -- the first i of n firings pass, and lead to a node, the last by an entry
-pub record Along (starts net sheet log : List ℕ) (n node : ℕ) (entry : Index) (i : ℕ) : Type 0 where
-  pub by-page : starts ≡ page
+pub record Along (net sheet log : List ℕ) (n node : ℕ) (entry : Index) (i : ℕ) : Type 0 where
   pub readable : ArcsReadable net sheet
   pub holds : LogHolds log
   pub all : n ≡ firingCount log
@@ -50,10 +48,9 @@ pub record Along (starts net sheet log : List ℕ) (n node : ℕ) (entry : Index
   pub as-run : node ≡ nodeAfter (petriNet net) sheet (firings log) i
   pub by-entry : entry ≡ indexFrom (entryAfter (petriNet net) sheet (firings log) i)
 
-pub sets-out : {starts net sheet log : List ℕ} → starts ≡ page → ArcsReadable net sheet → LogHolds log → Along starts net sheet log (getD log 0 0) 0 Missing 0
+pub sets-out : {net sheet log : List ℕ} → ArcsReadable net sheet → LogHolds log → Along net sheet log (getD log 0 0) 0 Missing 0
 unfolding firingCount
-sets-out {net = net} {sheet = sheet} {log = log} p r h = record {
-  by-page = p;
+sets-out {net = net} {sheet = sheet} {log = log} r h = record {
   readable = r;
   holds = h;
   all = refl;
@@ -64,7 +61,7 @@ sets-out {net = net} {sheet = sheet} {log = log} p r h = record {
   by-entry = entry-none (petriNet net) sheet (firings log);
 }
 
-module _ {starts net sheet log : List ℕ} {n node : ℕ} {entry : Index} {i : ℕ} (w : Along starts net sheet log n node entry i) where
+module _ {net sheet log : List ℕ} {n node : ℕ} {entry : Index} {i : ℕ} (w : Along net sheet log n node entry i) where
   -- all are passed
   pub arrives : n ≤ i → LogFollowed (petriNet net) sheet log Accepted entry
   arrives l =
@@ -82,14 +79,14 @@ module _ {starts net sheet log : List ℕ} {n node : ℕ} {entry : Index} {i : �
       entry = λ h. refused-accepted _ _ e h;
     }
 
-    pub not-offered : {v : Verdict} → arcLookUp starts net sheet node (getD log (1 + i) 0) ≡ Nothing → v ≡ Refused (refusal 20 (Record i))
+    pub not-offered : {v : Verdict} → arcLookUp net sheet node (getD log (1 + i) 0) ≡ Nothing → v ≡ Refused (refusal 20 (Record i))
         → LogFollowed (petriNet net) sheet log v entry
-    not-offered h = stopped 20 (firing-stops (petriNet net) sheet log i node (w .at-node) (unfold firedAt in (arc-missing (w .by-page) net sheet (w .readable) node _ h)))
+    not-offered h = stopped 20 (firing-stops (petriNet net) sheet log i node (w .at-node) (unfold firedAt in (arc-missing net sheet (w .readable) node _ h)))
 
-    module _ {k m : ℕ} (h : arcLookUp starts net sheet node (getD log (1 + i) 0) ≡ At k) (e : m ≡ entryValue sheet k) where
+    module _ {k m : ℕ} (h : arcLookUp net sheet node (getD log (1 + i) 0) ≡ At k) (e : m ≡ entryValue sheet k) where
       its-entry : arcEntry (petriNet net) sheet node (firedAt log i) ≡ some k
       unfolding firedAt
-      its-entry = arc-found (w .by-page) net sheet (w .readable) node _ k h
+      its-entry = arc-found net sheet (w .readable) node _ k h
 
       its-entry-run : arcEntry (petriNet net) sheet node (getD (firings log) i 0) ≡ some k
       its-entry-run = rw (firings-at log i (omega (arith, w .all))) its-entry
@@ -105,9 +102,8 @@ module _ {starts net sheet log : List ℕ} {n node : ℕ} {entry : Index} {i : �
           → LogFollowed (petriNet net) sheet log v entry
       other-node d = stopped 24 (node-differs (petriNet net) sheet log i node (w .at-node) k its-entry (λ q. d (logged ∙ q ∙ sym e)))
 
-      pub goes-on : getD log (1 + n + i) 0 ≡ m → Along starts net sheet log n m (Known k) (i + 1)
+      pub goes-on : getD log (1 + n + i) 0 ≡ m → Along net sheet log n m (Known k) (i + 1)
       goes-on q = record {
-        by-page = w .by-page;
         readable = w .readable;
         holds = w .holds;
         all = w .all;

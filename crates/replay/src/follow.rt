@@ -1,6 +1,4 @@
 // The firings of a log followed along the arcs from node 0, each node reached compared with the one that is logged.
-ghost use mathlib.Core.Path.{_≡_};
-ghost use Rattle.row_starts.specs.RowStarts.{page};
 ghost use Rattle.sequential.specs.Petri.{petriNet};
 ghost use Rattle.graph.specs.Readable.{ArcsReadable};
 ghost use Rattle.replay.specs.Calls.{LogFollowed};
@@ -18,9 +16,9 @@ pub(crate) struct Findings {
 }
 
 // Refusals 20 and 24, firing by firing: §7.60.
-pub(crate) fn followed(net: &[u32], sheet: &[u32], starts: &[u16; 4096], log: &[u32]) -> Findings
+pub(crate) fn followed(net: &[u32], sheet: &[u32], log: &[u32]) -> Findings
     requires { ⌜ ArcsReadable (now net) (now sheet) ⌝ }
-    requires { ⌜ (now starts ≡ page) × LogHolds (now log) ⌝ }
+    requires { ⌜ LogHolds (now log) ⌝ }
     ensures { λ r. ⌜ LogFollowed (petriNet (now (net .entry))) (now (sheet .entry)) (now (log .entry)) (r .verdict) (r .entry) ⌝ }
 {
     let n = log[0] as usize;
@@ -28,7 +26,7 @@ pub(crate) fn followed(net: &[u32], sheet: &[u32], starts: &[u16; 4096], log: &[
     let mut entry = Index::Missing;
     let mut i = 0;
     while i < n {
-        match graph::arc(net, sheet, starts, node, log[1 + i]) {
+        match graph::arc(net, sheet, node, log[1 + i]) {
             Found::Nothing => {
                 return Findings {
                     verdict: refusal::refuse(Refusal::NOT_OFFERED, Position::Record(i)),

@@ -92,7 +92,7 @@ fn checked(net: &[u32], sheet: &[u32], log: &[u32]) -> Findings
             entry: Index::Missing,
         };
     }
-    follow::followed(net, sheet, &row_starts::PAGE, log)
+    follow::followed(net, sheet, log)
 }
 
 // The replay without scratch.

@@ -1,66 +1,88 @@
--- The number of the page for each n and T.
-use Rattle.scan.proofs.Basics.{ℕ, zero, suc, _+_, _-_, _*_, _≤_, _<_, arith, _≡_, sym, _∙_, true, _&&_, ltb, leb, List, getD}
-use Rattle.scan.proofs.Tests.{ltb-true, lt-ltb, le-ltb, leb-true, le-leb, lt-leb, byTest, and-left, and-right}
-use Rattle.row_starts.specs.RowStarts.{onPage, rowStart, printed, line, lines, page}
+-- The rule of the page: one computed test of its numbers, and from it the law of each entry.
+use Rattle.scan.proofs.Basics.{ℕ, zero, suc, _+_, _-_, _*_, _≤_, _<_, arith, _≡_, refl, sym, _∙_, Bool, true, _&&_, eqb, List, [], _∷_, getD, length}
+use Rattle.scan.proofs.Tests.{lt-ltb, le-ltb, le-leb, lt-leb, eqb-true, and-left, and-right}
+use lib.ListN.{List·getD-append}
+use lib.Seq.{getD-append-add}
+use Rattle.row_starts.specs.Page.{lines, joined, page}
+use Rattle.row_starts.specs.RowStarts.{onPage, rowStart}
 
--- ---- the rule, from how the page is made
+abbrev lineRight : ℕ → ℕ → List ℕ → Bool
+lineRight n T [] = true
+lineRight n T (x ∷ xs) = eqb x (n * T) && lineRight n (suc T) xs
 
-in-line : (n T k : ℕ) (rest : List ℕ) (i : ℕ) → i < k → getD (line n T k rest) i 0 ≡ n * (T + i)
-unfolding line
-in-line n T zero rest i l = absurd (omega arith)
-in-line n T (suc k) rest zero l = let q : T + 0 ≡ T = omega arith in rw q
-in-line n T (suc k) rest (suc i) l = let q : T + suc i ≡ suc T + i = omega arith in rw q (in-line n (suc T) k rest i (omega arith))
+abbrev linesRight : ℕ → List (List ℕ) → Bool
+linesRight n [] = true
+linesRight n (l ∷ ls) = eqb (length l) 32 && (lineRight n 1 l && linesRight (suc n) ls)
 
-past-line : (n T k : ℕ) (rest : List ℕ) (i : ℕ) → getD (line n T k rest) (k + i) 0 ≡ getD rest i 0
-unfolding line
-past-line n T zero rest i = let q : 0 + i ≡ i = omega arith in rw q
-past-line n T (suc k) rest i = let q : suc k + i ≡ suc (k + i) = omega arith in rw q (past-line n (suc T) k rest i)
-
-in-lines : (n k m T : ℕ) → m < k → 1 ≤ T → T ≤ 32 → getD (lines n k) (32 * m + T - 1) 0 ≡ (n + m) * T
+-- the test: 128 lines of 32 numbers each, in the line of n at T n × T
+page-right : linesRight 0 lines && eqb (length lines) 128 ≡ true
 unfolding lines
-in-lines n zero m T l a b = absurd (omega arith)
-in-lines n (suc k) zero T l a b =
-    let q : 32 * 0 + T - 1 ≡ T - 1 = omega arith in
-    let r : 1 + (T - 1) ≡ T = omega arith in
-    let s : n + 0 ≡ n = omega arith in
-    rw (q, s) (rw r at (in-line n 1 32 (lines (suc n) k) (T - 1) (omega arith)))
-in-lines n (suc k) (suc m) T l a b =
-    let q : 32 * suc m + T - 1 ≡ 32 + (32 * m + T - 1) = omega arith in
-    let s : n + suc m ≡ suc n + m = omega arith in
-    rw (q, s) (past-line n 1 32 (lines (suc n) k) (32 * m + T - 1) ∙ in-lines (suc n) k m T (omega arith) a b)
+page-right = refl
+
+-- ---- what it says of each entry
+
+in-line : (n T : ℕ) (l : List ℕ) → lineRight n T l ≡ true → (i : ℕ) → i < length l → getD l i 0 ≡ n * (T + i)
+in-line n T [] h i m = absurd (omega arith)
+in-line n T (x ∷ xs) h zero m = let q : T + 0 ≡ T = omega arith in rw q (eqb-true x (n * T) (and-left (eqb x (n * T)) _ h))
+in-line n T (x ∷ xs) h (suc i) m =
+    let q : T + suc i ≡ suc T + i = omega arith in rw q (in-line n (suc T) xs (and-right (eqb x (n * T)) _ h) i (omega arith))
+
+in-lines : (n : ℕ) (ls : List (List ℕ)) → linesRight n ls ≡ true → (m : ℕ) → m < length ls → (T : ℕ) → 1 ≤ T → T ≤ 32
+    → (getD (getD ls m []) (T - 1) 0 ≡ (n + m) * T) × (getD (joined ls) (32 * m + T - 1) 0 ≡ (n + m) * T)
+unfolding joined
+in-lines n [] h m k T a b = absurd (omega arith)
+in-lines n (l ∷ ls) h zero k T a b =
+    let e = eqb-true (length l) 32 (and-left (eqb (length l) 32) _ h) in
+    let r = and-left (lineRight n 1 l) _ (and-right (eqb (length l) 32) _ h) in
+    let q : n + 0 ≡ n = omega arith in
+    let p : 1 + (T - 1) ≡ T = omega arith in
+    let s : 32 * 0 + T - 1 ≡ T - 1 = omega arith in
+    let there : getD l (T - 1) 0 ≡ n * T = rw p at (in-line n 1 l r (T - 1) (omega arith)) in
+    (rw q there, rw (q, s) (List·getD-append l (joined ls) 0 (T - 1) (omega arith) ∙ there))
+in-lines n (l ∷ ls) h (suc m) k T a b =
+    let e = eqb-true (length l) 32 (and-left (eqb (length l) 32) _ h) in
+    let q : n + suc m ≡ suc n + m = omega arith in
+    let s : 32 * suc m + T - 1 ≡ length l + (32 * m + T - 1) = omega arith in
+    let (x, y) = in-lines (suc n) ls (and-right (lineRight n 1 l) _ (and-right (eqb (length l) 32) _ h)) m (omega arith) T a b in
+    (rw q x, rw (q, s) (getD-append-add l (joined ls) (32 * m + T - 1) 0 ∙ y))
+
+both : (n T : ℕ) → n < 128 → 1 ≤ T → T ≤ 32 → (getD (getD lines n []) (T - 1) 0 ≡ n * T) × (getD page (32 * n + T - 1) 0 ≡ n * T)
+unfolding page
+both n T l a b =
+    let e = eqb-true (length lines) 128 (and-right (linesRight 0 lines) _ page-right) in
+    let q : 0 + n ≡ n = omega arith in
+    rw q at (in-lines 0 lines (and-left (linesRight 0 lines) _ page-right) n (omega arith) T a b)
 
 pub page-rule : (n T : ℕ) → n < 128 → 1 ≤ T → T ≤ 32 → getD page (32 * n + T - 1) 0 ≡ n * T
-unfolding page
-page-rule n T l a b = let q : 0 + n ≡ n = omega arith in rw q at (in-lines 0 128 n T l a b)
+page-rule n T l a b = both n T l a b .1
 
--- ---- what a page has for n and T: nothing where one of them is out of range
+-- ---- where a row starts
 
-pub none-high : (starts : List ℕ) (n T : ℕ) → 128 ≤ n → 0 ≡ rowStart starts n T
+pub start-is : (n T : ℕ) → n < 128 → 1 ≤ T → T ≤ 32 → rowStart n T ≡ n * T
 unfolding rowStart onPage
-none-high starts n T l = rw (le-ltb n 128 l)
+start-is n T l a b = rw (lt-ltb n 128 l, le-leb 1 T a, le-leb T 32 b)
 
-pub none-few : (starts : List ℕ) (n T : ℕ) → n < 128 → T < 1 → 0 ≡ rowStart starts n T
+pub one-there : (n T : ℕ) → n < 128 → 1 ≤ T → T ≤ 32 → getD (getD lines n []) (T - 1) 0 ≡ rowStart n T
+one-there n T l a b = both n T l a b .0 ∙ sym (start-is n T l a b)
+
+pub none-high : (n T : ℕ) → 128 ≤ n → 0 ≡ rowStart n T
 unfolding rowStart onPage
-none-few starts n T l m = rw (lt-ltb n 128 l, lt-leb 1 T m)
+none-high n T l = rw (le-ltb n 128 l)
 
-pub none-many : (starts : List ℕ) (n T : ℕ) → n < 128 → 1 ≤ T → 32 < T → 0 ≡ rowStart starts n T
+pub none-few : (n T : ℕ) → n < 128 → T < 1 → 0 ≡ rowStart n T
 unfolding rowStart onPage
-none-many starts n T l a b = rw (lt-ltb n 128 l, le-leb 1 T a, lt-leb T 32 b)
+none-few n T l m = rw (lt-ltb n 128 l, lt-leb 1 T m)
 
-pub one-there : (starts : List ℕ) (n T : ℕ) → n < 128 → 1 ≤ T → T ≤ 32 → getD starts (32 * n + T - 1) 0 ≡ rowStart starts n T
+pub none-many : (n T : ℕ) → n < 128 → 1 ≤ T → 32 < T → 0 ≡ rowStart n T
 unfolding rowStart onPage
-one-there starts n T l a b = rw (lt-ltb n 128 l, le-leb 1 T a, le-leb T 32 b)
+none-many n T l a b = rw (lt-ltb n 128 l, le-leb 1 T a, lt-leb T 32 b)
 
--- ---- on the page a row starts at n × T
+-- ---- which line is left: n is none of the so many numbers from k on
 
-pub start-is : {starts : List ℕ} (n T : ℕ) → starts ≡ page → n < 128 → 1 ≤ T → T ≤ 32 → rowStart starts n T ≡ n * T
-start-is {starts} n T e l a b = sym (one-there starts n T l a b) ∙ rw e (page-rule n T l a b)
+abbrev pub NoneOf : ℕ → ℕ → ℕ → Type 0
+NoneOf n k zero = Unit
+NoneOf n k (suc j) = NoneOf n k j × (n ≡ k + j → ⊥)
 
-pub start-printed : (n T : ℕ) → rowStart page n T ≡ printed n T
-unfolding rowStart onPage printed
-start-printed n T = byTest (onPage n T) on (λ e. rw e)
-  where
-    on : onPage n T ≡ true → rowStart page n T ≡ printed n T
-    on e =
-        let few = and-right (ltb n 128) (leb 1 T && leb T 32) e in
-        rw e (page-rule n T (ltb-true n 128 (and-left (ltb n 128) (leb 1 T && leb T 32) e)) (leb-true 1 T (and-left (leb 1 T) (leb T 32) few)) (leb-true T 32 (and-right (leb 1 T) (leb T 32) few)))
+pub passed : (n k j : ℕ) → k ≤ n → NoneOf n k j → k + j ≤ n
+passed n k zero l r = omega arith
+passed n k (suc j) l (r, other) = let h = passed n k j l r in omega arith

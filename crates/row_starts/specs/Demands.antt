@@ -1,9 +1,9 @@
--- What is promised of the page of row starts, as a statement (§3.9). proofs/Demands has the term. That the table of the code is the page is the contract of
--- `printed_start`, and is asked wherever the table is handed on.
+-- What is promised of the page of row starts, as a statement (§3.9). proofs/Demands has the term. That the lines of the code are those of the page is the
+-- contract of `line`.
 use Prim.Native.Nat.{ℕ, _+_, _*_, _-_, _≤_, _<_}
 use mathlib.Core.Path.{_≡_}
 use lib.ListN.{getD}
-use Rattle.row_starts.specs.RowStarts.{page}
+use Rattle.row_starts.specs.Page.{page}
 
 abbrev pub PageRule : Type 0
 PageRule = (n transitions : ℕ) → n < 128 → 1 ≤ transitions → transitions ≤ 32 → getD page (32 * n + transitions - 1) 0 ≡ n * transitions

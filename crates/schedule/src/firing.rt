@@ -1,6 +1,5 @@
 // Firing along the arcs of an accepted schedule: a walker's single step, and a list of transitions from node 0.
 ghost use mathlib.Core.Path.{_≡_};
-ghost use Rattle.row_starts.specs.RowStarts.{page};
 ghost use Rattle.refusal.specs.Verdict.{verdictOf};
 ghost use Rattle.refusal.specs.declared.Verdict.the-variants.{Accepted};
 ghost use Rattle.sequential.specs.Petri.{petriNet};
@@ -39,15 +38,8 @@ fn walker_fault(walker: Walker, net: &[u32], sheet: &[u32]) -> Verdict
 }
 
 // A single firing: refusals 18 to 20 (§7.58), or the walker that follows. The target's counts are what firing gives (§6.6).
-pub(crate) fn step(
-    walker: Walker,
-    net: &[u32],
-    sheet: &[u32],
-    starts: &[u16; 4096],
-    t: u32,
-) -> Fired
+pub(crate) fn step(walker: Walker, net: &[u32], sheet: &[u32], t: u32) -> Fired
     requires { ⌜ scheduleReply (now net) (now sheet) ≡ Accepted ⌝ }
-    requires { ⌜ now starts ≡ page ⌝ }
     ensures { λ r. ⌜ StepDone (now (net .entry)) (now (sheet .entry)) walker t (r .answer) (r .next) ⌝ }
 {
     let found = walker_fault(walker, net, sheet);
@@ -58,7 +50,7 @@ pub(crate) fn step(
         };
     }
     let n = walker.node;
-    match graph::arc(net, sheet, starts, n, t) {
+    match graph::arc(net, sheet, n, t) {
         Found::Nothing => Fired {
             answer: FireAnswer::Stopped(Refusal {
                 number: Refusal::NOT_OFFERED,
@@ -84,16 +76,15 @@ pub(crate) struct Followed {
     pub entry: Index,
 }
 
-pub(crate) fn follow(net: &[u32], sheet: &[u32], starts: &[u16; 4096], firings: &[u32]) -> Followed
+pub(crate) fn follow(net: &[u32], sheet: &[u32], firings: &[u32]) -> Followed
     requires { ⌜ Readable (now net) (now sheet) ⌝ }
-    requires { ⌜ now starts ≡ page ⌝ }
     ensures { λ r. ⌜ FollowedTo (petriNet (now (net .entry))) (now (sheet .entry)) (now (firings .entry)) (r .verdict) (r .node) (r .entry) ⌝ }
 {
     let mut node = 0;
     let mut entry = Index::Missing;
     let mut i = 0;
     while i < firings.len() {
-        match graph::arc(net, sheet, starts, node, firings[i]) {
+        match graph::arc(net, sheet, node, firings[i]) {
             Found::Nothing => {
                 return Followed {
                     verdict: refusal::refuse(Refusal::NOT_OFFERED, Position::Record(i)),

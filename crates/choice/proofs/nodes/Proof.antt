@@ -6,4 +6,4 @@ use Rattle.choice.proofs.nodes.Statement.{statement}
 use Rattle.choice.proofs.nodes.Tie as tie
 
 pub nodes-spec : {M : Type 1} → statement M
-nodes-spec = tie.close (tie.spec (λ c κs. search needs) (λ c. c .task-nodes .ensures ∙ whole-nodes _ _ _))
+nodes-spec = tie.close (tie.spec (λ c κs. search needs) (λ c. c .task-nodes .ensures ∙ whole-nodes _ _))

@@ -6,10 +6,10 @@ use Rattle.choice.proofs.task_nodes.Statement.{statement}
 use Rattle.choice.proofs.task_nodes.Tie as tie
 
 abbrev Inv-loop : tie.InvT-loop
-Inv-loop net s sheet starts leaders source transitions nodes awaits₀ n₀ awaits n = (n ≤ nodes) × Passing starts net s sheet leaders source transitions nodes awaits n
+Inv-loop net s sheet leaders source transitions nodes awaits₀ n₀ awaits n = (n ≤ nodes) × Passing net s sheet leaders source transitions nodes awaits n
 
 abbrev μ-loop : tie.MeasureT-loop
-μ-loop net s sheet starts leaders source transitions nodes awaits₀ n₀ awaits n = nodes - n
+μ-loop net s sheet leaders source transitions nodes awaits₀ n₀ awaits n = nodes - n
 
 loop-holds : tie.Need-loop-holds Inv-loop μ-loop
 loop-holds c = (omega arith, start (ground-is (c .before .before .before .choices-only .ensures) (c .before .transitions .ensures) (c .node-count .ensures)))

@@ -1,6 +1,5 @@
 -- `mend::mend_into` meets its contract.
 use Rattle.scan.proofs.Basics.{arith, refl, sym, _∙_}
-use Rattle.row_starts.specs.RowStarts.{line, lines, page}
 use Rattle.call.proofs.Laws.{refused-words}
 use Rattle.mend.specs.Measure.{Ready}
 use Rattle.mend.proofs.Done.{few, sheet-short, list-short, both-written}
@@ -8,15 +7,11 @@ use borrow.Author.Needs.{needs}
 use Rattle.mend.proofs.mend_into.Statement.{statement}
 use Rattle.mend.proofs.mend_into.Tie as tie
 
-measured-requires : tie.Need-measured-requires
-unfolding page lines line
-measured-requires c κs = refl
-
 returns : tie.Need-returns
 returns c = refused-words (sym (c .before .before .before .measured .ensures .reply) ∙ c .before .found .given .1) refl
 
 -- nothing is refused before the buffers are measured
-ready : (c : tie.After-enum-told) → let s = c .before .before .before .before .before .before .before .before .args in
+ready : (c : tie.After-enum-told) → let s = c .before .before .before .before .before .before .before .args in
     let m = c .before .before .measured .result in Ready (s .net .now) (s .sheet .now) (m .finder) (m .entries) (m .changes)
 ready c = c .before .before .measured .ensures .ready (c .enum-told .given .1)
 
@@ -47,7 +42,7 @@ returns-4 c =
 pub mend-into-spec : {M : Type 1} → statement M
 mend-into-spec =
     tie.close
-    (tie.spec measured-requires (λ c. search needs) returns (λ c. search needs) (λ c. let k = few (ready c) in omega arith) (λ c. let k = few (ready c) in omega arith)
+    (tie.spec (λ c κs. search needs) (λ c. search needs) returns (λ c. search needs) (λ c. let k = few (ready c) in omega arith) (λ c. let k = few (ready c) in omega arith)
     (λ c. let k = few (ready c) in omega arith) (λ c. let k = few (ready c) in omega arith)
     (λ c κs. search needs) (λ c. search needs) returns-2 (λ c. search needs) (λ c κs. search needs) (λ c. search needs) returns-3 (λ c. search needs)
     write-sheet-requires write-list-requires (λ c. search needs) (λ c. search needs) returns-4)

@@ -5,13 +5,13 @@ use Rattle.minimize.proofs.written.Statement.{statement}
 use Rattle.minimize.proofs.written.Tie as tie
 
 classes-requires : tie.Need-classes-requires
-classes-requires c κs = let (w, p) = c .before .before .before .pre in record { by-page = p; readable = reply-readable _ _ w }
+classes-requires c κs = reply-readable _ _ (c .before .before .before .pre)
 
 numbering-requires : tie.Need-numbering-requires
-numbering-requires c κs = let (w, p) = c .before .before .before .before .pre in (record { by-page = p; readable = reply-readable _ _ w }, c .classes .ensures)
+numbering-requires c κs = (reply-readable _ _ (c .before .before .before .before .pre), c .classes .ensures)
 
 write-requires : tie.Need-write-requires
-write-requires c κs = (c .before .before .before .before .before .before .pre .0, c .before .numbering .ensures)
+write-requires c κs = (c .before .before .before .before .before .before .pre, c .before .numbering .ensures)
 
 pub written-spec : {M : Type 1} → statement M
 written-spec = tie.close (tie.spec classes-requires numbering-requires write-requires (λ c. search needs) (λ c. search needs))

@@ -1,7 +1,6 @@
 -- `replay::checked` meets its contract.
-use Rattle.scan.proofs.Basics.{refl, sym, _∙_}
+use Rattle.scan.proofs.Basics.{sym, _∙_}
 use borrow.Author.Needs.{needs}
-use Rattle.row_starts.specs.RowStarts.{line, lines, page}
 use Rattle.refusal.proofs.Verdicts.{answer-none}
 use Rattle.judge.proofs.Judged.{accepted-readable}
 use Rattle.replay.proofs.Logs.{log-holds}
@@ -18,18 +17,17 @@ returns-2 c =
     (c .before .before .log-fault .ensures) (c .enum-told3 .given .1)
 
 followed-requires : tie.Need-followed-requires
-unfolding page lines line
 followed-requires c κs =
-    let f = c .before .before .before in (
+    let f = c .before .before in (
       accepted-readable _ _ (sym (f .before .before .before .verdict .ensures) ∙ f .before .enum-told2 .given .1) .arcs,
-      (refl, log-holds _ (answer-none _ (sym (f .log-fault .ensures) ∙ c .before .enum-told4 .given .1))),
+      log-holds _ (answer-none _ (sym (f .log-fault .ensures) ∙ c .enum-told4 .given .1)),
     )
 
 returns-3 : tie.Need-returns-3
 returns-3 c =
-    let f = c .before .before .before .before in
+    let f = c .before .before .before in
     firings-judged _ _ _ (sym (f .before .before .before .verdict .ensures) ∙ f .before .enum-told2 .given .1)
-    (answer-none _ (sym (f .log-fault .ensures) ∙ c .before .before .enum-told4 .given .1)) (c .followed .ensures)
+    (answer-none _ (sym (f .log-fault .ensures) ∙ c .before .enum-told4 .given .1)) (c .followed .ensures)
 
 pub checked-spec : {M : Type 1} → statement M
 checked-spec =

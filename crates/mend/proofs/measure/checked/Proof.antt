@@ -10,14 +10,12 @@ returns c = words-refused _ _ (c .before .before .check-arcs .ensures) (c .enum-
 
 returns-2 : tie.Need-returns-2
 returns-2 c =
-    nodes-refused _ _ (c .before .before .before .before .before .before .before .before .pre)
-    (sym (c .before .before .before .before .before .check-arcs .ensures) ∙ c .before .before .before .enum-told2 .given .1)
+    nodes-refused _ _ (sym (c .before .before .before .before .before .check-arcs .ensures) ∙ c .before .before .before .enum-told2 .given .1)
     (c .before .before .nodes .ensures) refl (c .enum-told3 .given .1)
 
 returns-3 : tie.Need-returns-3
 returns-3 c =
-    paths-judged _ _ (c .before .before .before .before .before .before .before .before .before .before .pre)
-    (sym (c .before .before .before .before .before .before .before .check-arcs .ensures) ∙ c .before .before .before .before .before .enum-told2 .given .1)
+    paths-judged _ _ (sym (c .before .before .before .before .before .before .before .check-arcs .ensures) ∙ c .before .before .before .before .before .enum-told2 .given .1)
     (c .before .before .before .before .nodes .ensures) (c .before .before .enum-told4 .given .1) (c .paths .ensures)
 
 pub checked-spec : {M : Type 1} → statement M

@@ -22,7 +22,7 @@ passed : (c : tie.After-enum-told2) → let s = c .before .before .before .befor
 passed c = sym (c .before .before .checked .ensures) ∙ c .enum-told2 .given .1
 
 search-requires : tie.Need-search-requires
-search-requires c κs = ((c .before .before .before .before .before .pre, before-readable _ _ (passed c)), before-reached _ _ (passed c))
+search-requires c κs = (before-readable _ _ (passed c), before-reached _ _ (passed c))
 
 returns-2 : tie.Need-returns-2
 returns-2 c = place-measured _ _ (passed (c .before .before .before .before)) (c .before .before .all-fit .ensures .wrong (not-true _ (c .before .if1 .taken))) (c .no-counts .ensures)

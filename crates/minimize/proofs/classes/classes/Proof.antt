@@ -14,11 +14,11 @@ use Rattle.minimize.proofs.classes.classes.Statement.{statement}
 use Rattle.minimize.proofs.classes.classes.Tie as tie
 
 abbrev Inv-loop : tie.InvT-loop
-Inv-loop net sheet page nodes arcs classes₀ rounds₀ classes rounds =
-    (1 ≤ rounds) × (rounds ≤ nodes) × (length classes ≡ 128) × StartsOf page net sheet false arcs × LeadersBy (sameIn (graph (petriNet net) sheet) rounds) (nodeCount sheet) classes
+Inv-loop net sheet nodes arcs classes₀ rounds₀ classes rounds =
+    (1 ≤ rounds) × (rounds ≤ nodes) × (length classes ≡ 128) × StartsOf net sheet false arcs × LeadersBy (sameIn (graph (petriNet net) sheet) rounds) (nodeCount sheet) classes
 
 abbrev μ-loop : tie.MeasureT-loop
-μ-loop net sheet page nodes arcs classes₀ rounds₀ classes rounds = nodes - rounds
+μ-loop net sheet nodes arcs classes₀ rounds₀ classes rounds = nodes - rounds
 
 round-requires : tie.Need-round-requires Inv-loop μ-loop
 round-requires c κs = first-reads refl (c .before .before .before .starts-of .ensures) (zeros 128)
@@ -26,23 +26,23 @@ round-requires c κs = first-reads refl (c .before .before .before .starts-of .e
 round-requires-2 : tie.Need-round-requires-2 Inv-loop μ-loop
 round-requires-2 c κs =
     let S = c .before .before .before .before .before .starts-of2 .ensures in
-    next-reads (search needs) S (readable-closed (S .paged .readable)) 0 (by-counts _ _ _ (zeros 128) (c .before .before .round .ensures)) false (λ e. true-false false e refl)
+    next-reads (search needs) S (readable-closed (S .readable)) 0 (by-counts _ _ _ (zeros 128) (c .before .before .round .ensures)) false (λ e. true-false false e refl)
 
 loop-holds : tie.Need-loop-holds Inv-loop μ-loop
 loop-holds c =
     let S = c .before .before .before .before .before .before .starts-of2 .ensures in
-    let a = readable-closed (S .paged .readable) in
+    let a = readable-closed (S .readable) in
     (omega arith, omega (arith, a .root), search needs, S, round-more _ a 0 _ (by-counts _ _ _ (zeros 128) (c .before .before .before .round .ensures)) _ (by-arcs _ _ _ (c .round2 .ensures)))
 
 round-requires-3 : tie.Need-round-requires-3 Inv-loop μ-loop
 round-requires-3 c κs =
     let (some, l, long, S, is) = c .before .before .before .loop .inv in
-    next-reads long S (readable-closed (S .paged .readable)) _ is _ (λ e. some)
+    next-reads long S (readable-closed (S .readable)) _ is _ (λ e. some)
 
 returns : tie.Need-returns Inv-loop μ-loop
 returns c =
     let (some, l, long, S, is) = c .before .before .before .before .before .before .loop .inv in
-    round-last _ (readable-closed (S .paged .readable)) _ _ is _ (by-arcs _ _ _ (c .before .before .round3 .ensures)) (sym (c .before .same-tables .ensures) ∙ c .if1 .taken)
+    round-last _ (readable-closed (S .readable)) _ _ is _ (by-arcs _ _ _ (c .before .before .round3 .ensures)) (sym (c .before .same-tables .ensures) ∙ c .if1 .taken)
 
 loop-again : tie.Need-loop-again Inv-loop μ-loop
 loop-again c =
@@ -51,13 +51,13 @@ loop-again c =
       omega (arith, c .before .before .before .before .before .loop-test .taken),
       search needs,
       S,
-      round-more _ (readable-closed (S .paged .readable)) _ _ is _ (by-arcs _ _ _ (c .before .before .round3 .ensures)),
+      round-more _ (readable-closed (S .readable)) _ _ is _ (by-arcs _ _ _ (c .before .before .round3 .ensures)),
     )
 
 returns-2 : tie.Need-returns-2 Inv-loop μ-loop
 returns-2 c =
     let (some, l, long, S, is) = c .before .loop .inv in
-    rounds-done _ (readable-closed (S .paged .readable)) _ _ is (omega (arith, c .loop-test .left))
+    rounds-done _ (readable-closed (S .readable)) _ _ is (omega (arith, c .loop-test .left))
 
 pub classes-spec : {M : Type 1} → statement M
 classes-spec =

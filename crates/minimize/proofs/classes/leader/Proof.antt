@@ -12,11 +12,11 @@ use Rattle.minimize.proofs.classes.leader.Statement.{statement}
 use Rattle.minimize.proofs.classes.leader.Tie as tie
 
 abbrev Inv-loop : tie.InvT-loop
-Inv-loop net sheet page starts classes next counts level n class m₀ m = (m ≤ n) × (n < 128)
+Inv-loop net sheet starts classes next counts level n class m₀ m = (m ≤ n) × (n < 128)
     × (any (inClass (split (graph (petriNet net) sheet) counts (classIn classes)) n) m ≡ false) × (m < n → classIn classes m ≡ classIn classes n)
 
 abbrev μ-loop : tie.MeasureT-loop
-μ-loop net sheet page starts classes next counts level n class m₀ m = n - m
+μ-loop net sheet starts classes next counts level n class m₀ m = n - m
 
 element-copy-out-class : tie.Need-element-copy-out-class Inv-loop μ-loop
 element-copy-out-class c = let (r, at) = c .before .before .pre in node-low r (at .node)

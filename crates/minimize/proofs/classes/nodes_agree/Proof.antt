@@ -32,14 +32,14 @@ rows-agree-requires c κs =
     let p = c .before .before .before .before .before .before .before .before .before .pre in
     let h = p .of in
     rw (c .before .before .before .row-width .ensures, c .before .before .first-key .ensures, c .before .first-key2 .ensures)
-    (rows (h .paged) (p .long) (p .left) (p .right) (h .start _ (p .left)) (h .start _ (p .right)))
+    (rows (h .readable) (p .long) (p .left) (p .right) (h .start _ (p .left)) (h .start _ (p .right)))
 
 returns-2 : tie.Need-returns-2
 returns-2 c =
     let p = c .before .before .before .before .before .before .before .before .before .before .pre in
     c .rows-agree .ensures
     ∙ rw (c .before .before .before .before .row-width .ensures, c .before .before .before .first-key .ensures, c .before .before .first-key2 .ensures)
-    (walked (p .of .paged) _ _ (p .left) (p .right))
+    (walked (p .of .readable) _ _ (p .left) (p .right))
 
 pub nodes-agree-spec : {M : Type 1} → statement M
 nodes-agree-spec =

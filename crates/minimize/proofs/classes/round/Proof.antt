@@ -11,14 +11,14 @@ use Rattle.minimize.proofs.classes.round.Statement.{statement}
 use Rattle.minimize.proofs.classes.round.Tie as tie
 
 abbrev Inv-loop : tie.InvT-loop
-Inv-loop net sheet page starts classes counts level nodes next₀ n₀ next n = (n ≤ nodes) × (nodes ≤ 128) × (length next ≡ 128)
+Inv-loop net sheet starts classes counts level nodes next₀ n₀ next n = (n ≤ nodes) × (nodes ≤ 128) × (length next ≡ 128)
     × LeadersBy (split (graph (petriNet net) sheet) counts (classIn classes)) n next
 
 abbrev μ-loop : tie.MeasureT-loop
-μ-loop net sheet page starts classes counts level nodes next₀ n₀ next n = nodes - n
+μ-loop net sheet starts classes counts level nodes next₀ n₀ next n = nodes - n
 
 loop-holds : tie.Need-loop-holds Inv-loop μ-loop
-loop-holds c = (omega arith, c .before .before .before .pre .of .paged .readable .arcs .sizes .few-nodes, refl, record { leads = λ n l. absurd (omega arith) })
+loop-holds c = (omega arith, c .before .before .before .pre .of .readable .arcs .sizes .few-nodes, refl, record { leads = λ n l. absurd (omega arith) })
 
 leader-requires : tie.Need-leader-requires Inv-loop μ-loop
 leader-requires c κs =

@@ -2,18 +2,18 @@
 use Rattle.scan.proofs.Basics.{ℕ, _-_, _≤_, _<_, arith, _≡_, refl, _∙_, length, getD, length-set}
 use borrow.Author.Needs.{needs}
 use Rattle.scan.proofs.Tabulate.{stored-more}
-use Rattle.minimize.specs.Tables.{Paged}
+use Rattle.graph.specs.Readable.{Readable}
 use Rattle.minimize.specs.Agree.{firstEntry}
 use Rattle.minimize.proofs.Agree.{start-low}
 use Rattle.minimize.proofs.classes.starts_of.Statement.{statement}
 use Rattle.minimize.proofs.classes.starts_of.Tie as tie
 
 abbrev Inv-loop : tie.InvT-loop
-Inv-loop net sheet page counts nodes entries starts₀ n₀ starts n = Paged page net sheet × (n ≤ nodes) × (length starts ≡ 128)
-    × ((k : ℕ) → k < n → getD starts k 0 ≡ firstEntry page net sheet counts k)
+Inv-loop net sheet counts nodes entries starts₀ n₀ starts n = Readable net sheet × (n ≤ nodes) × (length starts ≡ 128)
+    × ((k : ℕ) → k < n → getD starts k 0 ≡ firstEntry net sheet counts k)
 
 abbrev μ-loop : tie.MeasureT-loop
-μ-loop net sheet page counts nodes entries starts₀ n₀ starts n = nodes - n
+μ-loop net sheet counts nodes entries starts₀ n₀ starts n = nodes - n
 
 loop-holds : tie.Need-loop-holds Inv-loop μ-loop
 loop-holds c = (c .before .before .before .before .pre, omega arith, refl, λ j l. absurd (omega arith))
@@ -23,18 +23,18 @@ unfolding firstEntry
 start c =
     let (r, l, long, is) = c .before .before .before .loop .inv in
     let w = c .before .before .before .loop in
-    (r, omega arith, simp length-set long, stored-more (firstEntry _ _ _ _) (w .starts) (w .n) _ is (omega arith) (c .lower-bound .ensures ∙ rw (c .before .first-key .ensures)))
+    (r, omega arith, simp length-set long, stored-more (firstEntry _ _ _) (w .starts) (w .n) _ is (omega arith) (c .lower-bound .ensures ∙ rw (c .before .first-key .ensures)))
 
 cast-starts : tie.Need-cast-starts Inv-loop μ-loop
 unfolding firstEntry
 cast-starts c =
     let a = c .before .before .before .before .before .before .before .before .args in
     let w = c .before .before .before .loop in
-    let e : c .lower-bound .result ≡ firstEntry (a .page .now) (a .net .now) (a .sheet .now) (a .counts) (w .n) = c .lower-bound .ensures ∙ rw (c .before .first-key .ensures) in
+    let e : c .lower-bound .result ≡ firstEntry (a .net .now) (a .sheet .now) (a .counts) (w .n) = c .lower-bound .ensures ∙ rw (c .before .first-key .ensures) in
     omega (arith, e, start-low (w .inv .0) (a .counts) (w .n))
 
 returns : tie.Need-returns Inv-loop μ-loop
-returns c = record { paged = c .before .loop .inv .0; start = λ n l. (c .before .loop .inv .3) n (omega arith) }
+returns c = record { readable = c .before .loop .inv .0; start = λ n l. (c .before .loop .inv .3) n (omega arith) }
 
 pub starts-of-spec : {M : Type 1} → statement M
 starts-of-spec =

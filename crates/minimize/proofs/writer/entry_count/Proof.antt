@@ -13,13 +13,13 @@ use Rattle.minimize.proofs.writer.entry_count.Statement.{statement}
 use Rattle.minimize.proofs.writer.entry_count.Tie as tie
 
 abbrev Inv-loop : tie.InvT-loop
-Inv-loop net sheet page new entries₀ i₀ entries i =
-    NewNodes page net sheet new × (i ≤ new .found)
+Inv-loop net sheet new entries₀ i₀ entries i =
+    NewNodes net sheet new × (i ≤ new .found)
     × (entries ≡ length (sectionTo (petriNet net) (minimal (graph (petriNet net) sheet)) ArcKeys i) + length (sectionTo (petriNet net) (minimal (graph (petriNet net) sheet)) CountKeys i))
     × (entries ≤ 64 * i)
 
 abbrev μ-loop : tie.MeasureT-loop
-μ-loop net sheet page new entries₀ i₀ entries i = new .found - i
+μ-loop net sheet new entries₀ i₀ entries i = new .found - i
 
 loop-holds : tie.Need-loop-holds Inv-loop μ-loop
 loop-holds c = let h = c .before .before .pre in (h, omega arith, entries-none h, omega arith)

@@ -7,17 +7,17 @@ use Rattle.replay.proofs.follow.followed.Statement.{statement}
 use Rattle.replay.proofs.follow.followed.Tie as tie
 
 abbrev Inv-loop : tie.InvT-loop
-Inv-loop net sheet starts log n node₀ entry₀ i₀ node entry i = Along starts net sheet log n node entry i
+Inv-loop net sheet log n node₀ entry₀ i₀ node entry i = Along net sheet log n node entry i
 
 abbrev μ-loop : tie.MeasureT-loop
-μ-loop net sheet starts log n node₀ entry₀ i₀ node entry i = n - i
+μ-loop net sheet log n node₀ entry₀ i₀ node entry i = n - i
 
 cast-n : tie.Need-cast-n Inv-loop μ-loop
 unfolding firingCount
-cast-n c = omega (arith, c .before .before .before .before .pre .1 .1 .few)
+cast-n c = omega (arith, c .before .before .before .before .pre .1 .few)
 
 loop-holds : tie.Need-loop-holds Inv-loop μ-loop
-loop-holds c = let (r, (p, h)) = c .before .before .before .before .pre in sets-out p r h
+loop-holds c = let (r, h) = c .before .before .before .before .pre in sets-out r h
 
 returns : tie.Need-returns Inv-loop μ-loop
 returns c =
@@ -31,7 +31,7 @@ returns-2 c =
     other-node (b .before .loop .inv) (b .loop-test .taken) (sym (v .before .before .before .before .arc .ensures) ∙ v .before .before .e .given .1) (v .value .ensures)
     (c .before .if1 .taken) (c .refuse2 .ensures)
 
-cast-entry : tie.Need-cast-t24 Inv-loop μ-loop
+cast-entry : tie.Need-cast-t23 Inv-loop μ-loop
 cast-entry c =
     let v = c .before .before in
     let b = v .before .before .before .before .before .before in

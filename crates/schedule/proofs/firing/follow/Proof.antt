@@ -14,28 +14,28 @@ use Rattle.schedule.proofs.firing.follow.Statement.{statement}
 use Rattle.schedule.proofs.firing.follow.Tie as tie
 
 abbrev Inv-loop : tie.InvT-loop
-Inv-loop net sheet starts firings node₀ entry₀ i₀ node entry i =
+Inv-loop net sheet firings node₀ entry₀ i₀ node entry i =
     (i ≤ length firings) × (node ≡ nodeAfter (petriNet net) sheet firings i) × (node < nodeCount sheet) × (first (firingFault (petriNet net) sheet firings) i ≡ none)
     × (entry ≡ indexFrom (entryAfter (petriNet net) sheet firings i))
 
 abbrev μ-loop : tie.MeasureT-loop
-μ-loop net sheet starts firings node₀ entry₀ i₀ node entry i = length firings - i
+μ-loop net sheet firings node₀ entry₀ i₀ node entry i = length firings - i
 
 loop-holds : tie.Need-loop-holds Inv-loop μ-loop
 loop-holds c = (omega arith, after-none _ _ _, omega arith, first-none _, entry-none _ _ _)
 
-cast-entry : tie.Need-cast-t16 Inv-loop μ-loop
+cast-entry : tie.Need-cast-t15 Inv-loop μ-loop
 cast-entry c =
-    let (k, p) = c .before .before .before .before .before .before .before .before .before .before .before .pre in
+    let k = c .before .before .before .before .before .before .before .before .before .before .before .pre in
     let r = k .arcs in
-    omega (arith, entry-fits _ _ _ _ (r .holds) _ (arc-found p _ _ r _ _ _ (sym (c .before .before .before .before .arc .ensures) ∙ (c .before .before .e .given .1))))
+    omega (arith, entry-fits _ _ _ _ (r .holds) _ (arc-found _ _ r _ _ _ (sym (c .before .before .before .before .arc .ensures) ∙ (c .before .before .e .given .1))))
 
 returns : tie.Need-returns Inv-loop μ-loop
 unfolding runFault
 returns c =
     let w = c .before .before .before .before .before .before in
-    let (k, p) = w .before .before .before .before .pre in
-    let e = arc-missing p _ _ (k .arcs) _ _ (sym (c .before .before .before .arc .ensures) ∙ (c .before .enum-told .given .1)) in
+    let k = w .before .before .before .before .pre in
+    let e = arc-missing _ _ (k .arcs) _ _ (sym (c .before .before .before .arc .ensures) ∙ (c .before .enum-told .given .1)) in
     record {
       reply =
           (c .refuse .ensures) ∙ ap verdictOf (sym (first-hit _ _ _ (w .loop .inv .3) (firing-fails _ _ _ _ _ (w .loop .inv .1) e) _ (c .before .before .before .before .before .loop-test .taken)));
@@ -46,9 +46,9 @@ returns c =
 loop-again : tie.Need-loop-again Inv-loop μ-loop
 loop-again c =
     let w = c .before .before .before .before .before .before .before in
-    let (k, p) = w .before .before .before .before .pre in
+    let k = w .before .before .before .before .pre in
     let r = k .arcs in
-    let e = arc-found p _ _ r _ _ _ (sym (c .before .before .before .before .arc .ensures) ∙ (c .before .before .e .given .1)) in (
+    let e = arc-found _ _ r _ _ _ (sym (c .before .before .before .before .arc .ensures) ∙ (c .before .before .e .given .1)) in (
       omega arith,
       (c .value .ensures) ∙ after-more _ _ _ _ _ (w .loop .inv .1) _ e,
       rw (c .value .ensures) (target-node _ _ _ _ (r .sizes .some-transition) (r .holds) (w .loop .inv .2) _ e),

@@ -9,28 +9,28 @@ use Rattle.schedule.proofs.firing.step.Statement.{statement}
 use Rattle.schedule.proofs.firing.step.Tie as tie
 
 walker-fault-requires : tie.Need-walker-fault-requires
-walker-fault-requires c κs = accepted-readable _ _ (c .before .before .pre .0)
+walker-fault-requires c κs = accepted-readable _ _ (c .before .before .pre)
 
 returns : tie.Need-returns
-returns c = walker-refused _ _ _ _ (c .before .before .before .before .before .before .pre .0) _ _ (c .before .before .before .walker-fault .ensures) (c .before .found .given .1)
+returns c = walker-refused _ _ _ _ (c .before .before .before .before .before .before .pre) _ _ (c .before .before .before .walker-fault .ensures) (c .before .found .given .1)
 
-cast-entry : tie.Need-cast-t18
+cast-entry : tie.Need-cast-t17
 cast-entry c =
-    let (a, p) = c .before .before .before .before .before .before .before .before .before .before .before .pre in
+    let a = c .before .before .before .before .before .before .before .before .before .before .before .pre in
     let r = accepted-readable _ _ a .arcs in
-    omega (arith, entry-fits _ _ _ _ (r .holds) _ (arc-found p _ _ r _ _ _ (sym (c .before .before .before .before .before .arc .ensures) ∙ c .before .before .before .i .given .1)))
+    omega (arith, entry-fits _ _ _ _ (r .holds) _ (arc-found _ _ r _ _ _ (sym (c .before .before .before .before .before .arc .ensures) ∙ c .before .before .before .i .given .1)))
 
 returns-2 : tie.Need-returns-2
 returns-2 c =
-    let (a, p) = c .before .before .before .before .before .before .before .before .pre in
+    let a = c .before .before .before .before .before .before .before .before .pre in
     let f = answer-none _ (sym (c .before .before .before .before .before .walker-fault .ensures) ∙ c .before .before .before .enum-told .given .1) in
-    not-offered _ _ _ _ a f (arc-missing p _ _ (accepted-readable _ _ a .arcs) _ _ (sym (c .before .before .arc .ensures) ∙ c .enum-told2 .given .1))
+    not-offered _ _ _ _ a f (arc-missing _ _ (accepted-readable _ _ a .arcs) _ _ (sym (c .before .before .arc .ensures) ∙ c .enum-told2 .given .1))
 
 returns-3 : tie.Need-returns-3
 returns-3 c =
-    let (a, p) = c .before .before .before .before .before .before .before .before .before .before .before .pre in
+    let a = c .before .before .before .before .before .before .before .before .before .before .before .pre in
     let f = answer-none _ (sym (c .before .before .before .before .before .before .before .before .walker-fault .ensures) ∙ c .before .before .before .before .before .before .enum-told .given .1) in
-    let e = arc-found p _ _ (accepted-readable _ _ a .arcs) _ _ _ (sym (c .before .before .before .before .before .arc .ensures) ∙ c .before .before .before .i .given .1) in
+    let e = arc-found _ _ (accepted-readable _ _ a .arcs) _ _ _ (sym (c .before .before .before .before .before .arc .ensures) ∙ c .before .before .before .i .given .1) in
     follows-on _ _ _ _ a f _ _ _ e (c .before .value .ensures) (c .marking .ensures)
 
 pub step-spec : {M : Type 1} → statement M
