@@ -2,8 +2,10 @@
 ghost use Prim.Native.Nat.{_≤_};
 ghost use lib.ListN.{length};
 use super::cases;
+use super::cases::Buffers;
+use super::cases::Marks;
+use super::cases::Shape;
 use super::print;
-use mended::MendAnswer;
 use replay::ReplayAnswer;
 use schedule::Fired;
 use schedule::Walker;
@@ -54,14 +56,15 @@ fn fired(fired: Fired) {
     print::walker(next);
 }
 
-// Makes a call with the larger scratch and prints its answer. The words besides net and sheet are a record, a walker and the transition that
-// it is to fire, or a transition and a place.
+// Makes a call with the larger scratch and prints its answer. The words behind the sheet are a record, a walker and the transition that it is
+// to fire, or a transition and a place.
 fn larger_call(
     operation: u32,
     net: &[u32],
     sheet: &[u32],
     words: &[u32],
     out: &mut [u32],
+    second: &mut [u32],
     scratch: &mut [u32],
 ) {
     match operation {
@@ -72,7 +75,8 @@ fn larger_call(
         5 => fired(walker(words).fire(net, sheet, at(words, 33), scratch)),
         6 => print::run_answer(schedule::run(net, sheet, words, out, scratch)),
         7 => print::form_answer(minimize::minimal_form(net, sheet, out, scratch)),
-        _ => weights(net, at(words, 0), at(words, 1)),
+        8 => weights(net, at(words, 0), at(words, 1)),
+        _ => print::mend_answer(mend::mend(net, sheet, out, second, scratch)),
     }
 }
 
@@ -83,6 +87,7 @@ fn panel_call(
     sheet: &[u32],
     words: &[u32],
     out: &mut [u32],
+    second: &mut [u32],
     scratch: &mut [u32],
 ) {
     match operation {
@@ -90,7 +95,8 @@ fn panel_call(
         103 => print::verdict(panel::place_bounds(net, sheet, out, scratch)),
         105 => fired(panel::fire(walker(words), net, sheet, at(words, 33), scratch)),
         106 => print::run_answer(panel::run(net, sheet, words, out, scratch)),
-        _ => print::form_answer(panel::minimal_form(net, sheet, out, scratch)),
+        107 => print::form_answer(panel::minimal_form(net, sheet, out, scratch)),
+        _ => print::mend_answer(panel::mend(net, sheet, out, second, scratch)),
     }
 }
 
@@ -101,54 +107,69 @@ fn call(
     sheet: &[u32],
     words: &[u32],
     out: &mut [u32],
+    second: &mut [u32],
     scratch: &mut [u32],
 ) {
     if cases::on_panel(operation) {
-        panel_call(operation, net, sheet, words, out, scratch);
+        panel_call(operation, net, sheet, words, out, second, scratch);
         return;
     }
-    larger_call(operation, net, sheet, words, out, scratch);
+    larger_call(operation, net, sheet, words, out, second, scratch);
 }
 
-fn left_out(operation: u32, words: &[u32]) {
-    if cases::writes_out(operation) {
-        print::out(words, 9);
+// What is left in the buffers that a call is lent.
+fn left(shape: Shape, out: &[u32], second: &[u32], scratch: &[u32]) {
+    if 0 < shape.outs {
+        print::out(out, 9);
     }
-}
-
-fn left_scratch(operation: u32, words: &[u32]) {
-    if cases::reads_sheet(operation) {
-        print::scratch(words, 7);
+    if 1 < shape.outs {
+        print::out(second, 9);
     }
+    if 0 < shape.sheets {
+        print::scratch(scratch, 7);
+    }
+    print::text(b"\n");
 }
 
 // The line of a case, with the buffers lent to its call.
 fn in_buffers(
     operation: u32,
+    shape: Shape,
     net: &[u32],
     sheet: &[u32],
     words: &[u32],
     out: &mut [u32],
+    second: &mut [u32],
     scratch: &mut [u32],
 ) {
-    call(operation, net, sheet, words, out, scratch);
-    left_out(operation, out);
-    left_scratch(operation, scratch);
-    print::text(b"\n");
+    call(operation, net, sheet, words, out, second, scratch);
+    left(shape, out, second, scratch);
 }
 
-// The line of a case. The output buffer holds 9 before the call, and scratch 7, in the lengths lent.
-fn lending(operation: u32, net: &[u32], sheet: &[u32], words: &[u32], outs: usize, scratches: usize)
-    requires { ⌜ (outs ≤ 9000) × (scratches ≤ 9000) ⌝ }
+// The line of a case. Output buffers hold 9 before the call, and scratch 7, in the lengths lent.
+fn lending(
+    operation: u32,
+    shape: Shape,
+    net: &[u32],
+    sheet: &[u32],
+    words: &[u32],
+    outs: usize,
+    seconds: usize,
+    scratches: usize,
+)
+    requires { ⌜ (outs ≤ 9000) × (seconds ≤ 9000) × (scratches ≤ 9000) ⌝ }
 {
     let mut out = [9u32; 9000];
+    let mut second = [9u32; 9000];
     let mut scratch = [7u32; 9000];
     in_buffers(
         operation,
+        shape,
         net,
         sheet,
         words,
         &mut out[..outs],
+        &mut second[..seconds],
         &mut scratch[..scratches],
     );
 }
@@ -186,8 +207,8 @@ fn replayed(
     print::text(b"\n");
 }
 
-// The line of a replay. Both output buffers hold 9 before the call, and scratch 7, in the lengths lent.
-fn lending_two(
+// The line of a replay, whose output buffers are of 64 bits.
+fn lending_wide(
     operation: u32,
     net: &[u32],
     sheet: &[u32],
@@ -212,105 +233,53 @@ fn lending_two(
     );
 }
 
-// The panel's mending or the other.
-fn mend_call(
-    operation: u32,
-    net: &[u32],
-    sheet: &[u32],
-    out: &mut [u32],
-    list: &mut [u32],
-    scratch: &mut [u32],
-) -> MendAnswer {
-    if cases::on_panel(operation) {
-        return panel::mend(net, sheet, out, list, scratch);
-    }
-    mend::mend(net, sheet, out, list, scratch)
-}
-
-// The line of a mending, with the buffers lent to it.
-fn mending(
-    operation: u32,
-    net: &[u32],
-    sheet: &[u32],
-    out: &mut [u32],
-    list: &mut [u32],
-    scratch: &mut [u32],
-) {
-    print::mend_answer(mend_call(operation, net, sheet, out, list, scratch));
-    print::out(out, 9);
-    print::out(list, 9);
-    print::scratch(scratch, 7);
-    print::text(b"\n");
-}
-
-// The line of a mending. Both output buffers hold 9 before the call, and scratch 7, in the lengths lent.
-fn lending_list(
-    operation: u32,
-    net: &[u32],
-    sheet: &[u32],
-    outs: usize,
-    lists: usize,
-    scratches: usize,
-)
-    requires { ⌜ (outs ≤ 9000) × (lists ≤ 9000) × (scratches ≤ 9000) ⌝ }
-{
-    let mut out = [9u32; 9000];
-    let mut list = [9u32; 9000];
-    let mut scratch = [7u32; 9000];
-    mending(
-        operation,
-        net,
-        sheet,
-        &mut out[..outs],
-        &mut list[..lists],
-        &mut scratch[..scratches],
-    );
-}
-
-// The line of a case, with buffers of the lengths lent; the second is a replay's or mending's.
-fn lent(
-    operation: u32,
-    net: &[u32],
-    sheet: &[u32],
-    words: &[u32],
-    outs: usize,
-    seconds: usize,
-    scratches: usize,
-)
-    requires { ⌜ (outs ≤ 9000) × (seconds ≤ 9000) × (scratches ≤ 9000) ⌝ }
+// The line of a case with one sheet or none.
+fn one_sheet(operation: u32, shape: Shape, net: &[u32], sheet: &[u32], words: &[u32], lent: Buffers)
+    requires { ⌜ (lent .out ≤ 9000) × (lent .second ≤ 9000) × (lent .scratch ≤ 9000) ⌝ }
 {
     if cases::replays(operation) {
-        lending_two(operation, net, sheet, words, outs, seconds, scratches);
+        lending_wide(
+            operation,
+            net,
+            sheet,
+            words,
+            lent.out,
+            lent.second,
+            lent.scratch,
+        );
     } else {
-        if cases::mends(operation) {
-            lending_list(operation, net, sheet, outs, seconds, scratches);
-        } else {
-            lending(operation, net, sheet, words, outs, scratches);
-        }
+        lending(
+            operation,
+            shape,
+            net,
+            sheet,
+            words,
+            lent.out,
+            lent.second,
+            lent.scratch,
+        );
     }
 }
 
-// The line of a case whose net, sheet and further words lie one after the other.
-pub(crate) fn line(
-    operation: u32,
-    all: &[u32],
-    net: usize,
-    sheet: usize,
-    words: usize,
-    outs: usize,
-    seconds: usize,
-    scratches: usize,
-)
-    requires { ⌜ (net ≤ sheet) × (sheet ≤ words) × (words ≤ length (now all)) ⌝ }
-    requires { ⌜ (outs ≤ 9000) × (seconds ≤ 9000) × (scratches ≤ 9000) ⌝ }
+// The line of a case whose parts lie one after the other.
+pub(crate) fn line(operation: u32, shape: Shape, all: &[u32], marks: Marks, lent: Buffers)
+    requires { ⌜
+        (marks .net ≤ marks .numbers) × (marks .numbers ≤ marks .first) × (marks .first ≤ marks .second) × (marks .second ≤ marks .third)
+        × (marks .third ≤ marks .fourth) × (marks .fourth ≤ marks .words) × (marks .words ≤ length (now all))
+        ⌝ }
+    requires { ⌜ (lent .out ≤ 9000) × (lent .second ≤ 9000) × (lent .scratch ≤ 9000) ⌝ }
 {
-    lent(
+    let net = marks.net;
+    let numbers = marks.numbers;
+    let first = marks.first;
+    let fourth = marks.fourth;
+    let words = marks.words;
+    one_sheet(
         operation,
+        shape,
         &all[..net],
-        &all[net..sheet],
-        &all[sheet..words],
-        outs,
-        seconds,
-        scratches,
+        &all[numbers..first],
+        &all[fourth..words],
+        lent,
     );
 }

@@ -12,22 +12,49 @@ struct Next {
     rest: Text,
 }
 
-// Where the net, the sheet and the other words of a case end, which lie one after the other.
-struct Marks {
-    net: usize,
-    sheet: usize,
-    words: usize,
+// What the words of a case are besides its net, and how many output buffers its call is lent.
+pub(crate) struct Shape {
+    pub numbers: u32,
+    pub sheets: u32,
+    pub list: bool,
+    pub further: u32,
+    pub outs: u32,
+}
+
+// Where the parts of a case end, which lie one after the other: the net, the numbers, the sheets, and a list or the further words.
+pub(crate) struct Marks {
+    pub net: usize,
+    pub numbers: usize,
+    pub first: usize,
+    pub second: usize,
+    pub third: usize,
+    pub fourth: usize,
+    pub words: usize,
+    pub fits: bool,
+    pub rest: Text,
+}
+
+// Where two parts end.
+struct Two {
+    first: usize,
+    second: usize,
     fits: bool,
     rest: Text,
 }
 
-// The lengths of the buffers lent to a call. The second is a replay's, for what is put, or mending's, for the list.
-struct Buffers {
-    out: usize,
-    second: usize,
-    scratch: usize,
-    fits: bool,
-    rest: Text,
+// Where four sheets end.
+struct Four {
+    front: Two,
+    back: Two,
+}
+
+// The lengths of the buffers lent to a call.
+pub(crate) struct Buffers {
+    pub out: usize,
+    pub second: usize,
+    pub scratch: usize,
+    pub fits: bool,
+    pub rest: Text,
 }
 
 // Whether a number stands for a call of the small panel, which is that of the same call with the larger scratch, plus 100.
@@ -43,62 +70,32 @@ fn kind(operation: u32) -> u32 {
     operation
 }
 
-// Whether an operation reads a sheet, and borrows scratch.
-pub(crate) fn reads_sheet(operation: u32) -> bool {
-    match kind(operation) {
-        1 | 4 | 8 => false,
-        _ => true,
-    }
-}
-
-// Whether an operation has one output buffer, which is of words.
-pub(crate) fn writes_out(operation: u32) -> bool {
-    match kind(operation) {
-        3 | 6 | 7 => true,
-        _ => false,
-    }
-}
-
-// Whether an operation is the replay, which has two output buffers, of numbers of 64 bits.
+// Whether an operation is the replay, whose output buffers are of numbers of 64 bits.
 pub(crate) fn replays(operation: u32) -> bool {
     kind(operation) == 9
 }
 
-// Whether an operation is mending, which has two output buffers, of words.
-pub(crate) fn mends(operation: u32) -> bool {
-    kind(operation) == 10
-}
-
-// Whether an operation has a second output buffer.
-fn lends_two(operation: u32) -> bool {
-    if replays(operation) {
-        return true;
+fn parts(numbers: u32, sheets: u32, list: bool, further: u32, outs: u32) -> Shape {
+    Shape {
+        numbers,
+        sheets,
+        list,
+        further,
+        outs,
     }
-    mends(operation)
 }
 
-// Whether an operation has a first output buffer.
-fn lends_out(operation: u32) -> bool {
-    if lends_two(operation) {
-        return true;
-    }
-    writes_out(operation)
-}
-
-// Whether an operation has a record or a log.
-fn has_record(operation: u32) -> bool {
-    if replays(operation) {
-        return true;
-    }
-    kind(operation) == 6
-}
-
-// How many words a case has besides net, sheet and record or log: a node, 32 counts and a transition, or a transition and a place.
-fn further_words(operation: u32) -> u32 {
+// The shape of each operation. Further words are a node, 32 counts and a transition, or a transition and a place.
+fn operation_shape(operation: u32) -> Shape {
     match kind(operation) {
-        5 => 34,
-        8 => 2,
-        _ => 0,
+        1 | 4 => parts(0, 0, false, 0, 0),
+        2 => parts(0, 1, false, 0, 0),
+        3 | 7 => parts(0, 1, false, 0, 1),
+        5 => parts(0, 1, false, 34, 0),
+        6 => parts(0, 1, true, 0, 1),
+        8 => parts(0, 0, false, 2, 0),
+        9 => parts(0, 1, true, 0, 2),
+        _ => parts(0, 1, false, 0, 2),
     }
 }
 
@@ -112,38 +109,100 @@ fn all_fit(a: bool, b: bool, c: bool) -> bool {
     c
 }
 
-// All words of a case: net, sheet, and a record, a log or the further words.
-fn lists(operation: u32, buffer: &mut [u8], from: Text, into: &mut [u32]) -> Marks
-    ensures { λ r. ⌜ (r .net ≤ r .sheet) × (r .sheet ≤ r .words) × (r .words ≤ length (now (into .exit))) ⌝ }
+// The net, and the numbers behind it.
+fn net_and_numbers(n: u32, buffer: &mut [u8], from: Text, into: &mut [u32]) -> Two
+    ensures { λ r. ⌜ (r .first ≤ r .second) × (r .second ≤ length (now (into .exit))) ⌝ }
 {
     let net = input::list(true, 0, buffer, from, into, 0);
-    let sheet = input::list(reads_sheet(operation), 0, buffer, net.rest, into, net.end);
-    let further = further_words(operation);
+    let numbers = input::list(false, n, buffer, net.rest, into, net.end);
+    let rest = numbers.rest;
+    Two {
+        first: net.end,
+        second: numbers.end,
+        fits: all_fit(net.fits, net.fits, numbers.fits),
+        rest,
+    }
+}
+
+// Two sheets, those that the case has.
+fn two_sheets(
+    one: bool,
+    other: bool,
+    buffer: &mut [u8],
+    from: Text,
+    into: &mut [u32],
+    at: usize,
+) -> Two
+    requires { ⌜ at ≤ length (now into) ⌝ }
+    ensures { λ r. ⌜ (at ≤ r .first) × (r .first ≤ r .second) × (r .second ≤ length (now (into .exit))) ⌝ }
+{
+    let first = input::list(one, 0, buffer, from, into, at);
+    let second = input::list(other, 0, buffer, first.rest, into, first.end);
+    let rest = second.rest;
+    Two {
+        first: first.end,
+        second: second.end,
+        fits: all_fit(first.fits, first.fits, second.fits),
+        rest,
+    }
+}
+
+// Four sheets, those of them that the case has.
+fn sheets(n: u32, buffer: &mut [u8], from: Text, into: &mut [u32], at: usize) -> Four
+    requires { ⌜ at ≤ length (now into) ⌝ }
+    ensures { λ r.
+        ⌜
+        (at ≤ r .front .first) × (r .front .first ≤ r .front .second) × (r .front .second ≤ r .back .first)
+        × (r .back .first ≤ r .back .second) × (r .back .second ≤ length (now (into .exit)))
+        ⌝ }
+{
+    let front = two_sheets(0 < n, 1 < n, buffer, from, into, at);
+    let back = two_sheets(2 < n, 3 < n, buffer, front.rest, into, front.second);
+    Four { front, back }
+}
+
+// All words of a case.
+fn lists(shape: Shape, buffer: &mut [u8], from: Text, into: &mut [u32]) -> Marks
+    ensures { λ r.
+        ⌜
+        (r .net ≤ r .numbers) × (r .numbers ≤ r .first) × (r .first ≤ r .second) × (r .second ≤ r .third) × (r .third ≤ r .fourth)
+        × (r .fourth ≤ r .words) × (r .words ≤ length (now (into .exit)))
+        ⌝ }
+{
+    let head = net_and_numbers(shape.numbers, buffer, from, into);
+    let sheets = sheets(shape.sheets, buffer, head.rest, into, head.second);
+    let front = sheets.front;
+    let back = sheets.back;
     let words = input::list(
-        has_record(operation),
-        further,
+        shape.list,
+        shape.further,
         buffer,
-        sheet.rest,
+        back.rest,
         into,
-        sheet.end,
+        back.second,
     );
     let rest = words.rest;
+    let both = all_fit(head.fits, front.fits, back.fits);
     Marks {
-        net: net.end,
-        sheet: sheet.end,
+        net: head.first,
+        numbers: head.second,
+        first: front.first,
+        second: front.second,
+        third: back.first,
+        fourth: back.second,
         words: words.end,
-        fits: all_fit(net.fits, sheet.fits, words.fits),
+        fits: all_fit(both, both, words.fits),
         rest,
     }
 }
 
 // The lengths of the buffers, which fit where the words did and they do.
-fn lent(operation: u32, fits: bool, buffer: &mut [u8], from: Text) -> Buffers
+fn lent(shape: Shape, fits: bool, buffer: &mut [u8], from: Text) -> Buffers
     ensures { λ r. ⌜ (r .out ≤ 9000) × (r .second ≤ 9000) × (r .scratch ≤ 9000) ⌝ }
 {
-    let out = input::length_if(lends_out(operation), buffer, from, 9000);
-    let second = input::length_if(lends_two(operation), buffer, out.rest, 9000);
-    let scratch = input::length_if(reads_sheet(operation), buffer, second.rest, 9000);
+    let out = input::length_if(0 < shape.outs, buffer, from, 9000);
+    let second = input::length_if(1 < shape.outs, buffer, out.rest, 9000);
+    let scratch = input::length_if(0 < shape.sheets, buffer, second.rest, 9000);
     let rest = scratch.rest;
     let both = all_fit(fits, out.fits, second.fits);
     Buffers {
@@ -157,26 +216,15 @@ fn lent(operation: u32, fits: bool, buffer: &mut [u8], from: Text) -> Buffers
 
 // Answers a case, from behind its operation on; one that is too long is the last.
 fn answered(operation: u32, buffer: &mut [u8], from: Text, into: &mut [u32]) -> Next {
-    let read = lists(operation, buffer, from, into);
-    let net = read.net;
-    let sheet = read.sheet;
-    let words = read.words;
-    let lent = lent(operation, read.fits, buffer, read.rest);
+    let shape = operation_shape(operation);
+    let marks = lists(shape, buffer, from, into);
+    let lent = lent(shape, marks.fits, buffer, marks.rest);
     let rest = lent.rest;
     if !lent.fits {
         print::text(b"too long\n");
         return Next { more: false, rest };
     }
-    answers::line(
-        operation,
-        into,
-        net,
-        sheet,
-        words,
-        lent.out,
-        lent.second,
-        lent.scratch,
-    );
+    answers::line(operation, shape, into, marks, lent);
     Next { more: true, rest }
 }
 
@@ -186,7 +234,7 @@ fn stands(operation: u32) -> bool {
         return false;
     }
     if on_panel(operation) {
-        return reads_sheet(operation);
+        return 0 < operation_shape(operation).sheets;
     }
     true
 }

@@ -18,6 +18,6 @@ mod print;
 
 fn main() {
     let mut buffer = io::large_buffer();
-    let mut words = [0u32; 24000];
+    let mut words = [0u32; 40000];
     cases::play(&mut buffer, &mut words);
 }

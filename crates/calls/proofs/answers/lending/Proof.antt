@@ -5,14 +5,16 @@ use borrow.Author.Needs.{needs}
 use Rattle.calls.proofs.answers.lending.Statement.{statement}
 use Rattle.calls.proofs.answers.lending.Tie as tie
 
-slice-aggregate-in-buffers : tie.Need-slice-aggregate-in-buffers
-slice-aggregate-in-buffers c = simp length-take (omega arith)
+out-fits : tie.Need-slice-aggregate-in-buffers
+out-fits c = simp length-take (omega arith)
 
-slice-aggregate-in-buffers-2 : tie.Need-slice-aggregate-in-buffers-2
-slice-aggregate-in-buffers-2 c = simp length-take (omega arith)
+second-fits : tie.Need-slice-aggregate-in-buffers-2
+second-fits c = simp length-take (omega arith)
+
+scratch-fits : tie.Need-slice-aggregate-in-buffers-3
+scratch-fits c = simp length-take (omega arith)
 
 pub lending-spec : {M : Type 1} → statement M
 lending-spec =
     tie.close
-    (tie.spec (λ c. search needs) slice-aggregate-in-buffers (λ c. search needs) slice-aggregate-in-buffers-2 (λ c κs. search needs)
-    (λ c. search needs))
+    (tie.spec (λ c. search needs) out-fits (λ c. search needs) second-fits (λ c. search needs) scratch-fits (λ c κs. search needs) (λ c. search needs))

@@ -5,11 +5,11 @@ use borrow.Author.Needs.{needs}
 use Rattle.calls.proofs.answers.line.Statement.{statement}
 use Rattle.calls.proofs.answers.line.Tie as tie
 
-slice-aggregate-lent : tie.Need-slice-aggregate-lent
-slice-aggregate-lent c = simp length-take (omega arith)
+slice-aggregate-one-sheet : tie.Need-slice-aggregate-one-sheet
+slice-aggregate-one-sheet c = simp length-take (omega arith)
 
 pub line-spec : {M : Type 1} → statement M
 line-spec =
     tie.close
-    (tie.spec slice-aggregate-lent (λ c. search needs) (λ c. search needs) (λ c. search needs) (λ c. search needs) (λ c. search needs)
+    (tie.spec slice-aggregate-one-sheet (λ c. search needs) (λ c. search needs) (λ c. search needs) (λ c. search needs) (λ c. search needs)
     (λ c. search needs) (λ c. search needs) (λ c. search needs) (λ c κs. search needs) (λ c. search needs))
