@@ -87,7 +87,7 @@ def ask(*calls):
     text = "\n".join(calls) + "\n0\n"
     lines = played(home.program("calls"), text, None).splitlines()
     if lines and lines[-1] == "too long":
-        raise Trouble("more words than the core's program takes in one call: net, sheet and firings may have 24,000 together")
+        raise Trouble("more words than the core's program takes in one call: net, sheets and firings may have 40,000 together")
     if len(lines) != len(calls):
         raise Trouble(f"the core gave {len(lines)} answers to {len(calls)} calls")
     return [Answer(line) for line in lines]

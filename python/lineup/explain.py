@@ -1,5 +1,5 @@
 """A refusal in the words of the planner: what is wrong, where it stands, what to do. The number and the position are the core's."""
-from lineup import explain_log, explain_mending, explain_schedule, explain_words, faults, mending
+from lineup import explain_log, explain_mending, explain_schedule, explain_words, faults
 from lineup.refusals import NO_COUNTS, OF_LOG, OF_NET, OF_RECORD, OF_WORDS, REFUSALS
 
 
@@ -19,29 +19,28 @@ class Disagreement(Exception):
     """What was found again beside the core is not what the core answers. One of the two is wrong, and the core is proved."""
 
 
-def again(net, sheet, record=None, log=None, mend=False):
-    """The first fault, found from the same words beside the core."""
+def again(net, sheet, record=None, log=None, judged=faults.sheet_fault):
+    """The first fault, found from the same words beside the core; `judged` finds what the call asks of a sheet."""
     fault = faults.Fault(1) if net.tail else faults.net_fault(net.words)
     if fault or sheet is None:
         return fault
-    judged = mending.mend_fault if mend else faults.sheet_fault
     fault = faults.Fault(6) if sheet.tail else judged(net.words, sheet.words)
     if fault or record is None and log is None:
         return fault
     return faults.record_fault(sheet.model, record) if log is None else faults.log_fault(sheet.model, log.words)
 
 
-def agree(answer, net, sheet, record=None, log=None, mend=False):
+def agree(answer, net, sheet, record=None, log=None, judged=faults.sheet_fault):
     """Holds the core's answer to the fault found again."""
-    found = again(net, sheet, record, log, mend) or faults.Fault(0)
+    found = again(net, sheet, record, log, judged) or faults.Fault(0)
     if tuple(found) != answer.fault():
         told = f"{found.number} {found.kind} {found.index}"
         raise Disagreement(f"the core answers {answer.line!r}, and the explanation finds {told}")
 
 
-def explain(answer, net, sheet, record=None, log=None, mend=False):
+def explain(answer, net, sheet, record=None, log=None, judged=faults.sheet_fault):
     """The explanation of a refusal."""
-    agree(answer, net, sheet, record, log, mend)
+    agree(answer, net, sheet, record, log, judged)
     if answer.number in OF_NET:
         return Explanation(answer, net, *explain_words.net_fault(answer, net))
     if answer.number in OF_WORDS:

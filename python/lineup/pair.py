@@ -1,5 +1,5 @@
 """A net and a sheet, what the core answers for them, and that this agrees with what can be seen in them."""
-from lineup import causes, core, explain, inputs
+from lineup import causes, core, explain, faults, inputs
 from lineup.explain import Disagreement
 from lineup.refusals import OF_NET, OF_WORDS
 from lineup.report import refused
@@ -25,10 +25,10 @@ class Pair:
         net, sheet = (s.data if s and s.tail else packed(s.words) if s else b"" for s in (self.net, self.sheet))
         return [core.files(net, sheet)]
 
-    def refusal(self, answer, record=None, log=None, mend=False):
+    def refusal(self, answer, record=None, log=None, judged=faults.sheet_fault):
         """The report of a refusal by the core."""
         likely = causes.likely(self.net, self.sheet) if answer.number in OF_NET | OF_WORDS else []
-        return refused(explain.explain(answer, self.net, self.sheet, record, log, mend), answer, likely)
+        return refused(explain.explain(answer, self.net, self.sheet, record, log, judged), answer, likely)
 
     def agree(self, checked, bounds):
         """Holds the numbers of an accepted sheet to what the sheet says."""

@@ -284,8 +284,8 @@ def trouble(tally, folder):
         tally.same(f"{command!r}: status", found[0], status)
         tally.holds(f"{command!r}: errors", found[2], errors)
         tally.holds(f"{command!r}: output", found[1], output)
-    long = lineup(folder, "run", "x.net", "x.sheet", *["s", "u"] * 13_000)
-    tally.same("a list that is too long", (long[0], "24,000 together" in long[2]), (2, True))
+    long = lineup(folder, "run", "x.net", "x.sheet", *["s", "u"] * 21_000)
+    tally.same("a list that is too long", (long[0], "40,000 together" in long[2]), (2, True))
     hundreds = lineup(folder, "run", "x.net", "x.sheet", *["s", "u"] * 3_000)
     tally.holds("a long list", hundreds[1], "fired 6000 node 0 entry 2")
 

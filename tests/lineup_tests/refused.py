@@ -30,18 +30,18 @@ def run(tally):
     too_large(tally)
 
 
-def told(tally, what, net, sheet, answer, record=None, log=None, mend=False):
+def told(tally, what, net, sheet, answer, record=None, log=None, judged=faults.sheet_fault):
     """The fault found again is the core's, and a refusal is told without the words for nothing."""
-    fault = explain.again(net, sheet, record, log, mend) or faults.Fault(0)
+    fault = explain.again(net, sheet, record, log, judged) or faults.Fault(0)
     tally.same(f"{what}: {answer.line}", tuple(fault), answer.fault())
     if not answer.number:
         return None
-    found = explain.explain(answer, net, sheet, record, log, mend)
+    found = explain.explain(answer, net, sheet, record, log, judged)
     tally.check(f"{what}: told", found.lines and not re.search("None|Counter|dict|<", " ".join(found.lines)), found.lines)
     return found
 
 
-def as_text(tally, what, net, sheet, answer, mend=False):
+def as_text(tally, what, net, sheet, answer, judged=faults.sheet_fault):
     """The same through the text: the words are the same, and the refusal has a line that names what is at fault."""
     if 0 in net.model.start.values():
         return  # no text says it: a place that starts with 0 has no entry
@@ -52,7 +52,7 @@ def as_text(tally, what, net, sheet, answer, mend=False):
     one.model, other.model = over, sheetfile.read("x.sheet", written[1], over)
     one.words, other.words = words.net_words(over), words.sheet_words(over, other.model)
     tally.same(f"{what}: words", (one.words, other.words), (net.words, sheet.words))
-    found = explain.explain(answer, one, other, mend=mend)
+    found = explain.explain(answer, one, other, judged=judged)
     text = written[0 if found.source is one else 1].split("\n")
     tally.check(f"{what}: has a line", found.where and 1 <= found.where[0] <= len(text) and found.where[1] <= len(text[found.where[0] - 1]), found.where)
 
@@ -85,14 +85,14 @@ def mendings(tally, cases, met):
     whats = Counter()
     for i, ((net, sheet), answer) in enumerate(zip(cases, answers)):
         met[answer.number] += 1
-        found = told(tally, f"mending {i}", net, sheet, answer, mend=True)
+        found = told(tally, f"mending {i}", net, sheet, answer, judged=mending.mend_fault)
         tally.check(f"mending {i}: {answer.line}", answer.number not in (10, 14, 15, 27))
         small = len(sheet.words) < 1500 or i % 5 == 0
         if answer.number == 25:
             what = mending.worked_out(net.model, sheet.model)[1].what
             whats[what] += 1
             if small and what != "entries":
-                as_text(tally, f"mending {i} as text", net, sheet, answer, mend=True)
+                as_text(tally, f"mending {i} as text", net, sheet, answer, judged=mending.mend_fault)
                 tally.holds(f"mending {i}: the firings", " ".join(found.lines), "is reached by", *(["but it can hold at most"] if what == "overfull" else []))
         if not answer.number:
             mended, changes = mend.held_to(net.model, sheet.model, answer)

@@ -21,8 +21,8 @@ def main(args):
     both = pair.load(args.net, args.sheet)
     answer = both.ask(core.mend)[0]
     if answer.number:
-        return both.refusal(answer, mend=True)
-    explain.agree(answer, both.net, both.sheet, mend=True)
+        return both.refusal(answer, judged=mending.mend_fault)
+    explain.agree(answer, both.net, both.sheet, judged=mending.mend_fault)
     net, sheet = both.net.model, both.sheet.model
     mended, changes = held_to(net, sheet, answer)
     report = Report(accepted=True, nodes=len(sheet.nodes), changes=[named(net, sheet, change) for change in changes])
