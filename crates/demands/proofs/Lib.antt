@@ -13,6 +13,8 @@ pub mod Entries
 pub mod Mend
 pub mod Capacities
 pub mod Panel
+pub mod ToldIndex
+pub mod Compare
 -- worked examples
 pub mod Examples
 pub mod Nine

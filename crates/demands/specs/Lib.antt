@@ -8,4 +8,5 @@ pub mod Entries
 pub mod Mend
 pub mod Capacities
 pub mod Panel
+pub mod Compare
 pub mod Examples

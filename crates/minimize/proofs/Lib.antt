@@ -8,3 +8,4 @@ pub mod SearchArcs
 pub mod SearchOrder
 -- words
 pub mod Writing
+pub mod TwoForms

@@ -1,4 +1,5 @@
 pub mod Tables
+pub mod Both
 pub mod Agree
 pub mod Leaders
 pub mod Search

@@ -1,4 +1,5 @@
 // The call that writes the minimal form of a schedule.
+mod both;
 mod classes;
 mod numbering;
 mod writer;
@@ -7,9 +8,23 @@ ghost use mathlib.Core.Path.{_≡_};
 ghost use Rattle.refusal.specs.declared.Verdict.the-variants.{Accepted};
 ghost use Rattle.graph.specs.Readable.{wordsReply};
 ghost use Rattle.minimal.specs.Form.{FormOf, FormWritten, FormDone};
+ghost use Rattle.minimize.specs.Both.{FormsOf};
 use minimal::FormAnswer;
+use refusal::Refusal;
 use refusal::Verdict;
 use schedule::Walker;
+
+// The lengths in words of two forms.
+pub struct FormLengths {
+    pub first: usize,
+    pub second: usize,
+}
+
+// What is answered for two forms: the lengths of what was written, or a refusal.
+pub enum FormsAnswer {
+    Written(FormLengths),
+    Refused(Refusal),
+}
 
 // The minimal form of words that can be read.
 fn written(net: &[u32], sheet: &[u32], out: &mut [u32]) -> FormAnswer
@@ -30,6 +45,27 @@ pub fn form_of(net: &[u32], sheet: &[u32], out: &mut [u32]) -> FormAnswer
         return FormAnswer::Refused(r);
     }
     written(net, sheet, out)
+}
+
+// The minimal forms of two such, the first asked before the second: both are written, or neither.
+pub fn forms_of(
+    net: &[u32],
+    first: &[u32],
+    second: &[u32],
+    one: &mut [u32],
+    two: &mut [u32],
+) -> FormsAnswer
+    ensures { λ r. ⌜ FormsOf (now (net .entry)) (now (first .entry)) (now (second .entry)) (now (one .entry)) (now (two .entry)) r (now (one .exit)) (now (two .exit)) ⌝ }
+{
+    let found = graph::check(net, first);
+    if let Verdict::Refused(r) = found {
+        return FormsAnswer::Refused(r);
+    }
+    let found = graph::check(net, second);
+    if let Verdict::Refused(r) = found {
+        return FormsAnswer::Refused(r);
+    }
+    both::written(net, first, second, one, two)
 }
 
 // The minimal form of a schedule without scratch.

@@ -1,0 +1,35 @@
+-- The comparison as an instance of what every call is. Its last number, which a refusal has too, stands beside.
+use Rattle.scan.proofs.Basics.{ℕ, _≡_, refl, List, [], _∷_, _++_, length}
+use Rattle.scan.specs.Scan.{bit}
+use Rattle.refusal.specs.Refusal.{refusal, told}
+use Rattle.refusal.specs.declared.Position.{Position}
+use Rattle.refusal.specs.declared.Position.the-variants.{Nothing, Entry, Place, Node, Record}
+use Rattle.refusal.proofs.Judges.{Judges, judges-found, judges-then, pass-append}
+use Rattle.net.specs.Checks.{netChecks}
+use Rattle.net.proofs.Checks.{net-judged}
+use Rattle.net.proofs.Laws.{sizes}
+use Rattle.sequential.specs.Petri.{petriNet}
+use Rattle.sequential.specs.Checks.{sheetChecks}
+use Rattle.sequential.proofs.Accepted.{schedule-judged, sheet-tells}
+use Rattle.call.proofs.Judged.{Lawful}
+use Rattle.minimal.specs.Minimal.{minimalForm}
+use Rattle.compare.specs.Compare.{compareVerdict, sameForms, compareCore, plainCompared}
+
+module _ (net x y : List ℕ) where
+  pub compare-judged : Judges (compareVerdict net x y) ((netChecks net ++ sheetChecks (petriNet net) x) ++ sheetChecks (petriNet net) y)
+  unfolding compareVerdict
+  compare-judged =
+      judges-then _ _ (netChecks net ++ sheetChecks (petriNet net) x) (sheetChecks (petriNet net) y) (schedule-judged net x) (λ p.
+      let n = pass-append (netChecks net) (sheetChecks (petriNet net) x) .0 p .0 in
+      judges-found _ _ (sheet-tells (petriNet net) y (sizes net (net-judged net .accepts .1 n) .some-transition)))
+
+  pub compare-law : Lawful (compareCore net x y) plainCompared 3 (length (minimalForm net x) ∷ length (minimalForm net y) ∷ bit (sameForms net x y) ∷ [])
+      ((netChecks net ++ sheetChecks (petriNet net) x) ++ sheetChecks (petriNet net) y)
+  compare-law = record { judged = compare-judged; proper = refl; plain-accepted = refl; own-length = refl; plain-refused = λ r. refused (r .number) (r .at) }
+    where
+      refused : (number : ℕ) (at : Position) → plainCompared (compareCore net x y .refused (refusal number at)) ≡ told (refusal number at) 3
+      refused number Nothing = refl
+      refused number (Entry i) = refl
+      refused number (Place i) = refl
+      refused number (Node i) = refl
+      refused number (Record i) = refl

@@ -1,0 +1,25 @@
+-- `compare::compare` meets its contract.
+use Rattle.scan.proofs.Basics.{sym, _∙_}
+use Rattle.call.proofs.Laws.{refused-scratch, served}
+use borrow.Author.Needs.{needs}
+use Rattle.compare.proofs.Paths.{scratch-missing}
+use Rattle.compare.proofs.Says.{compare-done}
+use Rattle.compare.proofs.compare.Statement.{statement}
+use Rattle.compare.proofs.compare.Tie as tie
+
+returns : tie.Need-returns
+returns c =
+    let e = sym (c .before .before .before .before .scratch-fault .ensures) ∙ c .before .before .found .given .1 in
+    compare-done _ _ _ (refused-scratch e (c .refused .ensures ∙ scratch-missing _ _ 0 _ e))
+
+returns-2 : tie.Need-returns-2
+returns-2 c =
+    let d = c .before .before .before .before .before .before .before .before in
+    compare-done _ _ _ (served (sym (d .before .before .before .before .before .scratch-fault .ensures) ∙ d .before .before .before .enum-told .given .1)
+    (d .compare-into .ensures) (c .before .before .clear-front .ensures))
+
+pub compare-spec : {M : Type 1} → statement M
+compare-spec =
+    tie.close
+    (tie.spec (λ c κs. search needs) (λ c. search needs) (λ c κs. search needs) returns (λ c. search needs) (λ c κs. search needs) (λ c κs. search needs)
+    (λ c. search needs) (λ c. search needs) (λ c. search needs) returns-2)

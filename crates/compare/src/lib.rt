@@ -1,0 +1,164 @@
+// Two schedules of a net compared by their minimal forms (§10.50): each form is written to a buffer of its own, and the words are compared.
+ghost use mathlib.Core.Path.{_≡_};
+ghost use Prim.Native.Nat.{_≤_};
+ghost use lib.ListN.{length};
+ghost use Rattle.scan.specs.Scan.{bit};
+ghost use Rattle.compare.specs.Compare.{plainCompare, ofSchedule, refusedBy, sameFronts, CompareWritten};
+ghost use Rattle.compare.specs.Means.{CompareDone};
+use call::Index;
+use minimize::FormsAnswer;
+use refusal::Limits;
+use refusal::Refusal;
+use refusal::Verdict;
+
+// What two schedules come to: the lengths in words of both forms, and whether these are the same.
+pub struct Comparison {
+    pub first: usize,
+    pub second: usize,
+    pub same: bool,
+}
+
+// A refusal, and the index of the schedule that it is about.
+pub struct Fault {
+    pub refusal: Refusal,
+    pub sheet: Index,
+}
+
+pub enum CompareAnswer {
+    Compared(Comparison),
+    Refused(Fault),
+}
+
+// 1 where a test holds, and else 0.
+fn told(test: bool) -> usize
+    ensures { λ r. ⌜ r ≡ bit test ⌝ }
+{
+    if test {
+        return 1;
+    }
+    0
+}
+
+impl CompareAnswer {
+    // Its plain numbers: §8.1.
+    pub fn plain(self) -> [usize; 7]
+        ensures { λ r. ⌜ r ≡ plainCompare self ⌝ }
+    {
+        match self {
+            CompareAnswer::Compared(c) => [0usize, 0, 0, c.first, c.second, told(c.same), 0],
+            CompareAnswer::Refused(f) => {
+                let r = f.refusal;
+                let at = r.at;
+                let sheet = f.sheet;
+                [
+                    r.number as usize,
+                    at.kind() as usize,
+                    at.index(),
+                    0,
+                    0,
+                    0,
+                    sheet.plain(),
+                ]
+            }
+        }
+    }
+}
+
+// The refusals of a schedule: §7.6 to §7.17 and §7.27.
+fn of_schedule(number: u32) -> bool
+    ensures { λ r. ⌜ r ≡ ofSchedule number ⌝ }
+{
+    if number == Refusal::OVER_CAPACITY {
+        return true;
+    }
+    if number < Refusal::SCHEDULE_LENGTH {
+        return false;
+    }
+    number <= Refusal::NO_PATH_TO_AWAIT
+}
+
+// Refused, about a schedule where the number is one of a schedule's.
+fn refused(refusal: Refusal, sheet: u32) -> CompareAnswer
+    ensures { λ r. ⌜ r ≡ refusedBy refusal sheet ⌝ }
+{
+    if of_schedule(refusal.number) {
+        return CompareAnswer::Refused(Fault {
+            refusal,
+            sheet: Index::Known(sheet),
+        });
+    }
+    CompareAnswer::Refused(Fault {
+        refusal,
+        sheet: Index::Missing,
+    })
+}
+
+// Equal in length and word for word: §11.8. Nothing leaves the loop early, so that several words are compared at once.
+fn same_fronts(one: &[u32], two: &[u32], first: usize, second: usize) -> bool
+    requires { ⌜ (first ≤ length (now one)) × (second ≤ length (now two)) ⌝ }
+    ensures { λ r. ⌜ r ≡ sameFronts (now (one .entry)) (now (two .entry)) first second ⌝ }
+{
+    if first != second {
+        return false;
+    }
+    let mut alike = true;
+    let mut i = 0;
+    while i < first {
+        if one[i] != two[i] {
+            alike = false;
+        }
+        i += 1;
+    }
+    alike
+}
+
+// The comparison without scratch.
+pub fn compare_into(
+    net: &[u32],
+    first: &[u32],
+    second: &[u32],
+    one: &mut [u32],
+    two: &mut [u32],
+) -> CompareAnswer
+    ensures { λ r. ⌜ CompareWritten (now (net .entry)) (now (first .entry)) (now (second .entry)) (now (one .entry)) (now (two .entry)) r (now (one .exit)) (now (two .exit)) ⌝ }
+{
+    let found = judge::verdict(net, first);
+    if let Verdict::Refused(r) = found {
+        return refused(r, 0);
+    }
+    let found = judge::verdict(net, second);
+    if let Verdict::Refused(r) = found {
+        return refused(r, 1);
+    }
+    match minimize::forms_of(net, first, second, one, two) {
+        FormsAnswer::Refused(r) => refused(r, 1),
+        FormsAnswer::Written(lengths) => {
+            let same = same_fronts(one, two, lengths.first, lengths.second);
+            CompareAnswer::Compared(Comparison {
+                first: lengths.first,
+                second: lengths.second,
+                same,
+            })
+        }
+    }
+}
+
+// Whether two schedules allow the same lists, by their minimal forms: §10.50, §10.51.
+pub fn compare(
+    net: &[u32],
+    first: &[u32],
+    second: &[u32],
+    one: &mut [u32],
+    two: &mut [u32],
+    scratch: &mut [u32],
+) -> CompareAnswer
+    ensures { λ r. ⌜ CompareDone (now (net .entry)) (now (first .entry)) (now (second .entry)) (now (one .entry)) (now (two .entry)) (now (scratch .entry)) r (now (one .exit)) (now (two .exit)) (now (scratch .exit)) ⌝ }
+{
+    let found = call::scratch_fault(Limits::SCRATCH, scratch.len());
+    if let Verdict::Refused(r) = found {
+        return refused(r, 0);
+    }
+    let answer = compare_into(net, first, second, one, two);
+    scan::clear_front(scratch, Limits::SCRATCH);
+    answer
+}
