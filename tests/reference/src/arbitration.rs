@@ -16,7 +16,7 @@ pub struct Arbitration {
 
 impl Arbitration {
     pub fn count(&mut self, call: &Call, outcome: &Outcome) {
-        if !call.kind.reads_sheet() || ![0, 12].contains(&outcome.reply[0]) {
+        if call.kind.sheets() != 1 || ![0, 12].contains(&outcome.reply[0]) {
             return;
         }
         let Some(net) = Net::spread_out(&call.net) else {

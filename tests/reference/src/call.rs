@@ -1,6 +1,7 @@
 //! A call with everything it lends, and what it leaves behind.
 
-use crate::model::{self, Walker, FORM, LINES, LIST, PANEL, SCRATCH};
+use crate::model::{self, Walker, FORM, LINES, PANEL, SCRATCH};
+use std::collections::BTreeSet;
 
 #[derive(Clone, Copy, PartialEq, Eq, PartialOrd, Ord)]
 pub enum Kind {
@@ -13,14 +14,36 @@ pub enum Kind {
     ShortForm,
     Replay,
     Mend,
+    Compare,
 }
 
 use Kind::{
-    FreshWalker, Mend, NetCheck, PlaceBounds, Replay, Run, SheetCheck, ShortForm, SingleFiring,
+    Compare, FreshWalker, Mend, NetCheck, PlaceBounds, Replay, Run, SheetCheck, ShortForm,
+    SingleFiring,
 };
 
+/// The operations that the program `calls` plays, and of which `cases` makes cases. One that the
+/// program does not play yet is left out here; the reference knows and tests all of `Kind::ALL`.
+pub const OPERATIONS: &[Kind] = &[
+    NetCheck,
+    SheetCheck,
+    PlaceBounds,
+    FreshWalker,
+    SingleFiring,
+    Run,
+    ShortForm,
+    Replay,
+    Mend,
+    Compare,
+];
+
+/// The numbers of a net that is refused, and 0: §7.55.
+const OF_NET: [u64; 7] = [0, 1, 2, 3, 4, 5, 26];
+/// The numbers of a sheet that is refused as a schedule, and of the scratch lent: §7.56, §7.57.
+const OF_SHEET: [u64; 14] = [6, 7, 8, 9, 10, 11, 12, 13, 14, 15, 16, 17, 21, 27];
+
 impl Kind {
-    pub const ALL: [Kind; 9] = [
+    pub const ALL: [Kind; 10] = [
         NetCheck,
         SheetCheck,
         PlaceBounds,
@@ -30,6 +53,7 @@ impl Kind {
         ShortForm,
         Replay,
         Mend,
+        Compare,
     ];
 
     pub fn name(self) -> &'static str {
@@ -43,6 +67,7 @@ impl Kind {
             ShortForm => "form",
             Replay => "replay",
             Mend => "mend",
+            Compare => "compare",
         }
     }
 
@@ -51,6 +76,7 @@ impl Kind {
         match self {
             Replay => 9,
             Mend => 10,
+            Compare => 14,
             _ => self as u32 + 1,
         }
     }
@@ -64,22 +90,56 @@ impl Kind {
             ShortForm => &["length"],
             Replay => &["taken", "put", "entry"],
             Mend => &["length", "list"],
+            Compare => &["length", "length", "same", "sheet"],
             _ => &[],
         }
     }
 
+    /// Every number that it answers: §7.54 to §7.62.
+    pub fn numbers(self) -> BTreeSet<u64> {
+        let own: &[u64] = match self {
+            NetCheck | FreshWalker | SheetCheck => &[],
+            PlaceBounds | ShortForm | Compare => &[22],
+            SingleFiring => &[18, 19, 20],
+            Run => &[20, 22],
+            Replay => &[20, 22, 23, 24],
+            Mend => &[6, 7, 8, 9, 11, 12, 13, 16, 17, 21, 22, 25],
+        };
+        let of_sheet = if self.checks_whole() { &OF_SHEET[..] } else { &[] };
+        OF_NET.iter().chain(of_sheet).chain(own).copied().collect()
+    }
+
     /// Whether it reads a sheet and borrows scratch: §9.1.
     pub fn reads_sheet(self) -> bool {
-        !matches!(self, NetCheck | FreshWalker)
+        self.sheets() > 0
+    }
+
+    /// How many sheets it reads.
+    pub fn sheets(self) -> usize {
+        match self {
+            NetCheck | FreshWalker => 0,
+            Compare => 2,
+            _ => 1,
+        }
+    }
+
+    /// Whether what it reads as sheets has to be schedules, counts and all.
+    pub fn checks_whole(self) -> bool {
+        self.reads_sheet() && self != Mend
+    }
+
+    /// Whether the small panel has it: §10.20.
+    pub fn on_panel(self) -> bool {
+        self.reads_sheet() && self != Compare
     }
 
     pub fn writes_out(self) -> bool {
-        matches!(self, PlaceBounds | Run | ShortForm | Mend)
+        matches!(self, PlaceBounds | Run | ShortForm | Mend | Compare)
     }
 
     /// Whether it has a second output buffer of words.
     pub fn writes_list(self) -> bool {
-        self == Mend
+        matches!(self, Mend | Compare)
     }
 
     /// Whether it is handed a record or a log.
@@ -105,6 +165,8 @@ pub struct Call {
     pub panel: bool,
     pub net: Vec<u32>,
     pub sheet: Vec<u32>,
+    /// The sheets behind the first, of a call that reads several.
+    pub others: Vec<Vec<u32>>,
     pub record: Vec<u32>,
     pub transition: u32,
     pub walker: Walker,
@@ -133,11 +195,12 @@ impl Call {
             panel: false,
             net: net.to_vec(),
             sheet: sheet.to_vec(),
+            others: vec![Vec::new(); kind.sheets().saturating_sub(1)],
             record: Vec::new(),
             transition: 0,
             walker: [0; 1 + LINES],
             out: vec![0; FORM],
-            list: vec![0; LIST],
+            list: vec![0; FORM],
             sums: [vec![0; LINES], vec![0; LINES]],
             scratch: vec![0; SCRATCH],
         }
@@ -187,6 +250,10 @@ impl Call {
                 model::replay(net, sheet, record, taken, put, &mut scratch).to_vec()
             }
             Mend => model::mend(net, sheet, &mut out, &mut list, &mut scratch).to_vec(),
+            Compare => {
+                let (sheets, outs) = ([&sheet[..], &self.others[0]], [&mut out[..], &mut list]);
+                model::compare(net, sheets, outs, &mut scratch).to_vec()
+            }
         };
         Outcome { reply, walker, out, list, sums, scratch }
     }
@@ -199,21 +266,24 @@ impl Call {
         let length = match self.kind {
             _ if outcome.reply[0] != 0 => 0,
             PlaceBounds | Run => self.net.first().map_or(0, |&places| places as usize),
-            ShortForm | Mend => outcome.reply[3] as usize,
+            ShortForm | Mend | Compare => outcome.reply[3] as usize,
             _ => 0,
         };
         &outcome.out[..length.min(outcome.out.len())]
     }
 
-    /// How many words a mending needs of its two buffers.
+    /// How many words a call that answers lengths needs of its output buffers.
     pub fn lengths(&self) -> [usize; 2] {
-        let reply = Call::new(Mend, &self.net, &self.sheet).put().reply;
-        [reply[3] as usize, reply[4] as usize]
+        let roomy = Call::new(self.kind, &self.net, &self.sheet);
+        let Call { out, list, scratch, .. } = roomy;
+        let reply = Call { out, list, scratch, panel: false, ..self.clone() }.put().reply;
+        let second = if self.kind.writes_list() { reply[4] as usize } else { 0 };
+        [reply[3] as usize, second]
     }
 
-    /// The list that a mending wrote.
+    /// What a call wrote into its second buffer of words.
     pub fn listed<'a>(&self, outcome: &'a Outcome) -> &'a [u32] {
-        let length = if self.kind == Mend { outcome.reply[4] as usize } else { 0 };
+        let length = if self.kind.writes_list() { outcome.reply[4] as usize } else { 0 };
         &outcome.list[..length.min(outcome.list.len())]
     }
 }

@@ -6,9 +6,10 @@ pub mod logs;
 pub mod rng;
 pub mod schedules;
 pub mod stale;
+pub mod twins;
 pub mod variants;
 
-use crate::call::{Call, Kind};
+use crate::call::{Call, Kind, OPERATIONS};
 use crate::model::{Net, Walker, FORM, LINES, MAX_WEIGHT, PANEL, SCRATCH};
 use crate::text::Case;
 use rng::Rng;
@@ -101,7 +102,7 @@ fn replaced(rng: &mut Rng, schedule: &Schedule) -> (Vec<u32>, Vec<u32>) {
 /// A case of any operation that the program `calls` plays.
 pub fn case(rng: &mut Rng) -> Case {
     if rng.chance(95) {
-        return Case::Call(call(rng));
+        return Case::Call(call(rng, OPERATIONS));
     }
     let net = if rng.chance(50) { net(rng) } else { schedule(rng).net };
     let mut words = net_words(&net);
@@ -126,9 +127,36 @@ fn place_asked(rng: &mut Rng, net: &Net, words: &[u32]) -> (usize, usize) {
     (key / net.places() % net.transitions(), key % net.places())
 }
 
-/// A call of any kind.
-pub fn call(rng: &mut Rng) -> Call {
-    let kind = rng.pick(&Kind::ALL);
+/// A call of any of the kinds. Where some kinds are left out, the cases of all others stay.
+pub fn call(rng: &mut Rng, kinds: &[Kind]) -> Call {
+    let mut kind = rng.pick(&Kind::ALL);
+    while !kinds.contains(&kind) {
+        kind = rng.pick(&Kind::ALL);
+    }
+    let mut call = match kind {
+        Kind::Compare => comparison(rng),
+        _ => of_one_sheet(rng, kind),
+    };
+    call.scratch = scratch(rng, SCRATCH);
+    if kind.on_panel() && rng.chance(25) {
+        call.panel = true;
+        call.scratch = scratch(rng, PANEL);
+    }
+    call
+}
+
+/// A call that compares two sheets, with buffers that hold what is needed in most.
+fn comparison(rng: &mut Rng) -> Call {
+    let schedule = schedule(rng);
+    let (net, [first, second]) = twins::any(rng, &schedule);
+    let mut call = Call::new(Kind::Compare, &net, &first);
+    call.others[0] = second;
+    roomy_buffers(rng, &mut call);
+    call
+}
+
+/// A call of a kind that reads a net alone, or one sheet, and maybe a record or a log.
+fn of_one_sheet(rng: &mut Rng, kind: Kind) -> Call {
     let schedule = schedule(rng);
     let (mut net_part, sheet_part) = match kind {
         Kind::Mend if rng.chance(80) => stale::words(rng, &schedule),
@@ -154,15 +182,9 @@ pub fn call(rng: &mut Rng) -> Call {
     };
     call.out = buffer(rng, needed);
     if kind == Kind::Mend {
-        let lengths = call.lengths();
-        [call.out, call.list] = lengths.map(|needed| roomy(rng, needed));
+        roomy_buffers(rng, &mut call);
     }
     call.sums = [0, 1].map(|_| sums(rng, schedule.net.places()));
-    call.scratch = scratch(rng, SCRATCH);
-    if kind.reads_sheet() && rng.chance(25) {
-        call.panel = true;
-        call.scratch = scratch(rng, PANEL);
-    }
     call
 }
 
@@ -232,7 +254,13 @@ fn buffer(rng: &mut Rng, needed: usize) -> Vec<u32> {
     rng.words(length)
 }
 
-/// One of mending's two buffers, long enough in most.
+/// The output buffers of a call that answers lengths.
+fn roomy_buffers(rng: &mut Rng, call: &mut Call) {
+    let lengths = call.lengths();
+    [call.out, call.list] = lengths.map(|needed| roomy(rng, needed));
+}
+
+/// One of these, long enough in most.
 fn roomy(rng: &mut Rng, needed: usize) -> Vec<u32> {
     let length = if rng.chance(80) { needed + rng.below(3) } else { lent(rng, needed) };
     rng.words(length)

@@ -1,5 +1,7 @@
 //! The worked examples, §14.2 to §14.8 and §14.16, with their answers, and logs whose replay is told by hand.
 
+mod comparison;
+
 use crate::call::{Call, Kind};
 use crate::generate::rng::Rng;
 use crate::generate::schedules::{crowded, net_words, nine_nodes, ring};
@@ -122,6 +124,7 @@ pub fn check(tally: &mut Tally) {
     mendings(tally);
     limits(tally);
     output(tally);
+    comparison::check(tally);
 }
 
 fn text_words(text: &str) -> Vec<u32> {

@@ -13,14 +13,16 @@ mod panel;
 mod program;
 mod second;
 mod selftest;
+mod sorts;
 mod tally;
 mod text;
 
 use arbitration::Arbitration;
-use call::{Call, Kind};
+use call::{Call, Kind, OPERATIONS};
 use generate::rng::Rng;
 use generate::schedules::Schedule;
 use mending::Mending;
+use sorts::Sorts;
 use std::io::{Read, Write};
 use std::path::Path;
 use std::process::ExitCode;
@@ -35,7 +37,9 @@ const USAGE: &str = "usage: reference selftest
        reference pairs SEED COUNT
        reference play < CASES
        reference arbitrated < CASES
-       reference mended < CASES";
+       reference mended < CASES
+       reference sorts < CASES
+       reference numbers";
 
 fn main() -> ExitCode {
     let arguments: Vec<String> = std::env::args().skip(1).collect();
@@ -45,6 +49,8 @@ fn main() -> ExitCode {
         ["play"] => return written(play),
         ["arbitrated"] => return written(arbitrated),
         ["mended"] => return written(mended),
+        ["sorts"] => return written(sorts),
+        ["numbers"] => return written(|| Ok(numbers())),
         ["file", folder] => return written(|| Ok(program::printed_in(Path::new(folder)))),
         ["cases", seed, count] => {
             if let (Ok(seed), Ok(count)) = (seed.parse(), count.parse()) {
@@ -129,6 +135,26 @@ fn mended() -> std::io::Result<String> {
     Ok(met.line() + "\n")
 }
 
+/// Of which sorts the calls of standard input were.
+fn sorts() -> std::io::Result<String> {
+    let mut met = Sorts::default();
+    for case in given()? {
+        if let Case::Call(call) = case {
+            met.count(&call, &call.put());
+        }
+    }
+    Ok(met.lines())
+}
+
+/// A line for each operation of which cases are made: its number, then each that it answers.
+fn numbers() -> String {
+    let line = |kind: &Kind| {
+        let numbers: Vec<u64> = kind.numbers().into_iter().collect();
+        format!("{} {}\n", kind.operation(), text::listed(&numbers))
+    };
+    OPERATIONS.iter().map(line).collect()
+}
+
 /// Generated cases, one to a line.
 fn cases(seed: u64, count: u64) -> String {
     let case = |index| generate::case(&mut Rng::for_case(seed, index)).text() + "\n";
@@ -141,7 +167,7 @@ fn pairs(seed: u64, count: u64) -> String {
     let pair = |index| {
         let rng = &mut Rng::for_case(seed, index);
         let schedule = generate::schedule(rng);
-        let other = selftest::sibling(rng, &schedule)?;
+        let other = generate::twins::sibling(rng, &schedule)?;
         let line = |made: &Schedule| {
             let (net, sheet) = made.words();
             Call::new(Kind::SheetCheck, &net, &sheet).text() + "\n"

@@ -1,7 +1,9 @@
 //! The calls from the customer's scope, the plainest way: tables are dense and numbers are 64 bits
-//! wide, so that no sum of the limits comes near their end. `net`, `sheet`, `form` and `mending` are
-//! what their names say; here are the refusals and the calls. Clauses are those of `docs/SPEC.md`.
+//! wide, so that no sum of the limits comes near their end. `net`, `sheet`, `form`, `mending` and the
+//! others are what their names say; here are the refusals and the calls. Clauses are those of
+//! `docs/SPEC.md`.
 
+mod comparison;
 mod form;
 mod mending;
 mod net;
@@ -22,7 +24,7 @@ pub const MAX_FIRINGS: u64 = 4_096;
 pub const SCRATCH: usize = 8_192;
 /// The same for the small panel: §1.12.
 pub const PANEL: usize = 1_024;
-/// Words that every short form and every mended sheet fits in: §11.7.
+/// Words that every short form, every mended sheet and every list of changes fits in: §11.7.
 pub const FORM: usize = 8_194;
 /// Words that every list of changes fits in, one change for each of 32 places at 128 nodes: §10.16.
 pub const LIST: usize = 8_193;
@@ -60,14 +62,17 @@ impl Position {
 pub struct Refusal {
     number: u64,
     at: Position,
+    /// Which sheet is refused, by a call that reads several.
+    sheet: Option<usize>,
 }
 
 fn refuse<T>(number: u64, at: Position) -> Result<T, Refusal> {
-    Err(Refusal { number, at })
+    Err(Refusal { number, at, sheet: None })
 }
 
 /// The plain numbers of an answer: number, kind, position, then the call's own (§8.1), which are 0
-/// where it is refused (§8.3); an accepted one has no position.
+/// where it is refused (§8.3); an accepted one has no position. Of a call that reads several sheets
+/// the last tells which of them is refused.
 fn plain<const N: usize>(answer: Result<Vec<u64>, Refusal>) -> [u64; N] {
     let mut reply = [0; N];
     match answer {
@@ -75,6 +80,9 @@ fn plain<const N: usize>(answer: Result<Vec<u64>, Refusal>) -> [u64; N] {
         Err(refusal) => {
             reply[0] = refusal.number;
             reply[1..3].copy_from_slice(&refusal.at.plain());
+            if refusal.sheet.is_some() {
+                reply[N - 1] = sent(refusal.sheet.map(|sheet| sheet as u64));
+            }
         }
     }
     reply
@@ -103,6 +111,15 @@ fn accept_net(net: &[u32], scratch: &mut [u32]) -> Result<Net, Refusal> {
     }
     scratch[..SCRATCH].fill(0);
     Net::read(net)
+}
+
+/// The checks of one of several sheets, which is whole.
+fn accept_sheet(net: &Net, words: &[u32], index: usize) -> Result<Sheet, Refusal> {
+    let checked = Sheet::read(net, words).and_then(|sheet| {
+        sheet.check_schedule(net)?;
+        Ok(sheet)
+    });
+    checked.map_err(|refusal| Refusal { sheet: Some(index), ..refusal })
 }
 
 /// 22 where the result does not fit (§9.6); otherwise writes it and leaves the rest (§9.4).
@@ -314,6 +331,30 @@ pub fn mend(
         write(out, &words)?;
         write(list, &changes)?;
         Ok(vec![words.len() as u64, changes.len() as u64])
+    });
+    plain(answer)
+}
+
+/// Comparison: the short forms of two sheets (§10.9), and whether both allow the same. The first
+/// sheet is checked whole before the second.
+pub fn compare(
+    net: &[u32],
+    sheets: [&[u32]; 2],
+    outs: [&mut [u32]; 2],
+    scratch: &mut [u32],
+) -> [u64; 7] {
+    let answer = accept_net(net, scratch).and_then(|net| {
+        let first = accept_sheet(&net, sheets[0], 0)?;
+        let second = accept_sheet(&net, sheets[1], 1)?;
+        let forms = [first.minimal_form().words(), second.minimal_form().words()];
+        if (0..2).any(|i| outs[i].len() < forms[i].len()) {
+            return refuse(22, Nothing);
+        }
+        for (out, form) in outs.into_iter().zip(&forms) {
+            write(out, form)?;
+        }
+        let same = u64::from(first.allows_same(&second));
+        Ok(vec![forms[0].len() as u64, forms[1].len() as u64, same, 0])
     });
     plain(answer)
 }

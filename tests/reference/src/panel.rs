@@ -1,7 +1,7 @@
 //! What the small panel's calls were lent and what they answered: §1.12, §10.20.
 
 use crate::call::{Call, Kind, Outcome};
-use crate::tally::{Tally, NUMBERS};
+use crate::tally::{numbers, Tally};
 use std::collections::BTreeMap;
 
 /// How many of the panel's calls of each kind were lent each length of scratch, and how many
@@ -35,7 +35,7 @@ impl OnPanel {
     /// number is answered.
     pub fn check(&self, tally: &mut Tally) {
         for kind in Kind::ALL {
-            let (name, has) = (kind.name(), kind.reads_sheet());
+            let (name, has) = (kind.name(), kind.on_panel());
             let lent = LENGTHS.map(|length| self.lent(kind, length));
             if has {
                 println!("{name} on the panel, with scratch of {LENGTHS:?}: {lent:?}");
@@ -47,7 +47,7 @@ impl OnPanel {
                 format!("{name} on the panel: 0 and 21")
             });
         }
-        for number in NUMBERS {
+        for number in numbers(Kind::ALL.into_iter().filter(|kind| kind.on_panel())) {
             tally.check(Kind::ALL.iter().any(|&kind| self.answers(kind, number)), || {
                 format!("number {number} was never answered on the panel")
             });

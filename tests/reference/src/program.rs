@@ -4,9 +4,9 @@
 use crate::generate::schedules::Schedule;
 use crate::generate::{self, rng::Rng};
 use crate::model::{self, FORM, SCRATCH};
+use crate::second;
 use crate::tally::Tally;
 use crate::text::{listed, position};
-use crate::{second, selftest};
 use std::path::{Path, PathBuf};
 use std::process::Command;
 
@@ -175,7 +175,7 @@ pub fn compare_pairs(
     for index in 0..count {
         let rng = &mut Rng::for_case(seed, index);
         let schedule = generate::schedule(rng);
-        let Some(other) = selftest::sibling(rng, &schedule) else {
+        let Some(other) = generate::twins::sibling(rng, &schedule) else {
             continue;
         };
         let same = second::paths::same_language(&schedule.sheet, 0, &other.sheet, 0);

@@ -1,10 +1,12 @@
 //! What passed and what failed, and how often each number was answered.
 
 use crate::call::{Call, Kind, Outcome};
-use std::collections::BTreeMap;
+use std::collections::{BTreeMap, BTreeSet};
 
-/// The numbers of the refusals, and 0.
-pub const NUMBERS: std::ops::RangeInclusive<u64> = 0..=27;
+/// The numbers that some of the calls answer.
+pub fn numbers(kinds: impl IntoIterator<Item = Kind>) -> BTreeSet<u64> {
+    kinds.into_iter().flat_map(Kind::numbers).collect()
+}
 
 /// Failures told in full; the rest are only counted.
 const TOLD: usize = 10;
@@ -56,7 +58,7 @@ impl Table {
     pub fn print(&self) {
         let head: String = Kind::ALL.iter().map(|kind| format!("{:>8}", kind.name())).collect();
         println!("number{head}     all");
-        for number in NUMBERS {
+        for number in numbers(Kind::ALL) {
             let cells: String =
                 Kind::ALL.iter().map(|&kind| format!("{:>8}", self.cell(number, kind))).collect();
             println!("{number:>6}{cells}{:>8}", self.times(number));

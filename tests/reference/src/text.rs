@@ -14,8 +14,10 @@
 //! | 8 weights | net, transition, place |
 //! | 9 replay | net, sheet, log, taken, put, scratch |
 //! | 10 mending | net, sheet, out, list, scratch |
+//! | 14 comparison | net, sheet, sheet, out, out, scratch |
 //!
-//! A call of the small panel has its operation's number plus 100; operations without scratch have none.
+//! A call of the small panel has its operation's number plus 100; operations without scratch have
+//! none, nor those from 11 on.
 //!
 //! Net, sheet, record and log are their length and their words; out, list, taken, put and scratch the
 //! length lent: these hold 9 before the call, and scratch 7. Numbers are decimal and parted by
@@ -83,12 +85,13 @@ impl Case {
         }
         let (panel, number) = (operation > PANEL, operation % PANEL);
         let kind = Kind::ALL.into_iter().find(|kind| kind.operation() == number)?;
-        if operation > 2 * PANEL || panel && !kind.reads_sheet() {
+        if operation > 2 * PANEL || panel && !kind.on_panel() {
             return None;
         }
         let net = from.words();
         let sheet = if kind.reads_sheet() { from.words() } else { Vec::new() };
         let mut call = Call { panel, ..Call::new(kind, &net, &sheet) };
+        call.others.iter_mut().for_each(|sheet| *sheet = from.words());
         if kind.has_record() {
             call.record = from.words();
         }
@@ -143,6 +146,9 @@ impl Call {
         if self.kind.reads_sheet() {
             text += &format!(" | sheet {}", counted(&self.sheet));
         }
+        for sheet in &self.others {
+            text += &format!(" | sheet {}", counted(sheet));
+        }
         if self.kind.has_record() {
             let name = if self.kind == Kind::Run { "record" } else { "log" };
             text += &format!(" | {name} {}", counted(&self.record));
@@ -156,7 +162,8 @@ impl Call {
             text += &format!(" | out {}", self.out.len());
         }
         if self.kind.writes_list() {
-            text += &format!(" | list {}", self.list.len());
+            let name = if self.kind == Kind::Compare { "out" } else { "list" };
+            text += &format!(" | {name} {}", self.list.len());
         }
         if self.kind.writes_sums() {
             let [taken, put] = [0, 1].map(|i| self.sums[i].len());

@@ -10,11 +10,11 @@ use crate::model::MAX_WEIGHT;
 pub fn words(rng: &mut Rng, schedule: &Schedule) -> (Vec<u32>, Vec<u32>) {
     let mut schedule = schedule.clone();
     match rng.below(24) {
-        0..=4 => {}
+        0..=3 => {}
         5..=6 => schedule = schedule.capped(rng),
         7..=8 => starve(rng, &mut schedule),
         9..=11 => damage::retarget(rng, &mut schedule),
-        12..=13 => lift_to_limit(rng, &mut schedule),
+        4 | 12..=13 => lift_to_limit(rng, &mut schedule),
         14 => schedule = too_crowded(rng),
         15..=16 => damage::too_low(rng, &mut schedule),
         17 => damage::overfill(rng, &mut schedule),
