@@ -261,6 +261,53 @@ fn one_sheet(operation: u32, shape: Shape, net: &[u32], sheet: &[u32], words: &[
     }
 }
 
+// Makes a call on several sheets and prints its answer.
+fn several_call(
+    net: &[u32],
+    first: &[u32],
+    second: &[u32],
+    out: &mut [u32],
+    other: &mut [u32],
+    scratch: &mut [u32],
+) {
+    print::compare_answer(compare::compare(net, first, second, out, other, scratch));
+}
+
+// The line of a case with several sheets, with the buffers lent to its call.
+fn among_several(
+    shape: Shape,
+    net: &[u32],
+    first: &[u32],
+    second: &[u32],
+    out: &mut [u32],
+    other: &mut [u32],
+    scratch: &mut [u32],
+) {
+    several_call(net, first, second, out, other, scratch);
+    left(shape, out, other, scratch);
+}
+
+// The line of a case with several sheets.
+fn several(shape: Shape, net: &[u32], first: &[u32], second: &[u32], lent: Buffers)
+    requires { ⌜ (lent .out ≤ 9000) × (lent .second ≤ 9000) × (lent .scratch ≤ 9000) ⌝ }
+{
+    let outs = lent.out;
+    let seconds = lent.second;
+    let scratches = lent.scratch;
+    let mut out = [9u32; 9000];
+    let mut other = [9u32; 9000];
+    let mut scratch = [7u32; 9000];
+    among_several(
+        shape,
+        net,
+        first,
+        second,
+        &mut out[..outs],
+        &mut other[..seconds],
+        &mut scratch[..scratches],
+    );
+}
+
 // The line of a case whose parts lie one after the other.
 pub(crate) fn line(operation: u32, shape: Shape, all: &[u32], marks: Marks, lent: Buffers)
     requires { ⌜
@@ -272,8 +319,19 @@ pub(crate) fn line(operation: u32, shape: Shape, all: &[u32], marks: Marks, lent
     let net = marks.net;
     let numbers = marks.numbers;
     let first = marks.first;
+    let second = marks.second;
     let fourth = marks.fourth;
     let words = marks.words;
+    if 1 < shape.sheets {
+        several(
+            shape,
+            &all[..net],
+            &all[numbers..first],
+            &all[first..second],
+            lent,
+        );
+        return;
+    }
     one_sheet(
         operation,
         shape,

@@ -95,6 +95,7 @@ fn operation_shape(operation: u32) -> Shape {
         6 => parts(0, 1, true, 0, 1),
         8 => parts(0, 0, false, 2, 0),
         9 => parts(0, 1, true, 0, 2),
+        14 => parts(0, 2, false, 0, 2),
         _ => parts(0, 1, false, 0, 2),
     }
 }
@@ -228,15 +229,13 @@ fn answered(operation: u32, buffer: &mut [u8], from: Text, into: &mut [u32]) -> 
     Next { more: true, rest }
 }
 
-// Whether a number stands for an operation; the panel has those that borrow scratch.
+// Whether a number stands for an operation.
 fn stands(operation: u32) -> bool {
-    if 10 < kind(operation) {
-        return false;
+    match operation {
+        1..=10 | 14 => true,
+        102 | 103 | 105..=107 | 109 | 110 => true,
+        _ => false,
     }
-    if on_panel(operation) {
-        return 0 < operation_shape(operation).sheets;
-    }
-    true
 }
 
 // Whether a number stands for no operation: 0 ends the cases, and so does the end of the input, which is read as 0.

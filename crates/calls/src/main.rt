@@ -7,8 +7,9 @@
 //   4 fresh walker   net                         8 weights        net, transition, place
 //   9 replay         net, sheet, log, taken, put, scratch
 //   10 mending       net, sheet, out, list, scratch
+//   14 comparison    net, two sheets, two outs, scratch
 // 102, 103, 105 to 107, 109 and 110 are the small panel's, each with the arguments of the number without 100.
-// Net, sheet, record and log are their length and their words; out, list, taken, put and scratch the length lent: these hold 9 before a call, and scratch 7.
+// Net, sheets, record and log are their length and their words; out, list, taken, put and scratch the length lent: these hold 9 before a call, and scratch 7.
 // A line ends with each output buffer's words up to the last that is not 9 and how many follow, and with how many words of scratch are 0,
 // how many are 7, and where the first 7 is. The words of a case and each buffer have a limit, past which the program ends: `too long`.
 mod answers;

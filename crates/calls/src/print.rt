@@ -2,6 +2,7 @@
 ghost use Prim.Native.Nat.{_≤_};
 ghost use mathlib.Core.Path.{_≡_};
 ghost use lib.ListN.{length, take};
+use compare::CompareAnswer;
 use judge::CheckAnswer;
 use libc::STDOUT_FILENO;
 use mended::MendAnswer;
@@ -87,6 +88,15 @@ pub(crate) fn mend_answer(answer: MendAnswer) {
     told(plain[0], plain[1], plain[2]);
     named(b" length", plain[3] as u64);
     named(b" list", plain[4] as u64);
+}
+
+pub(crate) fn compare_answer(answer: CompareAnswer) {
+    let plain = answer.plain();
+    told(plain[0], plain[1], plain[2]);
+    named(b" length", plain[3] as u64);
+    named(b" length", plain[4] as u64);
+    named(b" same", plain[5] as u64);
+    named(b" sheet", plain[6] as u64);
 }
 
 // What a transition takes and puts at a place, what the place starts with and its capacity.

@@ -1,5 +1,4 @@
 -- `calls::cases::lists`: each part ends where the next begins, as the callees say of their own.
-use native.Mathlib.Omega.{arith}
 use borrow.Author.Needs.{needs}
 use Rattle.calls.proofs.cases.lists.Statement.{statement}
 use Rattle.calls.proofs.cases.lists.Tie as tie
