@@ -15,6 +15,7 @@ pub mod Capacities
 pub mod Panel
 pub mod ToldIndex
 pub mod Compare
+pub mod Reading
 -- worked examples
 pub mod Examples
 pub mod Nine

@@ -9,4 +9,5 @@ pub mod Mend
 pub mod Capacities
 pub mod Panel
 pub mod Compare
+pub mod Reading
 pub mod Examples

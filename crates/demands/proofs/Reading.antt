@@ -1,0 +1,144 @@
+-- What is promised of the functions that read a schedule without scratch, proved: each is a call that is lent no scratch and asks for none.
+use Rattle.scan.proofs.Basics.{ℕ, arith, _≡_, refl, sym, _∙_, inr, ⊎-elim, true, List, [], _∷_, _++_, length}
+use mathlib.Core.Logic.{Iff·rfl}
+use Rattle.scan.proofs.Front.{cleared-whole}
+use Rattle.refusal.specs.Checks.{Check}
+use Rattle.refusal.specs.declared.Verdict.{Verdict}
+use Rattle.refusal.specs.declared.Verdict.the-variants as verdict
+use Rattle.refusal.proofs.Verdicts.{then-next}
+use Rattle.refusal.proofs.Judges.{Judges, judges-found, judges-then, properly, pass-append}
+use Rattle.net.specs.Check.{netReply}
+use Rattle.net.specs.Checks.{netChecks}
+use Rattle.net.proofs.Checks.{net-judged}
+use Rattle.sequential.specs.Petri.{petriNet}
+use Rattle.sequential.specs.Checks.{wordChecks, arcWordChecks}
+use Rattle.sequential.specs.Check.{scheduleReply}
+use Rattle.sequential.proofs.Words.{words-tell, arcs-tell}
+use Rattle.sequential.proofs.Accepted.{schedule-judged, task-judged}
+use Rattle.sequential.proofs.Bounds.{bounds-length}
+use Rattle.graph.specs.Readable.{wordsReply, arcsReply}
+use Rattle.judge.specs.Answer.{countsOf, checkAnswer}
+use Rattle.judge.specs.declared.CheckAnswer.{CheckAnswer}
+use Rattle.call.specs.Call.{Core, CallDone, WordsDone}
+use Rattle.call.specs.Demands.{callChecks, ByChecks, EveryCall}
+use Rattle.call.proofs.Lent.{scratch-enough}
+use Rattle.call.proofs.Laws.{call-enough, served}
+use Rattle.call.proofs.Judged.{Lawful}
+use Rattle.call.proofs.Done.{verdict-by-checks}
+use Rattle.call.proofs.Demands.{every-call-none, every-call-one, every-call-two, every-call-value}
+use Rattle.schedule.specs.Calls.{checkCore}
+use Rattle.schedule.proofs.Following.{end-length}
+use Rattle.schedule.proofs.Done.{check-words, check-law, bounds-law, fire-law, run-law}
+use Rattle.replay.proofs.Done.{replay-law}
+use Rattle.minimal.specs.Minimal.{minimalForm}
+use Rattle.minimal.specs.Form.{readCore, plainForm}
+use Rattle.minimal.proofs.Done.{form-law}
+use Rattle.minimize.specs.Both.{bothCore}
+use Rattle.compare.proofs.Done.{compare-law}
+use Rattle.mended.specs.Mend.{mendedWords}
+use Rattle.mended.specs.Changes.{changes}
+use Rattle.mended.proofs.Done.{mend-law}
+use Rattle.demands.specs.Reading.{EveryReading, EveryVerdict, plainForms, readChecks, ReadingDemand}
+use Rattle.demands.proofs.Replay.{rows-fit}
+
+-- ---- no scratch
+
+-- what is done with no scratch is done by a call that asks for none
+no-scratch : {Answer : Type 0} {core : Core Answer} {outs outs′ : List (List ℕ)} {a : Answer} → WordsDone core outs a outs′ → CallDone 0 core outs [] a outs′ []
+no-scratch d = served (scratch-enough 0 0 (omega arith)) d (sym (cleared-whole 0 [] (omega arith)))
+
+of-words : {Answer : Type 0} {core : Core Answer} {outs outs′ : List (List ℕ)} {a : Answer} {s′ : List ℕ} → CallDone 0 core outs [] a outs′ s′ → WordsDone core outs a outs′
+of-words {core = core} {outs = outs} d =
+    let e = call-enough core outs 0 0 (omega arith) in
+    record { reply = d .reply ∙ rw e refl; written = d .written ∙ rw e refl }
+
+-- and 21 is then never the answer
+by-words : {checks : List Check} {plain : List ℕ} {k : ℕ} → ByChecks (callChecks 0 [] checks) plain k → ByChecks checks plain k
+by-words b = record {
+  zero = (λ z. b .zero .0 z .1, λ p. b .zero .1 (omega arith, p));
+  named = λ n. let (r, f, e) = b .named n in (r, ⊎-elim (λ (m, q). absurd (m (omega arith))) (λ (l, g). g) f, e);
+  this = λ r f. b .this r (inr (omega arith, f));
+}
+
+module _ {Answer Left : Type 0} {plain : Answer → List ℕ} {k : ℕ} {rest : List Check} {before : Left} {Call : List ℕ → Answer → Left → List ℕ → Type 0} {Words : Answer → Left → Type 0}
+    (to : (a : Answer) (left : Left) → Words a left → Call [] a left []) (from : (a : Answer) (left : Left) (s′ : List ℕ) → Call [] a left s′ → Words a left) where
+  reading : EveryCall 0 plain k (λ s. callChecks 0 s rest) before Call → EveryReading plain k rest before Words
+  reading e = record {
+    replies = let (a, left, s′, d) = e .replies [] in (a, left, from a left s′ d);
+    one = λ a b left right c d. e .one [] [] [] [] a b left right refl (to a left c) (to b right d);
+    by-numbers = λ a left d. by-words (e .by-numbers [] [] a left (to a left d));
+    keeps = λ a left d n. e .keeps [] [] a left (to a left d) n;
+  }
+
+-- with one output buffer, and with two
+module _ {Answer : Type 0} {core : Core Answer} {plain : Answer → List ℕ} {k : ℕ} {rest : List Check} where
+  reads-one : {out : List ℕ} → EveryCall 0 plain k (λ s. callChecks 0 s rest) out (λ s a left s′. CallDone 0 core (out ∷ []) s a (left ∷ []) s′)
+      → EveryReading plain k rest out (λ a left. WordsDone core (out ∷ []) a (left ∷ []))
+  reads-one e = reading (λ a left d. no-scratch d) (λ a left s′ d. of-words d) e
+
+  reads-two : {one two : List ℕ}
+      → EveryCall {Left = List ℕ × List ℕ} 0 plain k (λ s. callChecks 0 s rest) (one, two) (λ s a left s′. CallDone 0 core (one ∷ two ∷ []) s a (left .0 ∷ left .1 ∷ []) s′)
+      → EveryReading {Left = List ℕ × List ℕ} plain k rest (one, two) (λ a left. WordsDone core (one ∷ two ∷ []) a (left .0 ∷ left .1 ∷ []))
+  reads-two e = reading (λ a left d. no-scratch d) (λ a left s′ d. of-words d) e
+
+-- ---- a check that stands alone
+
+alone : (v : Verdict) (checks : List Check) → Judges v checks → properly checks ≡ true → EveryVerdict checks v
+alone v checks j p = record {
+  replies = (v, tt, refl);
+  one = λ a b left right c d. (c ∙ sym d, refl);
+  by-numbers = λ a left c. rw c (verdict-by-checks v checks j p);
+  keeps = λ a left c n. refl;
+}
+
+module _ (net sheet : List ℕ) where
+  words-judged : Judges (wordsReply net sheet) (readChecks net sheet)
+  unfolding wordsReply
+  words-judged = judges-then (netReply net) _ (netChecks net) (wordChecks (petriNet net) sheet) (net-judged net) (λ p. judges-found _ _ (words-tell (petriNet net) sheet))
+
+  arcs-judged : Judges (arcsReply net sheet) (netChecks net ++ arcWordChecks (petriNet net) sheet)
+  unfolding arcsReply
+  arcs-judged = judges-then (netReply net) _ (netChecks net) (arcWordChecks (petriNet net) sheet) (net-judged net) (λ p. judges-found _ _ (arcs-tell (petriNet net) sheet))
+
+  read-law : Lawful (readCore net sheet) plainForm 1 (length (minimalForm net sheet) ∷ []) (readChecks net sheet)
+  read-law = record { judged = words-judged; proper = refl; plain-accepted = refl; own-length = refl; plain-refused = λ r. refl }
+
+  -- the check's answer is by its verdict
+  check-back : {a : CheckAnswer} {s′ : List ℕ} → CallDone 0 (checkCore net sheet) [] [] a [] s′ → a ≡ checkAnswer (scheduleReply net sheet) (countsOf net sheet)
+  check-back d = of-words d .reply ∙ sym (of-words (no-scratch (check-words net sheet _ refl)) .reply)
+
+  -- with a net that is one
+  own-judged : netReply net ≡ verdict.Accepted → Judges (wordsReply net sheet) (wordChecks (petriNet net) sheet)
+  unfolding wordsReply
+  own-judged n = rw (then-next (netReply net) _ n) (judges-found _ _ (words-tell (petriNet net) sheet))
+
+module _ (net x y : List ℕ) where
+  forms-law : Lawful (bothCore net x y) plainForms 2 (length (minimalForm net x) ∷ length (minimalForm net y) ∷ []) (readChecks net x ++ wordChecks (petriNet net) y)
+  forms-law = record {
+    judged = judges-then (wordsReply net x) (wordsReply net y) (readChecks net x) (wordChecks (petriNet net) y) (words-judged net x)
+        (λ p. own-judged net y (net-judged net .accepts .1 (pass-append (netChecks net) (wordChecks (petriNet net) x) .0 p .0)));
+    proper = refl;
+    plain-accepted = refl;
+    own-length = refl;
+    plain-refused = λ r. refl;
+  }
+
+-- ---- all of them
+
+pub reading-demand : ReadingDemand
+reading-demand = record {
+  words = λ net sheet. alone _ _ (words-judged net sheet) refl;
+  arcs = λ net sheet. alone _ _ (arcs-judged net sheet) refl;
+  verdict = λ net sheet. alone _ _ (schedule-judged net sheet) refl;
+  task = λ net s sheet. alone _ _ (task-judged net s sheet) refl;
+  check = λ net sheet. reading (λ a left e. no-scratch (check-words net sheet a e)) (λ a left s′ d. check-back net sheet d) (every-call-none (check-law net sheet) refl);
+  bounds = λ net sheet out. reads-one (every-call-one (bounds-law net sheet) refl (λ p. rw (bounds-length (petriNet net) sheet) Iff·rfl));
+  step = λ net sheet w t. reading (λ a left d. no-scratch d) (λ a left s′ d. of-words d) (every-call-value (fire-law net sheet w t) refl (λ r. refl));
+  run = λ net sheet firings out. reads-one (every-call-one (run-law net sheet firings) refl (λ p. rw (end-length net firings) Iff·rfl));
+  replay = λ net sheet log taken put. reads-two (every-call-two (replay-law net sheet log) refl (λ p. rows-fit net log taken put));
+  form-of = λ net sheet. (length (minimalForm net sheet), λ out. reads-one (every-call-one (read-law net sheet) refl (λ p. Iff·rfl)));
+  form = λ net sheet. (length (minimalForm net sheet), λ out. reads-one (every-call-one (form-law net sheet) refl (λ p. Iff·rfl)));
+  forms = λ net x y. (length (minimalForm net x), length (minimalForm net y), λ one two. reads-two (every-call-two (forms-law net x y) refl (λ p. Iff·rfl)));
+  mend = λ net sheet. (length (mendedWords net sheet), length (changes net sheet), λ out list. reads-two (every-call-two (mend-law net sheet) refl (λ p. Iff·rfl)));
+  compare = λ net x y. (length (minimalForm net x), length (minimalForm net y), λ one two. reads-two (every-call-two (compare-law net x y) refl (λ p. Iff·rfl)));
+}
