@@ -24,12 +24,17 @@ use Rattle.call.proofs.Judged.{Lawful, accepted-refused, output-judged,
 
 -- ---- an answer by its checks
 
+number-zero : (plain : List ℕ) → take 3 plain ≡ 0 ∷ 0 ∷ 0 ∷ [] → number plain ≡ 0
+number-zero [] e = refl
+number-zero (x ∷ plain) e = cc
+
 -- from a verdict that follows them, and what the numbers are for it
-told-by : (v : Verdict) (checks : List Check) (plain : List ℕ) (k : ℕ) → Judges v checks → (v ≡ Accepted → number plain ≡ 0)
+told-by : (v : Verdict) (checks : List Check) (plain : List ℕ) (k : ℕ) → Judges v checks → (v ≡ Accepted → take 3 plain ≡ 0 ∷ 0 ∷ 0 ∷ [])
     → ((r : Refusal) → v ≡ Refused r → (plain ≡ told r k) × (1 ≤ r .number)) → ByChecks checks plain k
 told-by Accepted checks plain k j z t = record {
-  zero = (λ e. j .accepts .0 refl, λ p. z refl);
-  named = λ n. absurd (n (z refl));
+  zero = (λ e. j .accepts .0 refl, λ p. number-zero plain (z refl));
+  nothing = λ e. z refl;
+  named = λ n. absurd (n (number-zero plain (z refl)));
   this = λ r f. accepted-refused Accepted r refl (j .refuses r .1 f);
 }
 told-by (Refused r) checks plain k j z t =
@@ -37,6 +42,7 @@ told-by (Refused r) checks plain k j z t =
     let e : number plain ≡ r .number = ap number q in
     record {
       zero = (λ w. absurd (omega arith), λ p. accepted-refused (Refused r) r (j .accepts .1 p) refl);
+      nothing = λ w. absurd (omega arith);
       named = λ n. (r, j .refuses r .0 refl, q);
       this = λ s f. let same : r ≡ s = cc (j .refuses s .1 f) in q ∙ ap (λ (x : Refusal). told x k) same;
     }
@@ -44,7 +50,7 @@ told-by (Refused r) checks plain k j z t =
 -- a verdict alone, as of a call that borrows nothing
 pub verdict-by-checks : (v : Verdict) (checks : List Check) → Judges v checks → properly checks ≡ true → ByChecks checks (plainOf v) 0
 verdict-by-checks v checks j p =
-    told-by v checks (plainOf v) 0 j (λ e. ap (λ (w : Verdict). number (plainOf w)) e) (λ r e. (ap plainOf e, fails-number checks r p (j .refuses r .0 e) .0))
+    told-by v checks (plainOf v) 0 j (λ e. ap (λ (w : Verdict). take 3 (plainOf w)) e) (λ r e. (ap plainOf e, fails-number checks r p (j .refuses r .0 e) .0))
 
 -- ---- plain numbers
 
@@ -126,7 +132,8 @@ module _ {Answer : Type 0} {core : Core Answer} {plain : Answer → List ℕ} {k
 
   pub by-checks : {rest : List Check} → Judges (wordsVerdict core outs) rest → ByChecks (callChecks limit scratch rest) (plain answer) k
   by-checks {rest} j =
-      told-by verdict (callChecks limit scratch rest) (plain answer) k (call-judged core outs limit scratch j) (λ e. done-number ∙ ap numberOf e)
+      told-by verdict (callChecks limit scratch rest) (plain answer) k (call-judged core outs limit scratch j)
+      (λ e. ap (λ (p : List ℕ). take 3 p) (ap plain (d .reply ∙ ap (answerOf core) e) ∙ law .plain-accepted))
       (λ r e. (ap plain (d .reply ∙ ap (answerOf core) e) ∙ law .plain-refused r, refusal-number law limit outs scratch r e .0))
 
   -- accepted or refused

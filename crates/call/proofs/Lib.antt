@@ -5,3 +5,4 @@ pub mod Laws
 pub mod Judged
 pub mod Done
 pub mod Demands
+pub mod Reading

@@ -2,7 +2,7 @@
 use Prim.Native.Nat.{ℕ, _+_, _≤_, _<_}
 use mathlib.Core.Path.{_≡_}
 use mathlib.Core.Logic.{_↔_}
-use mathlib.Core.List.{List, _∷_, _++_}
+use mathlib.Core.List.{List, [], _∷_, _++_}
 use lib.ListN.{length, getD, take, drop, replicate}
 use Rattle.refusal.specs.Refusal.{told}
 use Rattle.refusal.specs.Checks.{Check, once, AllPass, FirstFails}
@@ -25,6 +25,8 @@ callChecks limit scratch rest = once (limit ≤ length scratch) 21 ∷ rest
 -- an answer with k numbers of its own: 0 exactly where all checks pass, else the one that fails first (§7.54), and nothing beside it (§8.3)
 pub record ByChecks (checks : List Check) (plain : List ℕ) (k : ℕ) : Type 0 where
   pub zero : (number plain ≡ 0) ↔ AllPass checks
+  -- 0 goes with the kind that counts nothing and the index 0: §7.51
+  pub nothing : number plain ≡ 0 → take 3 plain ≡ 0 ∷ 0 ∷ 0 ∷ []
   pub named : (number plain ≡ 0 → ⊥) → (r : Refusal) × FirstFails checks r × (plain ≡ told r k)
   pub this : (r : Refusal) → FirstFails checks r → plain ≡ told r k
 
@@ -51,6 +53,19 @@ module _ {Answer Left : Type 0} (limit : ℕ) (plain : Answer → List ℕ) (k :
     pub keeps : (s s′ : List ℕ) (a : Answer) (left : Left) → Done s a left s′ → (number (plain a) ≡ 0 → ⊥) → left ≡ before
     -- but scratch: §9.2, §9.3
     pub scratch : (s s′ : List ℕ) (a : Answer) (left : Left) → Done s a left s′ → ScratchLeft limit (number (plain a)) s s′
+
+-- A function that borrows no scratch: its answer as plain numbers, k of them its own; what it checks; what it may change, as it was before; and its
+-- postcondition, of the answer and of what it may change.
+module _ {Answer Left : Type 0} (plain : Answer → List ℕ) (k : ℕ) (checks : List Check) (before : Left) (Done : Answer → Left → Type 0) where
+  -- what `EveryCall` asks of a call, scratch apart
+  pub record EveryReading : Type 0 where
+    -- there is a reply, and only one
+    pub replies : (a : Answer) × (left : Left) × Done a left
+    pub one : (a b : Answer) (left right : Left) → Done a left → Done b right → (a ≡ b) × (left ≡ right)
+    -- it answers by its checks
+    pub by-numbers : (a : Answer) (left : Left) → Done a left → ByChecks checks (plain a) k
+    -- a refusal changes nothing: §9.5
+    pub keeps : (a : Answer) (left : Left) → Done a left → (number (plain a) ≡ 0 → ⊥) → left ≡ before
 
 -- ---- what a call does not depend on
 

@@ -15,7 +15,7 @@ use Rattle.sequential.specs.Check.{scheduleReply, taskReply}
 use Rattle.graph.specs.Readable.{wordsReply, arcsReply}
 use Rattle.judge.specs.Answer.{countsOf, checkAnswer, plainCheck}
 use Rattle.judge.specs.declared.CheckAnswer.{CheckAnswer}
-use Rattle.call.specs.Demands.{number, ByChecks}
+use Rattle.call.specs.Demands.{EveryReading}
 use Rattle.schedule.specs.Walker.{walkerChecks, runChecks}
 use Rattle.schedule.specs.Calls.{BoundsWritten, StepDone, RunWritten}
 use Rattle.schedule.specs.Plain.{plainFire, plainRun}
@@ -30,19 +30,6 @@ use Rattle.minimize.specs.declared.FormsAnswer.the-variants.{Written, Refused}
 use Rattle.compare.specs.Compare.{plainCompared, CompareWritten}
 use Rattle.mended.specs.Checks.{mendChecks}
 use Rattle.mended.specs.Call.{plainMend, MendWritten}
-
--- A function: its answer as plain numbers, k of them its own; what it checks; what it may change, as it was before; and its postcondition, of the answer and
--- of what it may change.
-module _ {Answer Left : Type 0} (plain : Answer → List ℕ) (k : ℕ) (checks : List Check) (before : Left) (Done : Answer → Left → Type 0) where
-  -- what `EveryCall` asks of a call, scratch apart
-  pub record EveryReading : Type 0 where
-    -- there is a reply, and only one
-    pub replies : (a : Answer) × (left : Left) × Done a left
-    pub one : (a b : Answer) (left right : Left) → Done a left → Done b right → (a ≡ b) × (left ≡ right)
-    -- it answers by its checks
-    pub by-numbers : (a : Answer) (left : Left) → Done a left → ByChecks checks (plain a) k
-    -- a refusal changes nothing: §9.5
-    pub keeps : (a : Answer) (left : Left) → Done a left → (number (plain a) ≡ 0 → ⊥) → left ≡ before
 
 -- a check that stands alone: it changes nothing
 abbrev pub EveryVerdict : List Check → Verdict → Type 0
