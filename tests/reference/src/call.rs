@@ -1,6 +1,6 @@
 //! A call with everything it lends, and what it leaves behind.
 
-use crate::model::{self, Walker, FORM, LINES, PANEL, SCRATCH};
+use crate::model::{self, Walker, FORM, LINES, PANEL, SCRATCH, TASKS};
 use std::collections::BTreeSet;
 
 #[derive(Clone, Copy, PartialEq, Eq, PartialOrd, Ord)]
@@ -14,11 +14,12 @@ pub enum Kind {
     ShortForm,
     Replay,
     Mend,
+    Compose,
     Compare,
 }
 
 use Kind::{
-    Compare, FreshWalker, Mend, NetCheck, PlaceBounds, Replay, Run, SheetCheck, ShortForm,
+    Compare, Compose, FreshWalker, Mend, NetCheck, PlaceBounds, Replay, Run, SheetCheck, ShortForm,
     SingleFiring,
 };
 
@@ -34,6 +35,7 @@ pub const OPERATIONS: &[Kind] = &[
     ShortForm,
     Replay,
     Mend,
+    Compose,
     Compare,
 ];
 
@@ -43,7 +45,7 @@ const OF_NET: [u64; 7] = [0, 1, 2, 3, 4, 5, 26];
 const OF_SHEET: [u64; 14] = [6, 7, 8, 9, 10, 11, 12, 13, 14, 15, 16, 17, 21, 27];
 
 impl Kind {
-    pub const ALL: [Kind; 10] = [
+    pub const ALL: [Kind; 11] = [
         NetCheck,
         SheetCheck,
         PlaceBounds,
@@ -53,6 +55,7 @@ impl Kind {
         ShortForm,
         Replay,
         Mend,
+        Compose,
         Compare,
     ];
 
@@ -67,6 +70,7 @@ impl Kind {
             ShortForm => "form",
             Replay => "replay",
             Mend => "mend",
+            Compose => "compose",
             Compare => "compare",
         }
     }
@@ -76,6 +80,7 @@ impl Kind {
         match self {
             Replay => 9,
             Mend => 10,
+            Compose => 11,
             Compare => 14,
             _ => self as u32 + 1,
         }
@@ -90,6 +95,7 @@ impl Kind {
             ShortForm => &["length"],
             Replay => &["taken", "put", "entry"],
             Mend => &["length", "list"],
+            Compose => &["length", "sheet"],
             Compare => &["length", "length", "same", "sheet"],
             _ => &[],
         }
@@ -104,6 +110,7 @@ impl Kind {
             Run => &[20, 22],
             Replay => &[20, 22, 23, 24],
             Mend => &[6, 7, 8, 9, 11, 12, 13, 16, 17, 21, 22, 25],
+            Compose => &[22, 28, 29, 30],
         };
         let of_sheet = if self.checks_whole() { &OF_SHEET[..] } else { &[] };
         OF_NET.iter().chain(of_sheet).chain(own).copied().collect()
@@ -119,6 +126,7 @@ impl Kind {
         match self {
             NetCheck | FreshWalker => 0,
             Compare => 2,
+            Compose => TASKS,
             _ => 1,
         }
     }
@@ -130,11 +138,11 @@ impl Kind {
 
     /// Whether the small panel has it: §10.20.
     pub fn on_panel(self) -> bool {
-        self.reads_sheet() && self != Compare
+        self.reads_sheet() && self.operation() <= 10
     }
 
     pub fn writes_out(self) -> bool {
-        matches!(self, PlaceBounds | Run | ShortForm | Mend | Compare)
+        matches!(self, PlaceBounds | Run | ShortForm | Mend | Compose | Compare)
     }
 
     /// Whether it has a second output buffer of words.
@@ -165,6 +173,8 @@ pub struct Call {
     pub panel: bool,
     pub net: Vec<u32>,
     pub sheet: Vec<u32>,
+    /// How many sheets a composition is told there are.
+    pub number: u32,
     /// The sheets behind the first, of a call that reads several.
     pub others: Vec<Vec<u32>>,
     pub record: Vec<u32>,
@@ -195,6 +205,7 @@ impl Call {
             panel: false,
             net: net.to_vec(),
             sheet: sheet.to_vec(),
+            number: 0,
             others: vec![Vec::new(); kind.sheets().saturating_sub(1)],
             record: Vec::new(),
             transition: 0,
@@ -250,6 +261,11 @@ impl Call {
                 model::replay(net, sheet, record, taken, put, &mut scratch).to_vec()
             }
             Mend => model::mend(net, sheet, &mut out, &mut list, &mut scratch).to_vec(),
+            Compose => {
+                let others = &self.others;
+                let sheets = [&sheet[..], &others[0], &others[1], &others[2]];
+                model::compose(net, self.number, sheets, &mut out, &mut scratch).to_vec()
+            }
             Compare => {
                 let (sheets, outs) = ([&sheet[..], &self.others[0]], [&mut out[..], &mut list]);
                 model::compare(net, sheets, outs, &mut scratch).to_vec()
@@ -266,7 +282,7 @@ impl Call {
         let length = match self.kind {
             _ if outcome.reply[0] != 0 => 0,
             PlaceBounds | Run => self.net.first().map_or(0, |&places| places as usize),
-            ShortForm | Mend | Compare => outcome.reply[3] as usize,
+            ShortForm | Mend | Compose | Compare => outcome.reply[3] as usize,
             _ => 0,
         };
         &outcome.out[..length.min(outcome.out.len())]

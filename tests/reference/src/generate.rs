@@ -1,11 +1,13 @@
 //! Seeded calls of every kind: accepted nets and sheets, damaged ones, words at the limits and
 //! garbage, with walkers, records and buffers that fit or do not.
 
+pub mod aimed;
 pub mod damage;
 pub mod logs;
 pub mod rng;
 pub mod schedules;
 pub mod stale;
+pub mod tasks;
 pub mod twins;
 pub mod variants;
 
@@ -134,6 +136,7 @@ pub fn call(rng: &mut Rng, kinds: &[Kind]) -> Call {
         kind = rng.pick(&Kind::ALL);
     }
     let mut call = match kind {
+        Kind::Compose => composition(rng),
         Kind::Compare => comparison(rng),
         _ => of_one_sheet(rng, kind),
     };
@@ -142,6 +145,15 @@ pub fn call(rng: &mut Rng, kinds: &[Kind]) -> Call {
         call.panel = true;
         call.scratch = scratch(rng, PANEL);
     }
+    call
+}
+
+/// A call that composes a sheet from those of tasks, with a buffer that holds it in most.
+fn composition(rng: &mut Rng) -> Call {
+    let tasks::Handed { net, number, mut sheets } = tasks::handed(rng);
+    let mut call = Call::new(Kind::Compose, &net, &sheets.remove(0));
+    (call.number, call.others) = (number, sheets);
+    roomy_buffers(rng, &mut call);
     call
 }
 

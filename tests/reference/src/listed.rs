@@ -1,6 +1,7 @@
 //! The worked examples, §14.2 to §14.8 and §14.16, with their answers, and logs whose replay is told by hand.
 
 mod comparison;
+mod composition;
 
 use crate::call::{Call, Kind};
 use crate::generate::rng::Rng;
@@ -125,6 +126,7 @@ pub fn check(tally: &mut Tally) {
     limits(tally);
     output(tally);
     comparison::check(tally);
+    composition::check(tally);
 }
 
 fn text_words(text: &str) -> Vec<u32> {

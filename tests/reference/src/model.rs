@@ -4,11 +4,13 @@
 //! `docs/SPEC.md`.
 
 mod comparison;
+mod composition;
 mod form;
 mod mending;
 mod net;
 mod sheet;
 
+pub use composition::{composed, Clash, Task};
 pub use mending::Misfit;
 pub use net::{Net, Shape};
 pub use sheet::Sheet;
@@ -20,6 +22,8 @@ pub const MAX_ENTRIES: u64 = 4_096;
 pub const MAX_WEIGHT: u64 = 1_000_000_000;
 /// Firings that a log has at most: §1.9.
 pub const MAX_FIRINGS: u64 = 4_096;
+/// Sheets that a composition has at most: request #108.
+pub const TASKS: usize = 4;
 /// Words of scratch below which a call is refused by 21: §1.6.
 pub const SCRATCH: usize = 8_192;
 /// The same for the small panel: §1.12.
@@ -113,10 +117,15 @@ fn accept_net(net: &[u32], scratch: &mut [u32]) -> Result<Net, Refusal> {
     Net::read(net)
 }
 
-/// The checks of one of several sheets, which is whole.
-fn accept_sheet(net: &Net, words: &[u32], index: usize) -> Result<Sheet, Refusal> {
+/// The checks of one of several sheets, of the net with one source kept if one is named.
+fn accept_sheet(
+    net: &Net,
+    words: &[u32],
+    kept: Option<usize>,
+    index: usize,
+) -> Result<Sheet, Refusal> {
     let checked = Sheet::read(net, words).and_then(|sheet| {
-        sheet.check_schedule(net)?;
+        sheet.check_task(net, kept)?;
         Ok(sheet)
     });
     checked.map_err(|refusal| Refusal { sheet: Some(index), ..refusal })
@@ -319,8 +328,8 @@ pub fn mend(
 ) -> [u64; 5] {
     let answer = accept_net(net, scratch).and_then(|net| {
         let given = Sheet::read_arcs(&net, sheet)?;
-        given.check_offers(&net)?;
-        given.check_paths(&net)?;
+        given.check_offers(&net, None)?;
+        given.check_paths(&net, None)?;
         let Ok(mended) = given.mended(&net) else {
             return refuse(25, Nothing);
         };
@@ -335,6 +344,36 @@ pub fn mend(
     plain(answer)
 }
 
+/// Composition: one sheet from a sheet for each source, in rising order, of which none past the number
+/// is read (request #108). Each is checked whole before the next.
+pub fn compose(
+    net: &[u32],
+    number: u32,
+    sheets: [&[u32]; TASKS],
+    out: &mut [u32],
+    scratch: &mut [u32],
+) -> [u64; 5] {
+    let answer = accept_net(net, scratch).and_then(|net| {
+        let sources = net.sources();
+        if sources.len() > TASKS || number as usize != sources.len() {
+            return refuse(28, Nothing);
+        }
+        let mut tasks = Vec::new();
+        for (index, source) in sources.into_iter().enumerate() {
+            let sheet = accept_sheet(&net, sheets[index], Some(source), index)?;
+            tasks.push(Task { source, sheet });
+        }
+        let composed = composed(&net, &tasks).or_else(|clash| match clash {
+            Clash::Dependent => refuse(30, Nothing),
+            Clash::Product | Clash::Count | Clash::Entries => refuse(29, Nothing),
+        });
+        let words = composed?.words();
+        write(out, &words)?;
+        Ok(vec![words.len() as u64, 0])
+    });
+    plain(answer)
+}
+
 /// Comparison: the short forms of two sheets (§10.9), and whether both allow the same. The first
 /// sheet is checked whole before the second.
 pub fn compare(
@@ -344,8 +383,8 @@ pub fn compare(
     scratch: &mut [u32],
 ) -> [u64; 7] {
     let answer = accept_net(net, scratch).and_then(|net| {
-        let first = accept_sheet(&net, sheets[0], 0)?;
-        let second = accept_sheet(&net, sheets[1], 1)?;
+        let first = accept_sheet(&net, sheets[0], None, 0)?;
+        let second = accept_sheet(&net, sheets[1], None, 1)?;
         let forms = [first.minimal_form().words(), second.minimal_form().words()];
         if (0..2).any(|i| outs[i].len() < forms[i].len()) {
             return refuse(22, Nothing);

@@ -1,6 +1,7 @@
 //! Of which sorts the calls of the later operations were, so that none of them stays untried.
 
 use crate::call::{Call, Kind, Outcome};
+use crate::model::{composed, Clash, Net, Sheet, Task, MAX_NODES, TASKS};
 use crate::tally::Tally;
 use std::collections::BTreeMap;
 
@@ -45,9 +46,77 @@ impl Sorts {
 /// The sorts of a call, none of the older kinds.
 fn sorts(call: &Call, outcome: &Outcome) -> Vec<Sort> {
     match call.kind {
+        Kind::Compose => composition(call, outcome),
         Kind::Compare => compared(call, outcome),
         _ => Vec::new(),
     }
+}
+
+/// How many tasks are composed, and whether they share places; which sheet is refused; for which
+/// reason there is no composed sheet.
+fn composition(call: &Call, outcome: &Outcome) -> Vec<Sort> {
+    let Outcome { reply, .. } = outcome;
+    let Some(net) = Net::spread_out(&call.net) else {
+        return Vec::new();
+    };
+    let (sources, number) = (net.sources(), call.number as usize);
+    let words = [&call.sheet].into_iter().chain(&call.others);
+    let task = |(&source, words): (&usize, &Vec<u32>)| {
+        Sheet::read(&net, words).ok().map(|sheet| Task { source, sheet })
+    };
+    let tasks: Vec<Task> = sources.iter().zip(words).filter_map(task).collect();
+    let accepted = |tasks: usize| reply[0] == 0 && number == tasks;
+    let refused = |sheet: u64| reply[4] == sheet;
+    let clash = |net: &Net| composed(net, &tasks).err();
+    let met = |number: u64, clash_is: Clash| reply[0] == number && clash(&net) == Some(clash_is);
+    let uncapped = Net { capacity: vec![None; net.places()], ..net.clone() };
+    let by_room = met(30, Clash::Dependent) && clash(&uncapped) != Some(Clash::Dependent);
+    let product: usize = tasks.iter().map(|task| task.sheet.nodes()).product();
+    let written = call.result(outcome);
+    let at_12 = |task: &Task| {
+        let offered = task.sheet.offered(reply[2] as usize);
+        offered.into_iter().any(|t| t != task.source && net.is_source(t))
+    };
+    let removed = reply[0] == 12 && tasks.get(reply[4] as usize - 1).map_or(false, at_12);
+    vec![
+        ("one", accepted(1)),
+        ("two", accepted(2)),
+        ("three", accepted(3)),
+        ("four", accepted(4)),
+        ("shared", reply[0] == 0 && shares(&net, &tasks)),
+        ("of-128", reply[0] == 0 && product == MAX_NODES as usize),
+        ("of-129", reply[0] == 29 && product == MAX_NODES as usize + 1),
+        ("product", met(29, Clash::Product)),
+        ("starved", met(30, Clash::Dependent) && !by_room),
+        ("overfull", by_room),
+        ("count", met(29, Clash::Count)),
+        ("entries", met(29, Clash::Entries)),
+        ("greatest", written.contains(&1_000_000_000)),
+        ("full", written.get(1) == Some(&4_096)),
+        ("removed", removed),
+        ("first", refused(1)),
+        ("second", refused(2)),
+        ("third", refused(3)),
+        ("fourth", refused(4)),
+        ("five-sources", reply[0] == 28 && sources.len() > TASKS && number == sources.len()),
+        ("other-number", reply[0] == 28 && number <= TASKS),
+        ("unread", reply[0] == 0 && tasks.len() == number && past_is_no_sheet(call, &net)),
+    ]
+}
+
+/// Whether two tasks draw on one place or fill it.
+fn shares(net: &Net, tasks: &[Task]) -> bool {
+    let fires = |task: &Task, t: usize| task.sheet.arcs.iter().any(|row| row[t].is_some());
+    let touches = |task: &Task, p: usize| {
+        let at = |t: usize| net.taken[t][p] > 0 || net.put[t][p] > 0;
+        (0..net.transitions()).any(|t| at(t) && fires(task, t))
+    };
+    (0..net.places()).any(|p| tasks.iter().filter(|task| touches(task, p)).count() > 1)
+}
+
+/// Whether a slice past the number is no sheet of the net.
+fn past_is_no_sheet(call: &Call, net: &Net) -> bool {
+    call.others.iter().skip(call.number as usize - 1).any(|words| Sheet::read(net, words).is_err())
 }
 
 /// Whether two sheets are equal, allow the same in other words, or not the same with forms that are

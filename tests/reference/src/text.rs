@@ -14,6 +14,7 @@
 //! | 8 weights | net, transition, place |
 //! | 9 replay | net, sheet, log, taken, put, scratch |
 //! | 10 mending | net, sheet, out, list, scratch |
+//! | 11 composition | net, number, four sheets, out, scratch |
 //! | 14 comparison | net, sheet, sheet, out, out, scratch |
 //!
 //! A call of the small panel has its operation's number plus 100; operations without scratch have
@@ -89,8 +90,9 @@ impl Case {
             return None;
         }
         let net = from.words();
+        let number = if kind == Kind::Compose { from.next() } else { 0 };
         let sheet = if kind.reads_sheet() { from.words() } else { Vec::new() };
-        let mut call = Call { panel, ..Call::new(kind, &net, &sheet) };
+        let mut call = Call { panel, number, ..Call::new(kind, &net, &sheet) };
         call.others.iter_mut().for_each(|sheet| *sheet = from.words());
         if kind.has_record() {
             call.record = from.words();
@@ -143,6 +145,9 @@ impl Case {
 impl Call {
     pub fn text(&self) -> String {
         let mut text = format!("{} net {}", self.operation(), counted(&self.net));
+        if self.kind == Kind::Compose {
+            text += &format!(" | number {}", self.number);
+        }
         if self.kind.reads_sheet() {
             text += &format!(" | sheet {}", counted(&self.sheet));
         }

@@ -66,12 +66,12 @@ fn drop_arc(rng: &mut Rng, schedule: &mut Schedule) {
     }
 }
 
-fn drop_all_arcs(rng: &mut Rng, schedule: &mut Schedule) {
+pub fn drop_all_arcs(rng: &mut Rng, schedule: &mut Schedule) {
     let node = some_node(rng, schedule);
     schedule.sheet.arcs[node].fill(None);
 }
 
-fn add_arc(rng: &mut Rng, schedule: &mut Schedule) {
+pub fn add_arc(rng: &mut Rng, schedule: &mut Schedule) {
     let (node, target) = (some_node(rng, schedule), some_node(rng, schedule));
     let t = rng.below(schedule.net.transitions());
     schedule.sheet.arcs[node][t] = Some(target);
@@ -97,7 +97,7 @@ pub fn retarget_alike(rng: &mut Rng, schedule: &mut Schedule) {
     }
 }
 
-fn change_count(rng: &mut Rng, schedule: &mut Schedule) {
+pub fn change_count(rng: &mut Rng, schedule: &mut Schedule) {
     let node = if rng.chance(20) { 0 } else { some_node(rng, schedule) };
     let p = rng.below(schedule.net.places());
     let count = &mut schedule.sheet.counts[node][p];
@@ -110,7 +110,7 @@ fn change_count(rng: &mut Rng, schedule: &mut Schedule) {
 }
 
 /// A copy of a node that no arc leads to.
-fn add_stray(rng: &mut Rng, schedule: &mut Schedule) {
+pub fn add_stray(rng: &mut Rng, schedule: &mut Schedule) {
     let node = some_node(rng, schedule);
     let sheet = &mut schedule.sheet;
     sheet.arcs.push(sheet.arcs[node].clone());
@@ -125,7 +125,7 @@ fn add_stray(rng: &mut Rng, schedule: &mut Schedule) {
 
 /// Leads an arc to a copy of its target that offers a busy choice set which keeps its counts, and
 /// that leads to itself alone.
-fn trap(rng: &mut Rng, schedule: &mut Schedule) {
+pub fn trap(rng: &mut Rng, schedule: &mut Schedule) {
     let Schedule { net, sheet } = schedule;
     let arcs = sheet.all_arcs();
     let spare = |&(_, _, m): &(usize, usize, usize)| {
@@ -149,7 +149,7 @@ fn trap(rng: &mut Rng, schedule: &mut Schedule) {
     sheet.counts.push(counts);
 }
 
-fn exchange_root(rng: &mut Rng, schedule: &mut Schedule) {
+pub fn exchange_root(rng: &mut Rng, schedule: &mut Schedule) {
     let sheet = &schedule.sheet;
     let alike = |&node: &usize| sheet.counts[node] == sheet.counts[0];
     let mut choices: Vec<usize> = (0..sheet.nodes()).filter(alike).collect();
@@ -228,7 +228,8 @@ pub fn overfill(rng: &mut Rng, schedule: &mut Schedule) {
     }
 }
 
-fn starve_sources(rng: &mut Rng, schedule: &mut Schedule) {
+/// No transition takes nothing any more.
+pub fn starve_sources(rng: &mut Rng, schedule: &mut Schedule) {
     let net = &mut schedule.net;
     let p = rng.below(net.places());
     for t in net.sources() {

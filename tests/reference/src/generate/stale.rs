@@ -63,7 +63,7 @@ fn stale(rng: &mut Rng) -> Option<u32> {
 
 /// A choice set that some node offers takes more from a place than the place holds there, or just one
 /// more, and puts as much more back.
-fn starve(rng: &mut Rng, schedule: &mut Schedule) {
+pub fn starve(rng: &mut Rng, schedule: &mut Schedule) {
     let Schedule { net, sheet } = schedule;
     let busy: Vec<_> = sheet.all_arcs().into_iter().filter(|arc| !net.is_source(arc.1)).collect();
     let Some((node, t, _)) = rng.pick_any(&busy) else {

@@ -7,7 +7,7 @@
 
 use super::rng::Rng;
 use super::schedules::{another_sheet, Schedule};
-use super::{broken_clauses, damage, words};
+use super::{aimed, broken_clauses, damage, words};
 use crate::model::{self, SCRATCH};
 
 /// An accepted sheet of the same net: another one, one with more copies of nodes, or one whose arcs
@@ -36,10 +36,10 @@ pub fn any(rng: &mut Rng, schedule: &Schedule) -> (Vec<u32>, [Vec<u32>; 2]) {
     let mut sheets = [first, other.words().1];
     match rng.below(20) {
         0..=9 => {}
-        10..=13 => damage_one(rng, &[schedule, &other], &mut sheets),
-        14..=15 => (0..2).for_each(|_| damage_one(rng, &[schedule, &other], &mut sheets)),
-        16 => damage::break_words(rng, &mut net, 3),
+        10..=12 => damage_one(rng, &[schedule, &other], &mut sheets),
+        13..=14 => (0..2).for_each(|_| damage_one(rng, &[schedule, &other], &mut sheets)),
         // the second sheet is that of the net before the damage
+        15..=18 => (net, sheets[0]) = aimed::any(rng, schedule),
         _ => (net, sheets[0]) = words(rng, schedule),
     }
     if rng.chance(50) {

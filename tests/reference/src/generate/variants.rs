@@ -223,6 +223,11 @@ impl Schedule {
     pub fn shuffled(&self, rng: &mut Rng) -> Schedule {
         let places = rng.order(self.net.places());
         let transitions = rng.order(self.net.transitions());
+        self.relined(&places, &transitions)
+    }
+
+    /// Places and transitions in the orders given.
+    pub fn relined(&self, places: &[usize], transitions: &[usize]) -> Schedule {
         let by_place = |row: &Vec<u64>| -> Vec<u64> { places.iter().map(|&p| row[p]).collect() };
         let weights = |rows: &[Vec<u64>]| -> Vec<Vec<u64>> {
             transitions.iter().map(|&t| by_place(&rows[t])).collect()

@@ -184,6 +184,21 @@ impl Net {
         (0..self.transitions()).filter(|&t| self.is_source(t)).collect()
     }
 
+    /// The sources of the net in which only one of them is kept, if one is named: request #108.
+    pub fn sources_of(&self, kept: Option<usize>) -> Vec<usize> {
+        kept.map_or(self.sources(), |kept| vec![kept])
+    }
+
+    /// The choice set of t in that net, which a removed source is not in.
+    pub fn set_of(&self, kept: Option<usize>, t: usize) -> Vec<usize> {
+        match kept {
+            Some(kept) if self.is_source(t) => {
+                [kept].into_iter().filter(|&kept| kept == t).collect()
+            }
+            _ => self.choice_set(t),
+        }
+    }
+
     /// The transitions that take the same as t from every place.
     pub fn all_alike(&self, t: usize) -> Vec<usize> {
         (0..self.transitions()).filter(|&u| self.taken[u] == self.taken[t]).collect()

@@ -95,3 +95,40 @@ impl Words {
         (0..net.places()).map(|p| self.count(net, n, p)).collect()
     }
 }
+
+/// Of a net without some of its transitions; those behind them move up.
+impl Words {
+    /// The number that a transition has when some are gone, nothing where it is one of these.
+    fn moved(t: u64, dropped: &BTreeSet<u64>) -> Option<u64> {
+        (!dropped.contains(&t)).then(|| t - dropped.range(..t).count() as u64)
+    }
+
+    pub fn without(&self, dropped: &BTreeSet<u64>) -> Words {
+        let (p, t) = (self.places(), self.transitions());
+        let left = t - dropped.len() as u64;
+        // rows: what is taken, what is put, then start and capacities
+        let row = |row: u64| match row / t {
+            0 => Words::moved(row, dropped),
+            1 => Words::moved(row - t, dropped).map(|row| left + row),
+            _ => Some(row - 2 * t + 2 * left),
+        };
+        let entry = |(&key, &value): (&u64, &u64)| Some((row(key / p)? * p + key % p, value));
+        let values = self.values.iter().filter_map(entry).collect();
+        Words { sizes: vec![p, left], values }
+    }
+
+    /// A sheet of the net without the arcs of these transitions.
+    pub fn without_arcs(&self, net: &Words, dropped: &BTreeSet<u64>) -> Words {
+        let (t, arcs) = (net.transitions(), self.nodes() * net.transitions());
+        let left = t - dropped.len() as u64;
+        let entry = |(&key, &value): (&u64, &u64)| {
+            let moved = match key < arcs {
+                true => key / t * left + Words::moved(key % t, dropped)?,
+                false => key - arcs + self.nodes() * left,
+            };
+            Some((moved, value))
+        };
+        let values = self.values.iter().filter_map(entry).collect();
+        Words { sizes: self.sizes.clone(), values }
+    }
+}
