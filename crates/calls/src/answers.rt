@@ -262,33 +262,63 @@ fn one_sheet(operation: u32, shape: Shape, net: &[u32], sheet: &[u32], words: &[
 }
 
 // Makes a call on several sheets and prints its answer.
-fn several_call(
-    net: &[u32],
-    first: &[u32],
-    second: &[u32],
-    out: &mut [u32],
-    other: &mut [u32],
-    scratch: &mut [u32],
+fn several_call<'a>(
+    operation: u32,
+    net: &'a [u32],
+    number: u32,
+    first: &'a [u32],
+    second: &'a [u32],
+    third: &'a [u32],
+    fourth: &'a [u32],
+    out: &'a mut [u32],
+    other: &'a mut [u32],
+    scratch: &'a mut [u32],
 ) {
-    print::compare_answer(compare::compare(net, first, second, out, other, scratch));
+    match operation {
+        11 => print::compose_answer(compose::compose(
+            net,
+            number as usize,
+            first,
+            second,
+            third,
+            fourth,
+            out,
+            scratch,
+        )),
+        _ => print::compare_answer(compare::compare(net, first, second, out, other, scratch)),
+    }
 }
 
 // The line of a case with several sheets, with the buffers lent to its call.
-fn among_several(
+fn among_several<'a>(
+    operation: u32,
     shape: Shape,
-    net: &[u32],
-    first: &[u32],
-    second: &[u32],
-    out: &mut [u32],
-    other: &mut [u32],
-    scratch: &mut [u32],
+    net: &'a [u32],
+    number: u32,
+    first: &'a [u32],
+    second: &'a [u32],
+    third: &'a [u32],
+    fourth: &'a [u32],
+    out: &'a mut [u32],
+    other: &'a mut [u32],
+    scratch: &'a mut [u32],
 ) {
-    several_call(net, first, second, out, other, scratch);
+    several_call(operation, net, number, first, second, third, fourth, out, other, scratch);
     left(shape, out, other, scratch);
 }
 
 // The line of a case with several sheets.
-fn several(shape: Shape, net: &[u32], first: &[u32], second: &[u32], lent: Buffers)
+fn several<'a>(
+    operation: u32,
+    shape: Shape,
+    net: &'a [u32],
+    number: u32,
+    first: &'a [u32],
+    second: &'a [u32],
+    third: &'a [u32],
+    fourth: &'a [u32],
+    lent: Buffers,
+)
     requires { ⌜ (lent .out ≤ 9000) × (lent .second ≤ 9000) × (lent .scratch ≤ 9000) ⌝ }
 {
     let outs = lent.out;
@@ -298,10 +328,9 @@ fn several(shape: Shape, net: &[u32], first: &[u32], second: &[u32], lent: Buffe
     let mut other = [9u32; 9000];
     let mut scratch = [7u32; 9000];
     among_several(
-        shape,
+        operation, shape,
         net,
-        first,
-        second,
+        number, first, second, third, fourth, 
         &mut out[..outs],
         &mut other[..seconds],
         &mut scratch[..scratches],
@@ -310,24 +339,31 @@ fn several(shape: Shape, net: &[u32], first: &[u32], second: &[u32], lent: Buffe
 
 // The line of a case whose parts lie one after the other.
 pub(crate) fn line(operation: u32, shape: Shape, all: &[u32], marks: Marks, lent: Buffers)
-    requires { ⌜
-        (marks .net ≤ marks .numbers) × (marks .numbers ≤ marks .first) × (marks .first ≤ marks .second) × (marks .second ≤ marks .third)
-        × (marks .third ≤ marks .fourth) × (marks .fourth ≤ marks .words) × (marks .words ≤ length (now all))
-        ⌝ }
+    requires {
+        ⌜
+            (marks .net ≤ marks .numbers) × (marks .numbers ≤ marks .first) × (marks .first ≤ marks .second) × (marks .second ≤ marks .third)
+            × (marks .third ≤ marks .fourth) × (marks .fourth ≤ marks .words) × (marks .words ≤ length (now all))
+        ⌝
+    }
     requires { ⌜ (lent .out ≤ 9000) × (lent .second ≤ 9000) × (lent .scratch ≤ 9000) ⌝ }
 {
     let net = marks.net;
     let numbers = marks.numbers;
     let first = marks.first;
     let second = marks.second;
+    let third = marks.third;
     let fourth = marks.fourth;
     let words = marks.words;
     if 1 < shape.sheets {
         several(
+            operation,
             shape,
             &all[..net],
+            at(&all[net..numbers], 0),
             &all[numbers..first],
             &all[first..second],
+            &all[second..third],
+            &all[third..fourth],
             lent,
         );
         return;

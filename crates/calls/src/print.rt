@@ -3,6 +3,7 @@ ghost use Prim.Native.Nat.{_≤_};
 ghost use mathlib.Core.Path.{_≡_};
 ghost use lib.ListN.{length, take};
 use compare::CompareAnswer;
+use composed::ComposeAnswer;
 use judge::CheckAnswer;
 use libc::STDOUT_FILENO;
 use mended::MendAnswer;
@@ -88,6 +89,13 @@ pub(crate) fn mend_answer(answer: MendAnswer) {
     told(plain[0], plain[1], plain[2]);
     named(b" length", plain[3] as u64);
     named(b" list", plain[4] as u64);
+}
+
+pub(crate) fn compose_answer(answer: ComposeAnswer) {
+    let plain = answer.plain();
+    told(plain[0], plain[1], plain[2]);
+    named(b" length", plain[3] as u64);
+    named(b" sheet", plain[4] as u64);
 }
 
 pub(crate) fn compare_answer(answer: CompareAnswer) {

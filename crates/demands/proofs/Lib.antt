@@ -11,6 +11,7 @@ pub mod BesideRun
 pub mod Replay
 pub mod Entries
 pub mod Mend
+pub mod Compose
 pub mod Capacities
 pub mod Panel
 pub mod ToldIndex

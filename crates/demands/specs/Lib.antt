@@ -6,6 +6,7 @@ pub mod Further
 pub mod Replay
 pub mod Entries
 pub mod Mend
+pub mod Compose
 pub mod Capacities
 pub mod Panel
 pub mod Compare

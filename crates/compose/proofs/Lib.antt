@@ -1,0 +1,10 @@
+pub mod Frames
+pub mod Summing
+pub mod Enabling
+pub mod Framing
+pub mod Ready
+pub mod SearchState
+pub mod SearchOrder
+pub mod States
+pub mod Writing
+pub mod Paths

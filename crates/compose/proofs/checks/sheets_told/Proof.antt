@@ -1,0 +1,62 @@
+-- `compose::checks::sheets_told` meets its contract: no schedule before the counter is refused.
+use Rattle.scan.proofs.Basics.{ℕ, _-_, _≤_, _<_, arith, _≡_, refl, none}
+use borrow.Author.Needs.{needs}
+use borrow.Author.Count.{below-more}
+use Rattle.refusal.specs.declared.Verdict.the-variants.{Accepted}
+use Rattle.sequential.specs.Petri.{petriNet}
+use Rattle.call.proofs.Judged.{accepted-refused}
+use Rattle.composed.specs.Sheet.{givenSheets}
+use Rattle.composed.specs.Fault.{sheetFault}
+use Rattle.compose.proofs.Paths.{turn-passes, turn-fails}
+use Rattle.compose.proofs.checks.sheets_told.Statement.{statement}
+use Rattle.compose.proofs.checks.sheets_told.Tie as tie
+
+abbrev Inv-loop : tie.InvT-loop
+Inv-loop net number a b c d sources i₀ i = (i ≤ number) × ((j : ℕ) → j < i → sheetFault (petriNet net) number (givenSheets number a b c d) j ≡ none)
+
+abbrev μ-loop : tie.MeasureT-loop
+μ-loop net number a b c d sources i₀ i = number - i
+
+loop-holds : tie.Need-loop-holds Inv-loop μ-loop
+loop-holds c = (omega arith, λ j l. absurd (omega arith))
+
+array-read-task-verdict : tie.Need-array-read-task-verdict Inv-loop μ-loop
+array-read-task-verdict c =
+    let s = c .before .before .before .before .before .before .before .before .pre in
+    omega (arith, s .few, c .before .loop-test .taken)
+
+cast-t17 : tie.Need-cast-t17 Inv-loop μ-loop
+cast-t17 c =
+    let l = c .before .before .before .before .before in
+    let s = l .before .before .before .before .before .before .pre in
+    omega (arith, s .few, c .before .before .before .before .loop-test .taken)
+
+returns : tie.Need-returns Inv-loop μ-loop
+returns c =
+    let v = c .before .before in
+    let l = v .before .before .before in
+    let s = l .before .before .before .before .before .before .pre in
+    let k = v .before .before .loop-test .taken in
+    record {
+      passes = λ e. accepted-refused _ _ e (c .enum-told .given .1);
+      fails = λ r e. record { below = k; before = l .loop .inv .1; there = turn-fails _ _ _ _ _ _ s k (v .before .pick .ensures) (v .task-verdict .ensures) r e };
+    }
+
+loop-again : tie.Need-loop-again Inv-loop μ-loop
+loop-again c =
+    let v = c .before .before in
+    let l = v .before .before .before in
+    let s = l .before .before .before .before .before .before .pre in
+    let k = v .before .before .loop-test .taken in
+    (omega arith, below-more _ _ (l .loop .inv .1) (turn-passes _ _ _ _ _ _ s k (v .before .pick .ensures) (v .task-verdict .ensures) (c .enum-told2 .given .1)))
+
+returns-2 : tie.Need-returns-2 Inv-loop μ-loop
+returns-2 c =
+    let l = c .before in
+    record { passes = λ e j k. l .loop .inv .1 j (omega (arith, c .loop-test .left)); fails = λ r e. accepted-refused Accepted r refl e }
+
+pub sheets-told-spec : {M : Type 1} → statement M
+sheets-told-spec =
+    tie.close
+    (tie.spec Inv-loop μ-loop loop-holds (λ c κs. c .loop-test .taken) (λ c. search needs) array-read-task-verdict (λ c κs. search needs) (λ c. search needs)
+    cast-t17 returns (λ c. search needs) (λ c. omega arith) (λ c. omega arith) loop-again returns-2)

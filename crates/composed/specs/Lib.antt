@@ -1,0 +1,10 @@
+pub mod Tuples
+pub mod Product
+pub mod Composed
+pub mod Sheet
+pub mod Checks
+pub mod Fault
+pub mod Call
+pub mod Named
+pub mod Demands
+pub mod Examples

@@ -1,0 +1,115 @@
+-- What is promised of composition (§10.30 to §10.34): of anything that meets its postcondition. proofs/Compose has a term for the record.
+use Prim.Native.Nat.{ℕ, _+_, _*_, _≤_, _<_}
+use mathlib.Core.Path.{_≡_}
+use mathlib.Core.Logic.{_↔_}
+use mathlib.Core.Bool.{true}
+use mathlib.Core.List.{List, [], _∷_, _++_}
+use mathlib.Core.Option.{some}
+use lib.ListN.{length, take, drop}
+use Rattle.automaton.specs.Automaton.{follow, allows}
+use Rattle.automaton.specs.Reach.{Reachable}
+use Rattle.automaton.specs.BreadthFirst.{BreadthFirst}
+use Rattle.automaton.specs.Quotient.{Renumbering}
+use Rattle.refusal.specs.Limits.{scratchLimit, mostEntries}
+use Rattle.refusal.specs.Checks.{Check, once, AllPass}
+use Rattle.net.specs.Checks.{netChecks, IsNet}
+use Rattle.sequential.specs.Petri.{petriNet}
+use Rattle.sequential.specs.Words.{countAt}
+use Rattle.sequential.specs.Schedule.{Await}
+use Rattle.sequential.specs.Checks.{sheetChecks}
+use Rattle.call.specs.Demands.{number, own, EveryCall}
+use Rattle.composed.specs.Tuples.{tuples}
+use Rattle.composed.specs.Product.{Tasks, sizeOf, nodeOf, allAwait, heldByAll, product}
+use Rattle.composed.specs.Composed.{ReachedPart, OneBusy, Composable, Serves, OwnSources}
+use Rattle.composed.specs.Sheet.{fourSheets, givenSheets, sourceOf, netOf, tasksOf}
+use Rattle.composed.specs.Checks.{NumberPasses, FewPass, composeChecks}
+use Rattle.composed.specs.Call.{ComposeDone, plainCompose, withoutSheet}
+use Rattle.composed.specs.Named.{Named}
+use Rattle.composed.specs.declared.ComposeAnswer.{ComposeAnswer}
+use Rattle.demands.specs.Terms.{said}
+use Rattle.demands.specs.Demand1.{Unread}
+use Rattle.demands.specs.Demand3.{AlwaysAccepted}
+
+module _ (net : List ℕ) (k : ℕ) (a b c d : List ℕ) where
+  -- the tasks of k schedules (§10.31), and the product of their graphs (§10.32)
+  abbrev pub tasks : Tasks
+  tasks = tasksOf (petriNet net) k (givenSheets k a b c d)
+
+  -- a call that answered 0; the buffers lent held anything
+  pub record Composing : Type 0 where
+    pub out : List ℕ
+    pub scratch : List ℕ
+    pub answer : ComposeAnswer
+    pub out′ : List ℕ
+    pub scratch′ : List ℕ
+    pub done : ComposeDone net k a b c d out scratch answer out′ scratch′
+    pub zero : number (plainCompose answer) ≡ 0
+
+  -- all that is checked, in the order of §7.63; room for the result comes last
+  abbrev pub allComposeChecks : Type 0 → List ℕ → List Check
+  allComposeChecks Room scratch = once (scratchLimit ≤ length scratch) 21 ∷ ((netChecks net ++ composeChecks (petriNet net) k (givenSheets k a b c d)) ++ (once Room 22 ∷ []))
+
+-- the length that it answered, and so many words of its buffer: §10.30
+abbrev pub composedSize : {net : List ℕ} {k : ℕ} {a b c d : List ℕ} → Composing net k a b c d → ℕ
+composedSize c = own (plainCompose (c .answer)) 0
+
+abbrev pub composedBy : {net : List ℕ} {k : ℕ} {a b c d : List ℕ} → Composing net k a b c d → List ℕ
+composedBy c = take (composedSize c) (c .out′)
+
+module _ (net : List ℕ) (k : ℕ) (a b c d : List ℕ) where
+  -- as every call (§13.1), by its checks; so many words are needed of the buffer, which is the length answered
+  pub record EveryComposition : Type 0 where
+    pub needed : ℕ
+    pub every : (out : List ℕ) → EveryCall scratchLimit withoutSheet 1 (allComposeChecks net k a b c d (needed ≤ length out)) out (ComposeDone net k a b c d out)
+    pub answered : (x : Composing net k a b c d) → composedSize x ≡ needed
+
+  -- the written schedule is accepted, its nodes are the reached states, numbered breadth first
+  pub record Written (x : Composing net k a b c d) : Type 0 where
+    pub accepted : AlwaysAccepted net (composedBy x)
+    pub state : ℕ → ℕ
+    pub states : ReachedPart (product (petriNet net) (tasks net k a b c d)) (said net (composedBy x)) state
+    pub numbered : BreadthFirst (said net (composedBy x))
+    -- what a place holds: the starting count and what each task has changed. No number is cut off at 0
+    pub counts : (s p : ℕ) → Reachable (product (petriNet net) (tasks net k a b c d)) s → p < petriNet net .places
+        → countAt (petriNet net) (composedBy x) (state s) p + k * petriNet net .start p ≡ petriNet net .start p + heldByAll (tasks net k a b c d) s p
+    -- its await nodes are the states in which every task waits: §10.32
+    pub awaits : (s : ℕ) → Reachable (product (petriNet net) (tasks net k a b c d)) s
+        → (allAwait (tasks net k a b c d) s ≡ true) ↔ Await (petriNet net) (said net (composedBy x)) (state s)
+    -- two different tasks each served once more, by given outcomes, in either order: one state is reached, where all wait again (§10.34)
+    pub either : (s i j m n : ℕ) (σ τ : List ℕ) → Reachable (product (petriNet net) (tasks net k a b c d)) s → allAwait (tasks net k a b c d) s ≡ true
+        → i < k → j < k → (j ≡ i → ⊥) → Serves (tasks net k a b c d) i (nodeOf (tasks net k a b c d) i s) σ m → Serves (tasks net k a b c d) j (nodeOf (tasks net k a b c d) j s) τ n
+        → (end : ℕ) × (allAwait (tasks net k a b c d) end ≡ true)
+        × (follow (product (petriNet net) (tasks net k a b c d)) s (σ ++ τ) ≡ some end) × (follow (product (petriNet net) (tasks net k a b c d)) s (τ ++ σ) ≡ some end)
+        × (follow (said net (composedBy x)) (state s) (σ ++ τ) ≡ some (state end)) × (follow (said net (composedBy x)) (state s) (τ ++ σ) ≡ some (state end))
+    -- it all lies in the buffer, and what follows it there is as it was: §9.4
+    pub short : composedSize x ≤ 2 + 2 * mostEntries
+    pub fits : composedSize x ≤ length (x .out)
+    pub within : x .out′ ≡ composedBy x ++ drop (composedSize x) (x .out)
+
+  -- 30 where the checks before it pass: exactly when no counts whatever make the composed graph a schedule (source document 001, Definition 8)
+  abbrev pub DependentAnswer : Type 0
+  DependentAnswer = (out s out′ s′ : List ℕ) (r : ComposeAnswer) → ComposeDone net k a b c d out s r out′ s′ → scratchLimit ≤ length s → IsNet net
+      → NumberPasses (petriNet net) k (givenSheets k a b c d)
+      → ((i : ℕ) → i < k → AllPass (sheetChecks (netOf (petriNet net) i) (givenSheets k a b c d i))) → FewPass (petriNet net) k (givenSheets k a b c d)
+      → (number (plainCompose r) ≡ 30) ↔ (Composable (petriNet net) (tasks net k a b c d) → ⊥)
+
+pub record ComposeDemand : Type 0 where
+  pub every : (net : List ℕ) (k : ℕ) (a b c d : List ℕ) → EveryComposition net k a b c d
+  -- the number beside a refusal: §10.30
+  pub named : (net : List ℕ) (k : ℕ) (a b c d out s out′ s′ : List ℕ) (r : ComposeAnswer) → ComposeDone net k a b c d out s r out′ s′
+      → (i : ℕ) → (own (plainCompose r) 1 ≡ i + 1) ↔ Named net k (givenSheets k a b c d) s i
+  -- what the buffers held is read by nothing (§13.5), nor is a slice past the number
+  pub unread : (net : List ℕ) (k : ℕ) (a b c d : List ℕ) → Unread (ComposeDone net k a b c d)
+  pub past-unread : (net : List ℕ) (k : ℕ) (a b c d a₁ b₁ c₁ d₁ out s out′ s′ : List ℕ) (r : ComposeAnswer)
+      → ((i : ℕ) → i < k → fourSheets a b c d i ≡ fourSheets a₁ b₁ c₁ d₁ i)
+      → ComposeDone net k a b c d out s r out′ s′ → ComposeDone net k a₁ b₁ c₁ d₁ out s r out′ s′
+  pub dependent : (net : List ℕ) (k : ℕ) (a b c d : List ℕ) → DependentAnswer net k a b c d
+  pub written : (net : List ℕ) (k : ℕ) (a b c d : List ℕ) (x : Composing net k a b c d) → Written net k a b c d x
+  -- the reached states are the tuples of nodes in which at most one task is busy
+  pub reached : (net : List ℕ) (k : ℕ) (a b c d : List ℕ) → Composing net k a b c d → (s : ℕ)
+      → Reachable (product (petriNet net) (tasks net k a b c d)) s ↔ ((s < tuples (sizeOf (tasks net k a b c d)) k) × OneBusy (tasks net k a b c d) s)
+  -- of lists in which no source but one task's own occurs the written schedule allows those that the task's schedule allows
+  pub services : (net : List ℕ) (k : ℕ) (a b c d : List ℕ) (x : Composing net k a b c d) (i : ℕ) → i < k → (σ : List ℕ) → OwnSources (petriNet net) (sourceOf (petriNet net) i) σ
+      → allows (said net (composedBy x)) 0 σ ≡ allows (said net (givenSheets k a b c d i)) 0 σ
+  -- with one source it is the given schedule under breadth first numbers
+  pub one-source : (net a b c d : List ℕ) (x : Composing net 1 a b c d) → (f : ℕ → ℕ) × Renumbering (said net a) (said net (composedBy x)) f
