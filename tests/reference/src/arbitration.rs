@@ -1,7 +1,7 @@
 //! Sheets on which arbitration tells (§5.1): transitions take the same, and another one draws on a
 //! place of theirs.
 
-use crate::call::{Call, Outcome};
+use crate::call::{Call, Kind, Outcome};
 use crate::model::{Net, Sheet};
 use crate::tally::Tally;
 
@@ -16,7 +16,8 @@ pub struct Arbitration {
 
 impl Arbitration {
     pub fn count(&mut self, call: &Call, outcome: &Outcome) {
-        if call.kind.sheets() != 1 || ![0, 12].contains(&outcome.reply[0]) {
+        let judges = call.kind.sheets() == 1 && call.kind != Kind::Trim;
+        if !judges || ![0, 12].contains(&outcome.reply[0]) {
             return;
         }
         let Some(net) = Net::spread_out(&call.net) else {

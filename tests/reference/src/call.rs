@@ -15,12 +15,13 @@ pub enum Kind {
     Replay,
     Mend,
     Compose,
+    Trim,
     Compare,
 }
 
 use Kind::{
     Compare, Compose, FreshWalker, Mend, NetCheck, PlaceBounds, Replay, Run, SheetCheck, ShortForm,
-    SingleFiring,
+    SingleFiring, Trim,
 };
 
 /// The operations that the program `calls` plays, and of which `cases` makes cases. One that the
@@ -36,6 +37,7 @@ pub const OPERATIONS: &[Kind] = &[
     Replay,
     Mend,
     Compose,
+    Trim,
     Compare,
 ];
 
@@ -45,7 +47,7 @@ const OF_NET: [u64; 7] = [0, 1, 2, 3, 4, 5, 26];
 const OF_SHEET: [u64; 14] = [6, 7, 8, 9, 10, 11, 12, 13, 14, 15, 16, 17, 21, 27];
 
 impl Kind {
-    pub const ALL: [Kind; 11] = [
+    pub const ALL: [Kind; 12] = [
         NetCheck,
         SheetCheck,
         PlaceBounds,
@@ -56,6 +58,7 @@ impl Kind {
         Replay,
         Mend,
         Compose,
+        Trim,
         Compare,
     ];
 
@@ -71,6 +74,7 @@ impl Kind {
             Replay => "replay",
             Mend => "mend",
             Compose => "compose",
+            Trim => "trim",
             Compare => "compare",
         }
     }
@@ -81,6 +85,7 @@ impl Kind {
             Replay => 9,
             Mend => 10,
             Compose => 11,
+            Trim => 12,
             Compare => 14,
             _ => self as u32 + 1,
         }
@@ -94,7 +99,7 @@ impl Kind {
             Run => &["fired", "node", "entry"],
             ShortForm => &["length"],
             Replay => &["taken", "put", "entry"],
-            Mend => &["length", "list"],
+            Mend | Trim => &["length", "list"],
             Compose => &["length", "sheet"],
             Compare => &["length", "length", "same", "sheet"],
             _ => &[],
@@ -111,6 +116,7 @@ impl Kind {
             Replay => &[20, 22, 23, 24],
             Mend => &[6, 7, 8, 9, 11, 12, 13, 16, 17, 21, 22, 25],
             Compose => &[22, 28, 29, 30],
+            Trim => &[6, 7, 8, 9, 21, 22],
         };
         let of_sheet = if self.checks_whole() { &OF_SHEET[..] } else { &[] };
         OF_NET.iter().chain(of_sheet).chain(own).copied().collect()
@@ -133,7 +139,7 @@ impl Kind {
 
     /// Whether what it reads as sheets has to be schedules, counts and all.
     pub fn checks_whole(self) -> bool {
-        self.reads_sheet() && self != Mend
+        self.reads_sheet() && !matches!(self, Mend | Trim)
     }
 
     /// Whether the small panel has it: §10.20.
@@ -142,12 +148,12 @@ impl Kind {
     }
 
     pub fn writes_out(self) -> bool {
-        matches!(self, PlaceBounds | Run | ShortForm | Mend | Compose | Compare)
+        matches!(self, PlaceBounds | Run | ShortForm | Mend | Compose | Trim | Compare)
     }
 
     /// Whether it has a second output buffer of words.
     pub fn writes_list(self) -> bool {
-        matches!(self, Mend | Compare)
+        matches!(self, Mend | Trim | Compare)
     }
 
     /// Whether it is handed a record or a log.
@@ -266,6 +272,7 @@ impl Call {
                 let sheets = [&sheet[..], &others[0], &others[1], &others[2]];
                 model::compose(net, self.number, sheets, &mut out, &mut scratch).to_vec()
             }
+            Trim => model::trim(net, sheet, &mut out, &mut list, &mut scratch).to_vec(),
             Compare => {
                 let (sheets, outs) = ([&sheet[..], &self.others[0]], [&mut out[..], &mut list]);
                 model::compare(net, sheets, outs, &mut scratch).to_vec()
@@ -282,7 +289,7 @@ impl Call {
         let length = match self.kind {
             _ if outcome.reply[0] != 0 => 0,
             PlaceBounds | Run => self.net.first().map_or(0, |&places| places as usize),
-            ShortForm | Mend | Compose | Compare => outcome.reply[3] as usize,
+            ShortForm | Mend | Compose | Trim | Compare => outcome.reply[3] as usize,
             _ => 0,
         };
         &outcome.out[..length.min(outcome.out.len())]

@@ -9,6 +9,7 @@ pub mod schedules;
 pub mod stale;
 pub mod tasks;
 pub mod twins;
+pub mod unreached;
 pub mod variants;
 
 use crate::call::{Call, Kind, OPERATIONS};
@@ -172,6 +173,7 @@ fn of_one_sheet(rng: &mut Rng, kind: Kind) -> Call {
     let schedule = schedule(rng);
     let (mut net_part, sheet_part) = match kind {
         Kind::Mend if rng.chance(80) => stale::words(rng, &schedule),
+        Kind::Trim => unreached::any(rng, &schedule),
         _ => words(rng, &schedule),
     };
     if !kind.reads_sheet() && rng.chance(30) {
@@ -193,7 +195,7 @@ fn of_one_sheet(rng: &mut Rng, kind: Kind) -> Call {
         _ => 0,
     };
     call.out = buffer(rng, needed);
-    if kind == Kind::Mend {
+    if matches!(kind, Kind::Mend | Kind::Trim) {
         roomy_buffers(rng, &mut call);
     }
     call.sums = [0, 1].map(|_| sums(rng, schedule.net.places()));

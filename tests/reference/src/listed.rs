@@ -2,6 +2,7 @@
 
 mod comparison;
 mod composition;
+mod trimming;
 
 use crate::call::{Call, Kind};
 use crate::generate::rng::Rng;
@@ -127,6 +128,7 @@ pub fn check(tally: &mut Tally) {
     output(tally);
     comparison::check(tally);
     composition::check(tally);
+    trimming::check(tally);
 }
 
 fn text_words(text: &str) -> Vec<u32> {

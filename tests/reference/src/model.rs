@@ -9,6 +9,7 @@ mod form;
 mod mending;
 mod net;
 mod sheet;
+mod trimming;
 
 pub use composition::{composed, Clash, Task};
 pub use mending::Misfit;
@@ -370,6 +371,29 @@ pub fn compose(
         let words = composed?.words();
         write(out, &words)?;
         Ok(vec![words.len() as u64, 0])
+    });
+    plain(answer)
+}
+
+/// Trimming: the sheet without what is not reached, and the old numbers of what is (request #109).
+/// Nothing past the entries is asked.
+pub fn trim(
+    net: &[u32],
+    sheet: &[u32],
+    out: &mut [u32],
+    list: &mut [u32],
+    scratch: &mut [u32],
+) -> [u64; 5] {
+    let answer = accept_net(net, scratch).and_then(|net| {
+        let (trimmed, kept) = Sheet::read(&net, sheet)?.trimmed();
+        let words = trimmed.words();
+        let old: Vec<u32> = kept.into_iter().map(|node| node as u32).collect();
+        if out.len() < words.len() || list.len() < old.len() {
+            return refuse(22, Nothing);
+        }
+        write(out, &words)?;
+        write(list, &old)?;
+        Ok(vec![words.len() as u64, old.len() as u64])
     });
     plain(answer)
 }

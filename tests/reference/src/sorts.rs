@@ -2,6 +2,7 @@
 
 use crate::call::{Call, Kind, Outcome};
 use crate::model::{composed, Clash, Net, Sheet, Task, MAX_NODES, TASKS};
+use crate::second::paths::closure;
 use crate::tally::Tally;
 use std::collections::BTreeMap;
 
@@ -47,6 +48,7 @@ impl Sorts {
 fn sorts(call: &Call, outcome: &Outcome) -> Vec<Sort> {
     match call.kind {
         Kind::Compose => composition(call, outcome),
+        Kind::Trim => trimmed(call, outcome),
         Kind::Compare => compared(call, outcome),
         _ => Vec::new(),
     }
@@ -117,6 +119,46 @@ fn shares(net: &Net, tasks: &[Task]) -> bool {
 /// Whether a slice past the number is no sheet of the net.
 fn past_is_no_sheet(call: &Call, net: &Net) -> bool {
     call.others.iter().skip(call.number as usize - 1).any(|words| Sheet::read(net, words).is_err())
+}
+
+/// What becomes of a sheet that is trimmed, what its dropped nodes are like, and by what the result is
+/// refused.
+fn trimmed(call: &Call, outcome: &Outcome) -> Vec<Sort> {
+    let Outcome { reply, .. } = outcome;
+    let net = Net::spread_out(&call.net).filter(|_| [0, 22].contains(&reply[0]));
+    let Some((net, sheet)) = net.and_then(|net| {
+        let sheet = Sheet::read(&net, &call.sheet).ok()?;
+        Some((net, sheet))
+    }) else {
+        return Vec::new();
+    };
+    let (after, kept) = sheet.trimmed();
+    let dropped: Vec<usize> = (0..sheet.nodes()).filter(|node| !kept.contains(node)).collect();
+    let ways = closure(sheet.nodes(), sheet.all_arcs().into_iter().map(|(n, _, m)| (n, m)));
+    let leads = |n: usize, m: usize| ways[n] >> m & 1 == 1;
+    let to = |n: usize| sheet.arcs[n].iter().flatten().copied().collect::<Vec<usize>>();
+    let is_on_cycle = |&n: &usize| to(n).into_iter().any(|m| m != n && leads(m, n));
+    let (nodes, accepted) = (sheet.nodes(), reply[0] == 0);
+    let verdict = Call::new(Kind::SheetCheck, &call.net, &after.words()).put().reply[0];
+    let short = [call.out.len() < after.words().len(), call.list.len() < kept.len()];
+    let lacks_start = sheet.counts[0] != net.start;
+    vec![
+        ("nothing-dropped", accepted && dropped.is_empty()),
+        ("one-of-128", accepted && kept.len() == 1 && nodes == MAX_NODES as usize),
+        ("no-arc", accepted && sheet.offered(0).is_empty()),
+        ("loop", accepted && dropped.iter().any(|&n| to(n).contains(&n))),
+        ("cycle", accepted && dropped.iter().any(is_on_cycle)),
+        ("to-kept", accepted && dropped.iter().any(|&n| to(n).iter().any(|m| kept.contains(m)))),
+        ("between", accepted && dropped.iter().any(|n| kept.last() > Some(n))),
+        ("right", accepted && verdict == 0 && !dropped.is_empty()),
+        ("torn", accepted && verdict == 12),
+        ("starved", accepted && verdict == 14),
+        ("wrong-start", accepted && lacks_start),
+        ("homeless", accepted && verdict == 17),
+        ("full", accepted && call.sheet[1] == 4_096),
+        ("one-short", reply[0] == 22 && short[0] && !short[1]),
+        ("other-short", reply[0] == 22 && !short[0] && short[1]),
+    ]
 }
 
 /// Whether two sheets are equal, allow the same in other words, or not the same with forms that are

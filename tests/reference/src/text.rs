@@ -15,6 +15,7 @@
 //! | 9 replay | net, sheet, log, taken, put, scratch |
 //! | 10 mending | net, sheet, out, list, scratch |
 //! | 11 composition | net, number, four sheets, out, scratch |
+//! | 12 trimming | net, sheet, out, list, scratch |
 //! | 14 comparison | net, sheet, sheet, out, out, scratch |
 //!
 //! A call of the small panel has its operation's number plus 100; operations without scratch have

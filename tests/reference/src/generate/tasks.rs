@@ -352,7 +352,7 @@ pub fn any(rng: &mut Rng) -> Tasks {
         0..=4 => side_by_side(&parts(rng, number)),
         5..=7 => explored(rng),
         8..=15 => shared(rng),
-        16..=18 => {
+        16..=17 => {
             let sizes = rng.pick(&SIZES);
             rings(rng, sizes)
         }
