@@ -233,7 +233,7 @@ fn answered(operation: u32, buffer: &mut [u8], from: Text, into: &mut [u32]) -> 
 // Whether a number stands for an operation.
 fn stands(operation: u32) -> bool {
     match operation {
-        1..=11 | 14 => true,
+        1..=12 | 14 => true,
         102 | 103 | 105..=107 | 109 | 110 => true,
         _ => false,
     }

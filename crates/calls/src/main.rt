@@ -8,6 +8,7 @@
 //   9 replay         net, sheet, log, taken, put, scratch
 //   10 mending       net, sheet, out, list, scratch
 //   11 composition  net, number, four sheets, out, scratch
+//   12 trimming      net, sheet, out, list, scratch
 //   14 comparison    net, two sheets, two outs, scratch
 // 102, 103, 105 to 107, 109 and 110 are the small panel's, each with the arguments of the number without 100.
 // Net, sheets, record and log are their length and their words; out, list, taken, put and scratch the length lent: these hold 9 before a call, and scratch 7.

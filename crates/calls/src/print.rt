@@ -14,6 +14,7 @@ use replay::ReplayAnswer;
 use schedule::FireAnswer;
 use schedule::RunAnswer;
 use schedule::Walker;
+use trimmed::TrimAnswer;
 
 pub(crate) fn text(bytes: &[u8]) {
     io::write_all(STDOUT_FILENO, bytes);
@@ -96,6 +97,13 @@ pub(crate) fn compose_answer(answer: ComposeAnswer) {
     told(plain[0], plain[1], plain[2]);
     named(b" length", plain[3] as u64);
     named(b" sheet", plain[4] as u64);
+}
+
+pub(crate) fn trim_answer(answer: TrimAnswer) {
+    let plain = answer.plain();
+    told(plain[0], plain[1], plain[2]);
+    named(b" length", plain[3] as u64);
+    named(b" list", plain[4] as u64);
 }
 
 pub(crate) fn compare_answer(answer: CompareAnswer) {

@@ -61,7 +61,7 @@ enabling = record {
 -- ---- words without a key of a capacity
 
 -- a number that no check of the list gives is not answered
-not-answered : (k : ℕ) {checks : List Check} {plain : List ℕ} {own : ℕ} → (0 ≡ k → ⊥) → Spared k checks → ByChecks checks plain own → number plain ≡ k → ⊥
+pub not-answered : (k : ℕ) {checks : List Check} {plain : List ℕ} {own : ℕ} → (0 ≡ k → ⊥) → Spared k checks → ByChecks checks plain own → number plain ≡ k → ⊥
 not-answered k {checks} n s b e =
     let (r, f, q) = b .named (λ z. n (sym z ∙ e)) in
     spared-never k checks r s f (sym (ap number q) ∙ e)

@@ -7,6 +7,7 @@ pub mod Replay
 pub mod Entries
 pub mod Mend
 pub mod Compose
+pub mod Trim
 pub mod Capacities
 pub mod Panel
 pub mod Compare

@@ -1,0 +1,20 @@
+-- `trim::trim` meets its contract.
+use Rattle.scan.proofs.Basics.{refl, sym, _∙_}
+use Rattle.call.proofs.Laws.{refused-scratch, served}
+use borrow.Author.Needs.{needs}
+use Rattle.trim.proofs.trim.Statement.{statement}
+use Rattle.trim.proofs.trim.Tie as tie
+
+returns : tie.Need-returns
+returns c = refused-scratch (sym (c .before .before .before .scratch-fault .ensures) ∙ c .before .found .given .1) refl
+
+returns-2 : tie.Need-returns-2
+returns-2 c = served (sym (c .before .before .before .before .before .before .before .before .before .before .before .before .before .scratch-fault .ensures)
+    ∙ c .before .before .before .before .before .before .before .before .before .before .before .enum-told .given .1)
+    (c .before .before .before .before .before .before .before .before .trim-into .ensures) (c .before .before .clear-front .ensures)
+
+pub trim-spec : {M : Type 1} → statement M
+trim-spec =
+    tie.close
+    (tie.spec (λ c κs. search needs) (λ c. search needs) returns (λ c. search needs) (λ c κs. search needs) (λ c κs. search needs) (λ c. search needs)
+    (λ c. search needs) (λ c. search needs) returns-2)

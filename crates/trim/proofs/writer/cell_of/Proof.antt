@@ -1,0 +1,50 @@
+-- `trim::writer::cell_of` meets its contract: an arc's key is of a row of T, a count's of one of P.
+use Rattle.scan.proofs.Basics.{arith}
+use borrow.Author.Needs.{needs}
+use Rattle.trim.proofs.Reading.{arcs-few, arc-cell, count-cell}
+use Rattle.trim.proofs.writer.cell_of.Statement.{statement}
+use Rattle.trim.proofs.writer.cell_of.Tie as tie
+
+mul-arcs : tie.Need-mul-arcs
+mul-arcs c = let p = c .before .before .before .before .before .pre in omega (arith, arcs-few (p .0) (p .1) (c .before .transitions .ensures))
+
+-- ---- an arc
+
+cast-result : tie.Need-cast-result
+cast-result c = let p = c .before .before .before .before .before .before .pre in omega (arith, arc-cell (p .0) (p .1) (c .before .before .transitions .ensures) (c .if1 .taken) .0)
+
+element-copy-out-result : tie.Need-element-copy-out-result
+element-copy-out-result c =
+    let p = c .before .before .before .before .before .before .pre in
+    omega (arith, p .0 .size, arc-cell (p .0) (p .1) (c .before .before .transitions .ensures) (c .if1 .taken) .0)
+
+returns : tie.Need-returns
+returns c =
+    let d = c .before in
+    let p = d .before .before .before .before .before .before .pre in arc-cell (p .0) (p .1) (d .before .before .transitions .ensures) (d .if1 .taken) .1
+
+-- ---- a count
+
+cast-result-2 : tie.Need-cast-result-2
+cast-result-2 c =
+    let d = c .before in
+    let p = d .before .before .before .before .before .before .pre in
+    omega (arith, count-cell (p .0) (p .1) (d .before .before .transitions .ensures) (c .places .ensures) (d .if1 .left) .0)
+
+element-copy-out-result-2 : tie.Need-element-copy-out-result-2
+element-copy-out-result-2 c =
+    let d = c .before in
+    let p = d .before .before .before .before .before .before .pre in
+    omega (arith, p .0 .size, count-cell (p .0) (p .1) (d .before .before .transitions .ensures) (c .places .ensures) (d .if1 .left) .0)
+
+returns-2 : tie.Need-returns-2
+returns-2 c =
+    let d = c .before .before in
+    let p = d .before .before .before .before .before .before .pre in
+    count-cell (p .0) (p .1) (d .before .before .transitions .ensures) (c .before .places .ensures) (d .if1 .left) .1
+
+pub cell-of-spec : {M : Type 1} → statement M
+cell-of-spec =
+    tie.close
+    (tie.spec (λ c. search needs) (λ c. search needs) (λ c. search needs) (λ c κs. search needs) (λ c. search needs) mul-arcs (λ c. search needs) cast-result
+    element-copy-out-result returns (λ c κs. search needs) (λ c. search needs) cast-result-2 element-copy-out-result-2 returns-2)

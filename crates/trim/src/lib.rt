@@ -1,0 +1,39 @@
+// The call that trims a schedule (§10.35): nodes that nobody reaches are dropped, and the numbers that they had go to those kept.
+mod numbers;
+mod writer;
+
+ghost use Rattle.trimmed.specs.Call.{TrimWritten, TrimDone};
+use refusal::Limits;
+use refusal::Verdict;
+use trimmed::TrimAnswer;
+
+// Trimming without scratch.
+pub fn trim_into(net: &[u32], sheet: &[u32], out: &mut [u32], list: &mut [u32]) -> TrimAnswer
+    ensures { λ r. ⌜ TrimWritten (now (net .entry)) (now (sheet .entry)) (now (out .entry)) (now (list .entry)) r (now (out .exit)) (now (list .exit)) ⌝ }
+{
+    let found = graph::check(net, sheet);
+    if let Verdict::Refused(r) = found {
+        return TrimAnswer::Refused(r);
+    }
+    let new = numbers::kept(net, sheet);
+    writer::write(net, sheet, new, out, list)
+}
+
+// The trimmed schedule, and for each new number the old one.
+pub fn trim(
+    net: &[u32],
+    sheet: &[u32],
+    out: &mut [u32],
+    list: &mut [u32],
+    scratch: &mut [u32],
+) -> TrimAnswer
+    ensures { λ r. ⌜ TrimDone (now (net .entry)) (now (sheet .entry)) (now (out .entry)) (now (list .entry)) (now (scratch .entry)) r (now (out .exit)) (now (list .exit)) (now (scratch .exit)) ⌝ }
+{
+    let found = call::scratch_fault(Limits::SCRATCH, scratch.len());
+    if let Verdict::Refused(r) = found {
+        return TrimAnswer::Refused(r);
+    }
+    let answer = trim_into(net, sheet, out, list);
+    scan::clear_front(scratch, Limits::SCRATCH);
+    answer
+}

@@ -1,0 +1,31 @@
+// Schedules with nodes that nobody reaches (request #109): what trimming one answers (§10.35). The code that does it is the crate `trim`.
+ghost use mathlib.Core.Path.{_≡_};
+ghost use Rattle.trimmed.specs.Call.{plainTrim};
+use refusal::Refusal;
+
+// The lengths in words of the trimmed schedule and of the list of old numbers.
+pub struct Lengths {
+    pub sheet: usize,
+    pub list: usize,
+}
+
+// What trimming answers: the lengths of what it wrote, or a refusal.
+pub enum TrimAnswer {
+    Written(Lengths),
+    Refused(Refusal),
+}
+
+impl TrimAnswer {
+    // Its plain numbers: §8.1.
+    pub fn plain(self) -> [usize; 5]
+        ensures { λ r. ⌜ r ≡ plainTrim self ⌝ }
+    {
+        match self {
+            TrimAnswer::Written(lengths) => [0usize, 0, 0, lengths.sheet, lengths.list],
+            TrimAnswer::Refused(r) => {
+                let at = r.at;
+                [r.number as usize, at.kind() as usize, at.index(), 0, 0]
+            }
+        }
+    }
+}
