@@ -3,10 +3,11 @@ use Rattle.scan.proofs.Basics.{arith, sym}
 use Rattle.sequential.proofs.Cut.{cut-reply-both}
 use Rattle.judge.specs.Answer.{countsOf}
 use Rattle.files.specs.Program.{filesAnswer, programAnswer}
-use Rattle.files.specs.Words.{netRead, sheetRead, isRagged, wordsOf}
+use Rattle.octets.specs.Words.{isRagged, wordsOf}
+use Rattle.files.specs.Words.{netRead, sheetRead}
 use Rattle.files.specs.Printed.{refusedText, textOf, printed}
 use Rattle.files.specs.Demands.{CutReads, CutAnswers, CutChecks, AnswersInOrder, acceptedText, PrintsInOrder, TextFits, ReadPrints, PrintsWhole}
-use Rattle.files.proofs.Decoding.{read-as-cut}
+use Rattle.octets.proofs.Decoding.{read-as-cut}
 use Rattle.files.proofs.Replies.{net-tail, net-refused, sheet-tail, no-tail, read-passed}
 use Rattle.files.proofs.Longest.{printed-fits}
 use Rattle.files.proofs.Whole as whole

@@ -20,7 +20,7 @@ use Rattle.encoding.specs.Encoding as encoding
 use Rattle.minimal.specs.Minimal.{minimalForm}
 use Rattle.text.specs.Decimal.{digits, decimal}
 use Rattle.text.specs.Lines as lines
-use Rattle.files.specs.Words.{wordFrom, wordAt, isLong, isRagged, wordCount, wordsOf}
+use Rattle.octets.specs.Words.{wordFrom, wordAt, isLong, isRagged, wordCount, wordsOf}
 use Rattle.files.specs.Program.{readReply, readAnswer, filesAnswer, programAnswer}
 use Rattle.files.specs.Printed.{refusedText, textOf, printed}
 use Rattle.files.specs.Examples.{table, readings, wordsIn, tails, tailsIn, SamplesPrinted}

@@ -1,5 +1,4 @@
 -- what is read
-pub mod Decoding
 pub mod Replies
 -- what is printed, and that it has room
 pub mod Longest

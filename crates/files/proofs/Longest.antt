@@ -42,10 +42,11 @@ use Rattle.minimal.specs.Minimal.{minimalForm}
 use Rattle.minimal.proofs.Minimal.{form-accepted, form-short}
 use Rattle.judge.specs.declared.CheckAnswer.{CheckAnswer}
 use Rattle.judge.specs.declared.CheckAnswer.the-variants.{Passed, Failed}
-use Rattle.files.specs.Words.{netRead, sheetRead, isRagged, wordsOf}
+use Rattle.octets.specs.Words.{isRagged, wordsOf}
+use Rattle.files.specs.Words.{netRead, sheetRead}
 use Rattle.files.specs.Program.{tailReply, readReply, readAnswer, filesAnswer, programAnswer}
 use Rattle.files.specs.Printed.{refusedText, textOf, printed, textMost}
-use Rattle.files.proofs.Decoding.{words-length, count-fits}
+use Rattle.octets.proofs.Decoding.{words-length, count-fits}
 use Rattle.files.proofs.Replies.{check-failed, read-passed}
 
 -- ---- a refusal

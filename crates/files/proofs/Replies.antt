@@ -15,12 +15,12 @@ use Rattle.judge.specs.declared.CheckAnswer.the-variants.{Passed, Failed}
 use Rattle.judge.specs.declared.CheckAnswer.{CheckAnswer}
 use Rattle.judge.specs.declared.Counts.{Counts}
 use Rattle.text.specs.Buffer.{Put}
-use Rattle.files.specs.Words.{wordsOf, FileRead}
+use Rattle.octets.specs.Words.{wordsOf, FileRead}
 use Rattle.files.specs.Program.{tailReply, readReply, readAnswer, filesAnswer, FilesRead}
 use Rattle.files.specs.Printed.{refusedText, textOf, WordsPrinted, FilesPrinted}
-use Rattle.files.specs.declared.Reading.{Reading}
+use Rattle.octets.specs.declared.Reading.{Reading}
 use Rattle.files.specs.declared.FilesAnswer.{FilesAnswer}
-use Rattle.files.proofs.Decoding.{words-are}
+use Rattle.octets.proofs.Decoding.{words-are}
 
 then-twice : (v w : Verdict) → andThen v w ≡ andThen v (andThen v w)
 then-twice Accepted w = refl

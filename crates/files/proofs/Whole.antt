@@ -11,11 +11,12 @@ use Rattle.judge.specs.declared.CheckAnswer.{CheckAnswer}
 use Rattle.judge.specs.declared.CheckAnswer.the-variants.{Passed, Failed}
 use Rattle.minimal.specs.Minimal.{minimalForm}
 use Rattle.minimal.proofs.Minimal.{form-short}
-use Rattle.files.specs.Words.{netRead, sheetRead, wordsOf, cut}
+use Rattle.octets.specs.Words.{wordsOf, cut}
+use Rattle.files.specs.Words.{netRead, sheetRead}
 use Rattle.files.specs.Program.{filesAnswer, programAnswer}
 use Rattle.files.specs.Printed.{printed, formMost, Buffers, Reads, roomAnswer, FilesPrinted}
 use Rattle.files.specs.Demands.{ReadPrints}
-use Rattle.files.proofs.Decoding.{read-as-cut}
+use Rattle.octets.proofs.Decoding.{read-as-cut}
 use Rattle.files.proofs.Replies.{read-passed}
 use Rattle.files.proofs.Longest.{printed-fits}
 

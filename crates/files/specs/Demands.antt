@@ -1,10 +1,9 @@
 -- What is promised of the reading of files and of what is printed for them, as statements. proofs/Demands has a term for each.
-use Prim.Native.Nat.{ℕ, _*_, _/_, _≤_}
+use Prim.Native.Nat.{ℕ, _*_, _≤_}
 use mathlib.Core.Path.{_≡_}
 use mathlib.Core.List.{List}
 use mathlib.Core.Bool.{true, false}
 use lib.ListN.{length, take}
-use Rattle.scan.specs.Scan.{tabulate}
 use Rattle.text.specs.Lines.{answerLine, acceptedLines}
 use Rattle.refusal.specs.Refusal.{refusal, kindOf, indexOf}
 use Rattle.net.specs.Check.{netReply}
@@ -19,19 +18,10 @@ use Rattle.judge.specs.Answer.{countsOf, checkAnswer}
 use Rattle.judge.specs.declared.Counts.{Counts}
 use Rattle.judge.specs.declared.CheckAnswer.the-variants.{Passed, Failed}
 use Rattle.minimal.specs.Minimal.{minimalForm}
-use Rattle.files.specs.Words.{netRead, sheetRead, wordAt, isRagged, wordsOf, cut}
+use Rattle.octets.specs.Words.{ReadAsCut, isRagged, wordsOf, cut}
+use Rattle.files.specs.Words.{netRead, sheetRead}
 use Rattle.files.specs.Program.{programAnswer}
 use Rattle.files.specs.Printed.{printed, textMost, Buffers, Reads, FilesPrinted}
-
--- every word of a file
-unfoldable pub allWords : List ℕ → List ℕ
-allWords bytes = tabulate (wordAt bytes) (length bytes / 4)
-
--- §12.3; and a file is read as its cut is
-pub record ReadAsCut (most : ℕ) (bytes : List ℕ) : Type 0 where
-  pub handed-on : wordsOf most bytes ≡ take most (allWords bytes)
-  pub words : wordsOf most (cut most bytes) ≡ wordsOf most bytes
-  pub ragged : isRagged most (cut most bytes) ≡ isRagged most bytes
 
 abbrev pub CutReads : Type 0
 CutReads = (most : ℕ) (bytes : List ℕ) → ReadAsCut most bytes

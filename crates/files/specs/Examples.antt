@@ -5,7 +5,7 @@ use mathlib.Core.Bool.{Bool, true, false}
 use Prim.Native.String.{String}
 use mathlib.Core.Path.{_≡_}
 use Rattle.text.specs.Decimal.{ascii}
-use Rattle.files.specs.Words.{isRagged, wordsOf}
+use Rattle.octets.specs.Words.{isRagged, wordsOf}
 use Rattle.files.specs.Printed.{printed}
 
 pub record Example : Type 0 where

@@ -15,7 +15,8 @@ use Rattle.judge.specs.Answer.{checkAnswer}
 use Rattle.judge.specs.declared.CheckAnswer.{CheckAnswer}
 use Rattle.judge.specs.declared.CheckAnswer.the-variants.{Passed, Failed}
 use Rattle.minimal.specs.Minimal.{minimalForm}
-use Rattle.files.specs.Words.{netRead, sheetRead, wordsOf, decoded}
+use Rattle.octets.specs.Words.{wordsOf, decoded}
+use Rattle.files.specs.Words.{netRead, sheetRead}
 use Rattle.files.specs.Program.{filesAnswer, programAnswer}
 
 -- line 1, all that a refusal prints: §12.6

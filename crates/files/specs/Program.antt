@@ -13,7 +13,8 @@ use Rattle.refusal.specs.Verdict.{andThen}
 use Rattle.sequential.specs.Check.{scheduleReply}
 use Rattle.judge.specs.Answer.{countsOf, checkAnswer}
 use Rattle.judge.specs.declared.CheckAnswer.{CheckAnswer}
-use Rattle.files.specs.Words.{netRead, sheetRead, isRagged, wordCount, wordsOf, decoded}
+use Rattle.octets.specs.Words.{isRagged, wordCount, wordsOf, decoded}
+use Rattle.files.specs.Words.{netRead, sheetRead}
 use Rattle.files.specs.declared.FilesAnswer.{FilesAnswer}
 
 -- a tail, refused by the number of its file: §12.4

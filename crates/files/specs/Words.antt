@@ -1,14 +1,7 @@
--- A file as words: §12.1, §12.3, §12.4.
-use Prim.Native.Nat.{ℕ, _+_, _*_, _/_, _%_}
-use mathlib.Core.Path.{_≡_}
-use mathlib.Core.List.{List, _++_}
-use mathlib.Core.Bool.{Bool, cond, not, _&&_}
-use lib.ListN.{length, getD, take, drop}
-use lib.Dec.{leb, eqb}
-use Rattle.scan.specs.Scan.{tabulate}
+-- How many words of each file are read: §12.3.
+use Prim.Native.Nat.{ℕ, _+_, _*_}
 use Rattle.refusal.specs.Limits.{mostPlaces, mostTransitions, mostEntries}
 use Rattle.net.specs.Net.{keyCount}
-use Rattle.files.specs.declared.Reading.{Reading}
 
 -- one word more than the longest net has, and than the longest schedule has: §12.3
 abbrev pub netRead : ℕ
@@ -16,42 +9,3 @@ netRead = 4 + 2 * keyCount mostPlaces mostTransitions
 
 abbrev pub sheetRead : ℕ
 sheetRead = 3 + 2 * mostEntries
-
--- §12.1: the word that starts at a byte, missing bytes being 0
-unfoldable pub wordFrom : List ℕ → ℕ → ℕ
-wordFrom bytes at = getD bytes at 0 + 256 * getD bytes (at + 1) 0 + 65536 * getD bytes (at + 2) 0 + 16777216 * getD bytes (at + 3) 0
-
--- word i of a file
-unfoldable pub wordAt : List ℕ → ℕ → ℕ
-wordAt bytes i = wordFrom bytes (4 * i)
-
--- where at most so many words are handed on
-module _ (most : ℕ) (bytes : List ℕ) where
-  -- the words that are handed on lie whole in it
-  unfoldable pub isLong : Bool
-  isLong = leb (4 * most) (length bytes)
-
-  -- §12.4; a longer file has none that counts (§12.3)
-  unfoldable pub isRagged : Bool
-  isRagged = not isLong && not (eqb (length bytes % 4) 0)
-
-  -- §12.3
-  unfoldable pub wordCount : ℕ
-  wordCount = cond isLong most (length bytes / 4)
-
-  unfoldable pub wordsOf : List ℕ
-  wordsOf = tabulate (wordAt bytes) wordCount
-
-  -- the bytes of the words that are handed on of a longer file
-  unfoldable pub cut : List ℕ
-  cut = take (4 * most) bytes
-
--- a buffer after a file was decoded into it: of a longer file as many words as the buffer has; what lies past them unchanged
-unfoldable pub decoded : List ℕ → List ℕ → List ℕ
-decoded bytes out = wordsOf (length out) bytes ++ drop (wordCount (length out) bytes) out
-
--- One decoding: what it is handed, what it answers, and what the buffer holds afterwards.
-pub record FileRead (bytes out : List ℕ) (r : Reading) (out′ : List ℕ) : Type 0 where
-  pub words : r .words ≡ wordCount (length out) bytes
-  pub ragged : r .ragged ≡ isRagged (length out) bytes
-  pub written : out′ ≡ decoded bytes out

@@ -1,12 +1,9 @@
 // The program's two files: their bytes as words, what is answered for both, and all that is printed.
 ghost use mathlib.Core.Path.{_≡_};
-ghost use Prim.Native.Nat.{_+_, _<_};
-ghost use lib.ListN.{length, getD};
 ghost use Rattle.refusal.specs.declared.Verdict.the-variants.{Accepted};
 ghost use Rattle.sequential.specs.Check.{scheduleReply};
 ghost use Rattle.judge.specs.declared.CheckAnswer.the-variants.{Passed};
 ghost use Rattle.text.specs.Buffer.{Put};
-ghost use Rattle.files.specs.Words.{wordFrom, wordCount, isRagged, FileRead};
 ghost use Rattle.files.specs.Program.{readAnswer, FilesRead};
 ghost use Rattle.files.specs.Printed.{refusedText, WordsPrinted, FilesPrinted};
 use judge::CheckAnswer;
@@ -15,12 +12,6 @@ use minimal::FormAnswer;
 use refusal::Position;
 use refusal::Refusal;
 use refusal::Verdict;
-
-// How many words of a file are handed on (§12.3), and whether a tail was found (§12.4).
-pub struct Reading {
-    pub words: usize,
-    pub ragged: bool,
-}
 
 // Which of the two files had a tail.
 pub struct Tails {
@@ -33,56 +24,6 @@ pub struct FilesAnswer {
     pub answer: CheckAnswer,
     pub net: usize,
     pub sheet: usize,
-}
-
-fn byte(bytes: &[u8], i: usize) -> u32
-    requires { ⌜ i < length (now bytes) ⌝ }
-    ensures { λ r. ⌜ (r ≡ getD (now (bytes .entry)) i 0) × (r < 256) ⌝ }
-{
-    bytes[i] as u32
-}
-
-// The word that starts at a byte: §12.1.
-fn word(bytes: &[u8], at: usize) -> u32
-    requires { ⌜ at + 3 < length (now bytes) ⌝ }
-    ensures { λ r. ⌜ r ≡ wordFrom (now (bytes .entry)) at ⌝ }
-{
-    let first = byte(bytes, at);
-    let second = byte(bytes, at + 1);
-    let third = byte(bytes, at + 2);
-    let fourth = byte(bytes, at + 3);
-    first + 256 * second + 65536 * third + 16777216 * fourth
-}
-
-// How much of a file is handed on where at most so many words are.
-fn measure(bytes: &[u8], most: usize) -> Reading
-    ensures { λ r. ⌜ (r .words ≡ wordCount most (now (bytes .entry))) × (r .ragged ≡ isRagged most (now (bytes .entry))) ⌝ }
-{
-    let whole = bytes.len() / 4;
-    if most <= whole {
-        return Reading {
-            words: most,
-            ragged: false,
-        };
-    }
-    Reading {
-        words: whole,
-        ragged: bytes.len() % 4 != 0,
-    }
-}
-
-// Decodes a file into a buffer; of a longer file as many words as the buffer has (§12.3).
-fn decode(bytes: &[u8], out: &mut [u32]) -> Reading
-    ensures { λ r. ⌜ FileRead (now (bytes .entry)) (now (out .entry)) r (now (out .exit)) ⌝ }
-{
-    let reading = measure(bytes, out.len());
-    let words = reading.words;
-    let mut i = 0;
-    while i < words {
-        out[i] = word(bytes, 4 * i);
-        i += 1;
-    }
-    reading
 }
 
 // What is answered for the words of two files, either of which may have had a tail: §12.4.
@@ -112,8 +53,8 @@ fn check_read(tails: Tails, net: &[u32], sheet: &[u32]) -> CheckAnswer
 fn check_files(netbin: &[u8], sheetbin: &[u8], net: &mut [u32], sheet: &mut [u32]) -> FilesAnswer
     ensures { λ r. ⌜ FilesRead (now (netbin .entry)) (now (sheetbin .entry)) (now (net .entry)) (now (sheet .entry)) r (now (net .exit)) (now (sheet .exit)) ⌝ }
 {
-    let first = decode(netbin, net);
-    let second = decode(sheetbin, sheet);
+    let first = octets::decode(netbin, net);
+    let second = octets::decode(sheetbin, sheet);
     let n = first.words;
     let s = second.words;
     let tails = Tails {

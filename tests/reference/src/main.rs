@@ -4,6 +4,10 @@
 //! 0, and elsewhere where nothing went wrong.
 
 mod arbitration;
+#[cfg(archive)]
+mod byte_calls;
+#[cfg(archive)]
+mod bytes;
 mod call;
 mod generate;
 mod listed;
@@ -35,6 +39,7 @@ const USAGE: &str = "usage: reference selftest
        reference file DIR
        reference cases SEED COUNT
        reference pairs SEED COUNT
+       reference byte-calls COUNT SEED
        reference play < CASES
        reference arbitrated < CASES
        reference mended < CASES
@@ -81,6 +86,11 @@ fn main() -> ExitCode {
                     tally.check(false, || format!("{checker}: {error}"));
                 }
             }
+            _ => tally.check(false, || USAGE.to_string()),
+        },
+        #[cfg(archive)]
+        ["byte-calls", count, seed] => match (count.parse(), seed.parse()) {
+            (Ok(count), Ok(seed)) => byte_calls::compare(count, seed, &mut tally),
             _ => tally.check(false, || USAGE.to_string()),
         },
         _ => tally.check(false, || USAGE.to_string()),

@@ -2,7 +2,7 @@
 use Rattle.scan.proofs.Basics.{sym}
 use lib.Seq.{length-take-le}
 use borrow.Author.Needs.{needs}
-use Rattle.files.proofs.Decoding.{words-fit}
+use Rattle.octets.proofs.Decoding.{words-fit}
 use Rattle.files.proofs.Replies.{files-accepted, refused-files, accepted-files}
 use Rattle.files.proofs.print_files.Statement.{statement}
 use Rattle.files.proofs.print_files.Tie as tie

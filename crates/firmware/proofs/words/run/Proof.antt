@@ -1,0 +1,76 @@
+-- `firmware::words::run` meets its contract.
+use Rattle.scan.proofs.Basics.{ℕ, arith, refl, sym, ap, _∙_, List, take}
+use lib.Seq.{length-take-le}
+use Rattle.refusal.proofs.Verdicts.{answer-none, then-next, then-refused}
+use Rattle.net.specs.Net.{placeCount}
+use Rattle.sequential.specs.Petri.{petriNet}
+use Rattle.sequential.specs.Words.{marking}
+use Rattle.graph.proofs.Readable.{known}
+use Rattle.graph.proofs.Rows.{marking-right}
+use Rattle.judge.proofs.Judged.{accepted-readable}
+use Rattle.schedule.proofs.BoundRows.{end-row}
+use Rattle.schedule.proofs.Following.{run-ends}
+use Rattle.scan.specs.Placed.{placed}
+use Rattle.octets.specs.Bytes.{bytesOf}
+use Rattle.octets.proofs.Decoding.{words-count}
+use Rattle.firmware.proofs.Cut.{refused-written}
+use Rattle.firmware.proofs.Results.{refused-room, answered-room}
+use borrow.Author.Needs.{needs}
+use Rattle.firmware.proofs.words.run.Statement.{statement}
+use Rattle.firmware.proofs.words.run.Tie as tie
+
+returns : tie.Need-returns
+returns c = let e = sym (c .before .before .before .verdict .ensures) ∙ (c .before .found .given .1) in refused-written (then-refused _ _ _ e ∙ e) refl
+
+follow-requires : tie.Need-follow-requires
+follow-requires c κs = accepted-readable _ _ (sym (c .before .before .verdict .ensures) ∙ (c .enum-told .given .1))
+
+returns-2 : tie.Need-returns-2
+returns-2 c =
+    let f = c .before .before .before in
+    refused-written
+    (then-next _ _ (sym (f .before .before .before .verdict .ensures) ∙ (f .before .enum-told .given .1)) ∙ sym (f .follow .ensures .reply) ∙ (c .before .found2 .given .1)) refl
+
+returns-3 : tie.Need-returns-3
+returns-3 c =
+    let g = c .before .before .before .before .before .before .before in
+    let h = sym (g .before .before .before .verdict .ensures) ∙ (g .before .enum-told .given .1) in
+    let f = sym (g .follow .ensures .reply) ∙ (c .before .before .before .before .before .enum-told2 .given .1) in
+    let z = run-ends _ _ _ h (answer-none _ f) in
+    refused-room refl (then-next _ _ h ∙ f) (rw (c .before .before .before .before .places .ensures, ← z .long) at
+    (sym (c .before .before .before .output-fault .ensures) ∙ (c .before .found3 .given .1))) refl
+
+row-fits : tie.Need-array-share-prefix-row
+row-fits c =
+    let f = c .before .before .before .before .before .before .before .before in
+    let k = known _ _ (accepted-readable _ _ (sym (f .before .before .verdict .ensures) ∙ (f .enum-told .given .1))) in
+    omega (arith, k .few-places, c .before .before .before .before .places .ensures)
+
+row-part : tie.Need-slice-aggregate-write-words
+row-part c = sym (length-take-le _ _ (row-fits (c .before)))
+
+returns-4 : tie.Need-returns-4
+returns-4 c =
+    let p = c .before .before .before .before .before .before in
+    let f = p .before .before .before .before .before .before in
+    let a = f .before .before .before .before .before .before .before .before in
+    let h = sym (f .before .before .before .verdict .ensures) ∙ (f .before .enum-told .given .1) in
+    let e = p .before .before .before .before .enum-told2 .given .1 in
+    let ok = sym (f .follow .ensures .reply) ∙ e in
+    let n = f .follow .ensures .node e in
+    let r = accepted-readable _ _ h in
+    let z = run-ends _ _ _ h (answer-none _ ok) in
+    let free = sym (p .before .before .output-fault .ensures) ∙ (p .enum-told3 .given .1) in
+    answered-room refl (then-next _ _ h ∙ ok) (rw (z .long, ← (p .before .before .before .places .ensures)) free)
+    (rw (n, f .follow .ensures .entry e, words-count (a .args .firings .now)))
+    (c .before .before .write-words .ensures ∙ ap (λ (x : List ℕ). placed (a .args .out .now) 0 (bytesOf 4 x))
+    (ap (λ (k : ℕ). take k (c .before .before .before .before .before .marking .result)) (p .before .before .before .places .ensures)
+    ∙ ap (take (placeCount (a .args .net .now))) (c .before .before .before .before .before .marking .ensures ∙ marking-right _ _ (r .arcs) _ (rw n (z .low)))
+    ∙ end-row _ _ _ (rw n (z .low)) (known _ _ r .few-places) ∙ ap (marking (petriNet (a .args .net .now)) (a .args .sheet .now)) n ∙ z .counts))
+
+pub run-spec : {M : Type 1} → statement M
+run-spec =
+    tie.close
+    (tie.spec (λ c κs. search needs) (λ c. search needs) returns (λ c. search needs) follow-requires (λ c. search needs) returns-2 (λ c. search needs)
+    (λ c κs. search needs) (λ c. omega (arith, (c .places .ok))) (λ c κs. search needs) (λ c. search needs) returns-3 (λ c. search needs) (λ c κs. search needs)
+    row-fits row-part (λ c κs. search needs) (λ c. search needs) returns-4)

@@ -1,0 +1,4 @@
+pub mod Bytes
+pub mod Calls
+pub mod Parts
+pub mod Demands

@@ -1,0 +1,36 @@
+-- The parts of a call over bytes, for the contracts of its private functions.
+use Prim.Native.Nat.{ℕ}
+use mathlib.Core.Path.{_≡_}
+use mathlib.Core.List.{List, [], _∷_}
+use Rattle.refusal.specs.Verdict.{andThen}
+use Rattle.refusal.specs.declared.Verdict.{Verdict}
+use Rattle.call.specs.Call.{Core, scratchFault, buffer, wordsVerdict, answerOf}
+use Rattle.call.specs.Demands.{number}
+use Rattle.octets.specs.Words.{allWords}
+use Rattle.firmware.specs.Bytes.{scratchBytes, brokenFault, bytesVerdict, bytesAnswer, outAfter}
+use Rattle.firmware.specs.Calls.{ownCore, oneNumber}
+use Rattle.firmware.specs.declared.lent.Six.{Six}
+
+-- what is asked before a word is read: 21, then 31 (§7.65)
+unfoldable pub earlyVerdict : ℕ → ℕ → ℕ → ℕ → Verdict
+earlyVerdict lent net sheet firings = andThen (scratchFault scratchBytes lent) (brokenFault net sheet firings)
+
+-- the number of a single firing that has passed 21 and 31
+unfoldable pub fireNumber : List ℕ → List ℕ → ℕ → ℕ → ℕ
+fireNumber net sheet n t = oneNumber (answerOf (ownCore net sheet n t) (wordsVerdict (ownCore net sheet n t) []))
+
+module _ {Answer : Type 0} where
+  -- what is asked of the words alone; the result goes to bytes
+  pub record Written (core : Core Answer) (out : List ℕ) (answer : Answer) (out′ : List ℕ) : Type 0 where
+    pub answered : answer ≡ answerOf core (wordsVerdict core (allWords out ∷ []))
+    pub written : out′ ≡ outAfter (wordsVerdict core (allWords out ∷ [])) (buffer (core .results) 0) out
+
+  -- an answer as its six numbers, the first of which is returned too
+  pub record Tells (six : Answer → List ℕ) (answer : Answer) (s : Six) : Type 0 where
+    pub number-told : s .number ≡ number (six answer)
+    pub plain-told : s .plain ≡ six answer
+
+  -- all but scratch and reply
+  pub record Served (core : Core Answer) (six : Answer → List ℕ) (lent : ℕ) (out : List ℕ) (s : Six) (out′ : List ℕ) : Type 0 where
+    pub told : Tells six (bytesAnswer core out lent) s
+    pub written : out′ ≡ outAfter (bytesVerdict core out lent) (buffer (core .results) 0) out
