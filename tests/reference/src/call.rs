@@ -17,11 +17,12 @@ pub enum Kind {
     Compose,
     Trim,
     Compare,
+    Plain,
 }
 
 use Kind::{
-    Compare, Compose, FreshWalker, Mend, NetCheck, PlaceBounds, Replay, Run, SheetCheck, ShortForm,
-    SingleFiring, Trim,
+    Compare, Compose, FreshWalker, Mend, NetCheck, PlaceBounds, Plain, Replay, Run, SheetCheck,
+    ShortForm, SingleFiring, Trim,
 };
 
 /// The operations that the program `calls` plays, and of which `cases` makes cases. One that the
@@ -39,6 +40,7 @@ pub const OPERATIONS: &[Kind] = &[
     Compose,
     Trim,
     Compare,
+    Plain,
 ];
 
 /// The numbers of a net that is refused, and 0: §7.55.
@@ -47,7 +49,7 @@ const OF_NET: [u64; 7] = [0, 1, 2, 3, 4, 5, 26];
 const OF_SHEET: [u64; 14] = [6, 7, 8, 9, 10, 11, 12, 13, 14, 15, 16, 17, 21, 27];
 
 impl Kind {
-    pub const ALL: [Kind; 12] = [
+    pub const ALL: [Kind; 13] = [
         NetCheck,
         SheetCheck,
         PlaceBounds,
@@ -60,6 +62,7 @@ impl Kind {
         Compose,
         Trim,
         Compare,
+        Plain,
     ];
 
     pub fn name(self) -> &'static str {
@@ -76,6 +79,7 @@ impl Kind {
             Compose => "compose",
             Trim => "trim",
             Compare => "compare",
+            Plain => "plain",
         }
     }
 
@@ -87,6 +91,7 @@ impl Kind {
             Compose => 11,
             Trim => 12,
             Compare => 14,
+            Plain => 15,
             _ => self as u32 + 1,
         }
     }
@@ -94,7 +99,7 @@ impl Kind {
     /// The words before each of the call's own numbers.
     pub fn own(self) -> &'static [&'static str] {
         match self {
-            SheetCheck => &["nodes", "arcs", "awaits"],
+            SheetCheck | Plain => &["nodes", "arcs", "awaits"],
             SingleFiring => &["entry"],
             Run => &["fired", "node", "entry"],
             ShortForm => &["length"],
@@ -109,7 +114,7 @@ impl Kind {
     /// Every number that it answers: §7.54 to §7.62.
     pub fn numbers(self) -> BTreeSet<u64> {
         let own: &[u64] = match self {
-            NetCheck | FreshWalker | SheetCheck => &[],
+            NetCheck | FreshWalker | SheetCheck | Plain => &[],
             PlaceBounds | ShortForm | Compare => &[22],
             SingleFiring => &[18, 19, 20],
             Run => &[20, 22],
@@ -223,6 +228,12 @@ impl Call {
         }
     }
 
+    /// A sheet check played by the plain engine: every case of the one is one of the other.
+    pub fn plainly(&self) -> Option<Call> {
+        let checks = self.kind == SheetCheck && !self.panel;
+        checks.then(|| Call { kind: Plain, ..self.clone() })
+    }
+
     /// The operation's number in a case: the panel's calls have 100 more.
     pub fn operation(&self) -> u32 {
         self.kind.operation() + 100 * u32::from(self.panel)
@@ -255,6 +266,7 @@ impl Call {
         let reply = match self.kind {
             NetCheck => model::net_check(net).to_vec(),
             SheetCheck => model::sheet_check(net, sheet, &mut scratch).to_vec(),
+            Plain => model::plain_check(net, sheet, &mut scratch).to_vec(),
             PlaceBounds => model::place_bounds(net, sheet, &mut out, &mut scratch).to_vec(),
             FreshWalker => model::fresh_walker(net, &mut walker).to_vec(),
             SingleFiring => {

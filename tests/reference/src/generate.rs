@@ -130,10 +130,11 @@ fn place_asked(rng: &mut Rng, net: &Net, words: &[u32]) -> (usize, usize) {
     (key / net.places() % net.transitions(), key % net.places())
 }
 
-/// A call of any of the kinds. Where some kinds are left out, the cases of all others stay.
+/// A call of any of the kinds. Where some kinds are left out, the cases of all others stay. The plain
+/// engine's are not made here: they are those of the sheet check.
 pub fn call(rng: &mut Rng, kinds: &[Kind]) -> Call {
     let mut kind = rng.pick(&Kind::ALL);
-    while !kinds.contains(&kind) {
+    while kind == Kind::Plain || !kinds.contains(&kind) {
         kind = rng.pick(&Kind::ALL);
     }
     let mut call = match kind {

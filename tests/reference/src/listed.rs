@@ -120,6 +120,8 @@ pub fn check(tally: &mut Tally) {
     for (net, sheet, should) in STARRED.into_iter().chain(ARBITRATED).chain(CAPPED) {
         let is = sheet_check(&text_words(net), &text_words(sheet), SCRATCH);
         tally.same(&format!("net {net}, sheet {sheet}"), is, should);
+        let plain = model::plain_check(&text_words(net), &text_words(sheet), &mut [7; SCRATCH]);
+        tally.same(&format!("net {net}, sheet {sheet} by the plain engine"), plain, should);
     }
     short_forms(tally);
     replays(tally);

@@ -165,10 +165,22 @@ fn numbers() -> String {
     OPERATIONS.iter().map(line).collect()
 }
 
-/// Generated cases, one to a line.
+/// Generated cases, one to a line, and behind them the sheet checks among them once more, for the plain
+/// engine.
 fn cases(seed: u64, count: u64) -> String {
-    let case = |index| generate::case(&mut Rng::for_case(seed, index)).text() + "\n";
-    (0..count).map(case).collect()
+    let case = |index| generate::case(&mut Rng::for_case(seed, index));
+    let cases: Vec<Case> = (0..count).map(case).collect();
+    let plainly = |case: &Case| match case {
+        Case::Call(call) if OPERATIONS.contains(&Kind::Plain) => call.plainly(),
+        _ => None,
+    };
+    let again = cases.iter().filter_map(plainly).map(Case::Call);
+    cases
+        .iter()
+        .map(Case::text)
+        .chain(again.map(|case| case.text()))
+        .map(|line| line + "\n")
+        .collect()
 }
 
 /// Accepted sheets two by two, each pair of one net, as sheet checks on two lines. Where no second

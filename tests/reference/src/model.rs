@@ -8,6 +8,7 @@ mod composition;
 mod form;
 mod mending;
 mod net;
+mod plain;
 mod sheet;
 mod trimming;
 
@@ -184,6 +185,15 @@ pub fn sheet_check(net: &[u32], sheet: &[u32], scratch: &mut [u32]) -> [u64; 6] 
     let answer = accept(net, sheet, scratch).map(|(net, sheet)| {
         let awaits = (0..sheet.nodes()).filter(|&node| sheet.is_await(&net, node)).count();
         vec![sheet.nodes() as u64, sheet.all_arcs().len() as u64, awaits as u64]
+    });
+    plain(answer)
+}
+
+/// The same by the plain engine, which reads only what is spread out: request #111.
+pub fn plain_check(net: &[u32], sheet: &[u32], scratch: &mut [u32]) -> [u64; 6] {
+    let answer = accept_net(net, scratch).and_then(|net| {
+        let sheet = Sheet::read(&net, sheet)?;
+        plain::Tables::new(&net, &sheet).check()
     });
     plain(answer)
 }

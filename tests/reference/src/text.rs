@@ -17,6 +17,7 @@
 //! | 11 composition | net, number, four sheets, out, scratch |
 //! | 12 trimming | net, sheet, out, list, scratch |
 //! | 14 comparison | net, sheet, sheet, out, out, scratch |
+//! | 15 sheet check by the plain engine | net, sheet, scratch |
 //!
 //! A call of the small panel has its operation's number plus 100; operations without scratch have
 //! none, nor those from 11 on.

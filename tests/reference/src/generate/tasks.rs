@@ -164,7 +164,7 @@ fn rings(rng: &mut Rng, sizes: &[usize]) -> Tasks {
 }
 
 /// Node counts whose product is 128, 129 or more.
-const SIZES: [&[usize]; 18] = [
+const SIZES: [&[usize]; 20] = [
     &[128],
     &[64, 2],
     &[8, 16],
@@ -178,6 +178,8 @@ const SIZES: [&[usize]; 18] = [
     &[43, 3],
     &[1, 43, 3],
     &[3, 1, 1, 43],
+    &[43, 1, 3],
+    &[1, 3, 1, 43],
     &[2, 65],
     &[12, 11],
     &[128, 2],
@@ -349,10 +351,10 @@ fn explored_task(rng: &mut Rng, net: &Net, source: usize) -> Option<Sheet> {
 pub fn any(rng: &mut Rng) -> Tasks {
     let number = rng.between(1, 4);
     let made = match rng.below(20) {
-        0..=4 => side_by_side(&parts(rng, number)),
-        5..=7 => explored(rng),
-        8..=15 => shared(rng),
-        16..=17 => {
+        0..=3 => side_by_side(&parts(rng, number)),
+        4..=6 => explored(rng),
+        7..=14 => shared(rng),
+        15..=17 => {
             let sizes = rng.pick(&SIZES);
             rings(rng, sizes)
         }
