@@ -7,7 +7,8 @@ import tempfile
 from lineup.home import HOME
 from lineup.refusals import REFUSALS
 
-PAGES = ["PLANNERS-DAY.md", "FORMAT.md"]
+PAGES = ["PLANNERS-DAY.md", "CHEMIST.md", "FORMAT.md"]
+ENGINE = os.path.join(HOME, "crates", "plainly", "src")
 
 
 def run(tally):
@@ -18,8 +19,22 @@ def run(tally):
         for i, (is_, should) in enumerate(zip(again.split("\n"), page.split("\n")), 1):
             tally.same(f"docs/{name}:{i}", is_, should)
         tally.same(f"docs/{name}: lines", again.count("\n"), page.count("\n"))
+    shown(tally)
     told = re.findall(r"(?m)^\| (\d+) \| ([^|]*) \| ([^|]*) \| ([^|]*) \|$", page)
     tally.same("the refusals of docs/FORMAT.md", {int(number): tuple(rest) for number, *rest in told}, {n: tuple(found) for n, found in REFUSALS.items()})
+
+
+def shown(tally):
+    """The blocks of code on the page of the slow engine are lines of its sources, contracts left out."""
+    code = ""
+    for name in sorted(os.listdir(ENGINE)):
+        with open(os.path.join(ENGINE, name), encoding="utf-8") as file:
+            code += re.sub(r"(?m)^ *(requires|ensures) .*\n", "", file.read())
+    with open(os.path.join(HOME, "docs", "CHEMIST.md"), encoding="utf-8") as file:
+        blocks = re.findall(r"(?ms)^```rust\n(.*?)^```$", file.read())
+    tally.check("docs/CHEMIST.md shows code", len(blocks) > 5)
+    for block in blocks:
+        tally.check(f"docs/CHEMIST.md: {block.splitlines()[0].strip()}", "\n" + block in code)
 
 
 def replayed(page):

@@ -29,11 +29,12 @@ STARVED = "n:\n  s -> m\nm:\n  w -> n\n"
 CAPPED = "pl a <= 1\ntr s -> a\ntr u a ->\n"
 BACK = "pl a <= 1\ntr s -> a\ntr b a -> a\ntr u a ->\n"
 BACKS = "n:\n  s -> m\nm:\n  b -> m\n  u -> n\n"
+FULL = "n:\n  s -> m\nm: a\n  b -> m\n  u -> n\n"
 OVER = "pl a (2) <= 1\ntr s -> a\ntr u a ->\n"
 FILES = {
     "x.net": NET, "x.sheet": SHEET, "longer.sheet": LONGER, "greedy.sheet": GREEDY, "torn.sheet": TORN, "shared.net": SHARED, "both.sheet": BOTH, "x.log": LOG,
     "arrows.sheet": ARROWS, "stale.sheet": STALE, "hoard.sheet": HOARD, "starved.sheet": STARVED,
-    "capped.net": CAPPED, "back.net": BACK, "back.sheet": BACKS, "over.net": OVER,
+    "capped.net": CAPPED, "back.net": BACK, "back.sheet": BACKS, "full.sheet": FULL, "over.net": OVER,
 }
 
 
@@ -65,6 +66,11 @@ def statuses(tally, folder):
         (0, "check x.net x.sheet", ["accepted", "core: answer 0 none 0 nodes 2 arcs 2 awaits 1", "bounds: a <= 1"]),
         (0, "check x.net", ["accepted, as a net", "sources: s", "core: answer 0 none 0"]),
         (1, "check x.net torn.sheet", ["torn.sheet:3:1: refused, 11 dead end", "core: answer 11 node 1"]),
+        (0, "spread x.net x.sheet", ["x.sheet: spread out, with x.net", "\n    s  +1\n    u  -1\n", "\n       s  u  |  a\n    n  m  .  |  .\n    m  .  n  |  1\n", "[x] 17: from every node", "core: answer 0 none 0 nodes 2 arcs 2 awaits 1"]),
+        (0, "spread capped.net x.sheet", ["\n       starts  capacity\n    a       .         1\n"]),
+        (1, "spread x.net torn.sheet", ["[x] 10: the first node", "[ ] 11, 12: each node", "torn.sheet:3:1: refused, 11 dead end", "core: answer 11 node 1"]),
+        (1, "spread back.net full.sheet", ["\n    b   .\n", "[x] 13: ", "[ ] 14, 27, 15: each arrow", "refused, 27 over capacity", "core: answer 27 entry 1"]),
+        (1, "spread over.net x.sheet", ["over.net:1:13: refused, 26 overfull start", "core: answer 26 place 0"]),
         (0, "diff x.net x.sheet longer.sheet", ["same: ", "core: x.sheet: answer 0 none 0 length 8"]),
         (1, "diff x.net x.sheet greedy.sheet", ["different: after 1 firing", "only x.sheet allows: s, u", "only greedy.sheet allows: s, s", "answer 20 record 1"]),
         (1, "check shared.net both.sheet", ["t, u take the same (a), but on a place of theirs draws w (a*2)", "each of them stands alone", "core: answer 12 node 1"]),
@@ -157,6 +163,8 @@ def as_json(tally, folder):
         "check x.net": {"accepted": True, "sources": ["s"], "capacities": {}},
         "check capped.net": {"accepted": True, "capacities": {"a": 1}},
         "check x.net torn.sheet": {"accepted": False},
+        "spread capped.net x.sheet": {"accepted": True, "starts": {}, "capacities": {"a": 1}, "taken": {"s": {}, "u": {"a": 1}}, "change": {"s": {"a": 1}, "u": {"a": -1}}, "grid": {"n": {"arrows": {"s": "m"}, "holds": {}}, "m": {"arrows": {"u": "n"}, "holds": {"a": 1}}}},
+        "spread x.net torn.sheet": {"accepted": False},
         "diff x.net x.sheet longer.sheet": {"same": True},
         "diff x.net x.sheet greedy.sheet": {"same": False, "before": ["s"]},
         "short x.net longer.sheet": {"nodes": 2, "merged": [["n", "o"], ["m", "p"]], "words": [2, 3, 0, 3, 5, 1, 0, 1]},
@@ -212,7 +220,7 @@ def word_files(tally, folder):
         found = lineup(folder, "check", what)
         tally.same(f"{what}: status", (found[0], found[2]), (1, ""))
         tally.holds(what, found[1], *parts)
-        for command in ("short", "bounds", "run", "mend", "words", "names", "draw"):
+        for command in ("spread", "short", "bounds", "run", "mend", "words", "names", "draw"):
             tally.same(f"{what}: {command}", lineup(folder, command, what)[0], 1)
     mixed(tally, folder, net, sheet)
     word_logs(tally, folder, net, sheet)
@@ -268,6 +276,7 @@ def trouble(tally, folder):
         ("check", 2, "the following arguments are required: NET", ""),
         ("check x.net x.sheet more", 2, "unrecognized arguments: more", ""),
         ("check --jsn x.net", 2, "--jsn", ""),
+        ("spread x.net", 2, "a sheet is missing", ""),
         ("bounds x.net", 2, "a sheet is missing", ""),
         ("check x.sheet x.net", 2, "swapped", ""),
         ("check x.net x.net", 2, "swapped", ""),
@@ -300,6 +309,8 @@ def disagreements(tally, folder):
             ("check x.net x.sheet", "answer 0 none 0 nodes 2 arcs 2 awaits 1", "answer 15 entry 1 nodes 0 arcs 0 awaits 0"),
             ("check x.net torn.sheet", "answer 11 node 1", "answer 11 node 0"),
             ("check x.net torn.sheet", "answer 11 node 1", "answer 0 none 0"),
+            ("spread x.net x.sheet", "arcs 2", "arcs 3"),
+            ("spread x.net torn.sheet", "answer 11 node 1", "answer 17 node 1"),
             ("bounds x.net x.sheet", "out 1", "out 2"),
             ("run x.net x.sheet s", "node 1", "node 0"),
             ("run x.net x.sheet s s", "record 1", "record 0"),

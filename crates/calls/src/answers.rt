@@ -77,6 +77,7 @@ fn larger_call(
         7 => print::form_answer(minimize::minimal_form(net, sheet, out, scratch)),
         8 => weights(net, at(words, 0), at(words, 1)),
         12 => print::trim_answer(trim::trim(net, sheet, out, second, scratch)),
+        15 => print::check_answer(plainly::check(net, sheet, scratch)),
         _ => print::mend_answer(mend::mend(net, sheet, out, second, scratch)),
     }
 }

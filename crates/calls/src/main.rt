@@ -10,6 +10,7 @@
 //   11 composition  net, number, four sheets, out, scratch
 //   12 trimming      net, sheet, out, list, scratch
 //   14 comparison    net, two sheets, two outs, scratch
+//   15 the sheet check by the plain engine  net, sheet, scratch
 // 102, 103, 105 to 107, 109 and 110 are the small panel's, each with the arguments of the number without 100.
 // Net, sheets, record and log are their length and their words; out, list, taken, put and scratch the length lent: these hold 9 before a call, and scratch 7.
 // A line ends with each output buffer's words up to the last that is not 9 and how many follow, and with how many words of scratch are 0,

@@ -18,6 +18,7 @@ pub mod Panel
 pub mod ToldIndex
 pub mod Compare
 pub mod Reading
+pub mod Slow
 -- worked examples
 pub mod Examples
 pub mod Nine

@@ -12,4 +12,5 @@ pub mod Capacities
 pub mod Panel
 pub mod Compare
 pub mod Reading
+pub mod Slow
 pub mod Examples

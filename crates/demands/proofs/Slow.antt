@@ -1,0 +1,151 @@
+-- The slow engine: what it spreads, and that it answers what the check answers.
+use Rattle.scan.proofs.Basics.{ℕ, _+_, _*_, _/_, _%_, _-_, _≤_, _<_, arith, _≡_, refl, sym, ap, _∙_, _⊎_, inl, inr, Option, none, some, Option·map, List, [], _∷_, _++_, getD}
+use lib.IntN.{pos, _-ℤ_}
+use Rattle.scan.specs.Scan.{orElse, foundOr}
+use Rattle.scan.proofs.Tests.{lt-ltb}
+use Rattle.refusal.specs.Verdict.{verdictOf}
+use Rattle.refusal.specs.declared.Refusal.{Refusal}
+use Rattle.refusal.specs.declared.Verdict.{Verdict}
+use Rattle.refusal.specs.declared.Verdict.the-variants.{Accepted, Refused}
+use Rattle.call.specs.Call.{scratchFault, outputFault, wordsVerdict, callVerdict, answerOf}
+use Rattle.call.proofs.Judged.{Lawful}
+use Rattle.call.proofs.Demands.{every-call-none}
+use Rattle.net.specs.Net.{placeCount, transitionCount, taken, put}
+use Rattle.net.specs.Check.{netReply}
+use Rattle.net.specs.Checks.{netChecks}
+use Rattle.net.proofs.Laws.{taken-no-transition, taken-no-place, put-no-transition, put-no-place}
+use Rattle.sequential.specs.Petri.{petriNet}
+use Rattle.sequential.specs.Words.{nodeCount, entryValue, entryWithKey, arcKeys, arcEntry, arc, countAt}
+use Rattle.sequential.specs.Checks.{sheetChecks}
+use Rattle.sequential.specs.Check.{wordsFault, scheduleFault, scheduleReply}
+use Rattle.sequential.proofs.Entries.{row-div, row-mod}
+use Rattle.graph.specs.Readable.{wordsReply}
+use Rattle.graph.proofs.Readable.{reply-readable}
+use Rattle.judge.specs.Answer.{countsOf, plainCheck}
+use Rattle.judge.specs.declared.CheckAnswer.the-variants.{Passed}
+use Rattle.judge.proofs.Judged.{accepted-readable}
+use Rattle.schedule.specs.Calls.{checkCore}
+use Rattle.schedule.proofs.Done.{check-law}
+use Rattle.plainly.specs.Numbers.{plusOne, arcCode, NetSpread, GridSpread}
+use Rattle.plainly.specs.Calls.{slowVerdict, slowCounts, slowCore}
+use Rattle.plainly.specs.declared.Spread.{Spread}
+use Rattle.plainly.proofs.LookUp.{cell-arc, cell-count}
+use Rattle.plainly.proofs.Right.{clauses-same, arcs-total, awaits-total}
+use Rattle.demands.specs.Slow.{TablesRight, GridRight, SlowDemand}
+
+-- ---- the tables
+
+module _ (net : List ℕ) where
+  module _ (s : Spread) (few-places : placeCount net ≤ 32) (few-transitions : transitionCount net ≤ 32) (h : NetSpread net s) where
+    module _ (t p : ℕ) (l : t < 32) (k : p < 32) where
+      row : (t * 32 + p) / 32 ≡ t
+      row = row-div t 32 p k
+
+      column : (t * 32 + p) % 32 ≡ p
+      column = row-mod t 32 p k
+
+      taken-cell : getD (s .taken) (t * 32 + p) 0 ≡ taken net t p
+      taken-cell = h .taken-is (t * 32 + p) (omega arith) ∙ rw (row, column)
+
+      change-cell : getD (s .change) (t * 32 + p) (pos 0) ≡ pos (put net t p) -ℤ pos (taken net t p)
+      change-cell = h .change-is (t * 32 + p) (omega arith) ∙ rw (row, column)
+
+    nothing : (t p : ℕ) → (transitionCount net ≤ t) ⊎ (placeCount net ≤ p) → (taken net t p ≡ 0) × (put net t p ≡ 0)
+    nothing t p (inl l) = (taken-no-transition net t p l, put-no-transition net t p l)
+    nothing t p (inr l) = (taken-no-place net t p l, put-no-place net t p l)
+
+    tables-right : TablesRight net s
+    tables-right = record {
+      sizes = (h .places-are, h .transitions-are);
+      starts = λ p k. h .starts-are p (omega arith);
+      capacities = λ p k. h .capacities-are p (omega arith);
+      taken = λ t p l k. taken-cell t p (omega arith) (omega arith);
+      change = λ t p l k. change-cell t p (omega arith) (omega arith);
+      others = λ t p l k o. let (a, b) = nothing t p o in (taken-cell t p l k ∙ a, change-cell t p l k ∙ rw (a, b));
+    }
+
+-- ---- the grid
+
+module _ (net sheet grid : List ℕ) (few-places : placeCount net ≤ 32) (few-transitions : transitionCount net ≤ 32) (few-nodes : nodeCount sheet ≤ 128) (g : GridSpread net sheet grid) where
+  code-of : (o : Option ℕ) → arcCode (Option·map (entryValue sheet) o) ≡ foundOr 0 (λ i. plusOne (entryValue sheet i)) o
+  code-of none = refl
+  code-of (some i) = refl
+
+  arc-key : (n t : ℕ) → n < nodeCount sheet → t < transitionCount net
+      → arcCode (arc (petriNet net) sheet n t) ≡ foundOr 0 (λ i. plusOne (entryValue sheet i)) (entryWithKey sheet (n * transitionCount net + t))
+  unfolding arc arcEntry
+  arc-key n t l k = rw (lt-ltb n (nodeCount sheet) l, lt-ltb t (transitionCount net) k) (code-of (entryWithKey sheet (n * transitionCount net + t)))
+
+  count-key : (n p : ℕ) → n < nodeCount sheet → p < placeCount net
+      → countAt (petriNet net) sheet n p ≡ foundOr 0 (entryValue sheet) (entryWithKey sheet (nodeCount sheet * transitionCount net + n * placeCount net + p))
+  unfolding countAt arcKeys
+  count-key n p l k = rw (lt-ltb n (nodeCount sheet) l, lt-ltb p (placeCount net) k)
+
+  grid-right : GridRight net sheet grid
+  grid-right = record {
+    arcs = λ n t l k. arc-cell n t l k ∙ arc-key n t l k;
+    counts = λ n p l k. count-cell n p l k ∙ count-key n p l k;
+  }
+    where
+      arc-cell : (n t : ℕ) → n < nodeCount sheet → t < transitionCount net → getD grid (n * 64 + t) 0 ≡ arcCode (arc (petriNet net) sheet n t)
+      arc-cell n t l k =
+          let a : (n * 64 + t) / 64 ≡ n = row-div n 64 t (omega arith) in
+          let b : (n * 64 + t) % 64 ≡ t = row-mod n 64 t (omega arith) in
+          g .cells (n * 64 + t) (omega arith) ∙ sym (cell-arc (petriNet net) sheet (n * 64 + t) (rw b (omega arith))) ∙ rw (a, b)
+
+      count-cell : (n p : ℕ) → n < nodeCount sheet → p < placeCount net → getD grid (n * 64 + 32 + p) 0 ≡ countAt (petriNet net) sheet n p
+      count-cell n p l k =
+          let e : n * 64 + 32 + p ≡ n * 64 + (32 + p) = omega arith in
+          let a : (n * 64 + (32 + p)) / 64 ≡ n = row-div n 64 (32 + p) (omega arith) in
+          let b : (n * 64 + (32 + p)) % 64 ≡ 32 + p = row-mod n 64 (32 + p) (omega arith) in
+          let q : 32 + p - 32 ≡ p = omega arith in
+          rw e (g .cells (n * 64 + (32 + p)) (omega arith) ∙ sym (cell-count (petriNet net) sheet (n * 64 + (32 + p)) (rw b (omega arith))) ∙ rw (a, b, q))
+
+-- ---- the answer
+
+module _ (net sheet : List ℕ) where
+  verdict-same : slowVerdict net sheet ≡ scheduleReply net sheet
+  unfolding slowVerdict wordsReply scheduleReply scheduleFault orElse
+  verdict-same = go (netReply net) refl (wordsFault (petriNet net) sheet) refl
+    where
+      go : (v : Verdict) → netReply net ≡ v → (o : Option Refusal) → wordsFault (petriNet net) sheet ≡ o → slowVerdict net sheet ≡ scheduleReply net sheet
+      go (Refused x) e o f = rw e
+      go Accepted e (some x) f = rw (e, f)
+      go Accepted e none f =
+          let r = reply-readable net sheet (rw (e, f)) in
+          rw (e, f) (ap verdictOf (clauses-same (petriNet net) sheet (r .arcs .sizes .some-transition) (r .arcs .holds)))
+
+  counts-same : scheduleReply net sheet ≡ Accepted → slowCounts net sheet ≡ countsOf net sheet
+  unfolding slowCounts countsOf
+  counts-same h =
+      let r = accepted-readable net sheet h in
+      let some = r .arcs .sizes .some-transition in
+      rw (arcs-total (petriNet net) sheet some (r .arcs .holds), awaits-total (petriNet net) sheet some (r .arcs .holds))
+
+  answer-same : (v : Verdict) (lent : ℕ) → scratchFault 8192 lent ≡ v → (w : Verdict) → scheduleReply net sheet ≡ w
+      → answerOf (slowCore net sheet) (callVerdict 8192 (slowCore net sheet) [] lent) ≡ answerOf (checkCore net sheet) (callVerdict 8192 (checkCore net sheet) [] lent)
+  unfolding callVerdict wordsVerdict outputFault
+  answer-same (Refused x) lent e w f = rw e
+  answer-same Accepted lent e (Refused x) f = rw (e, verdict-same, f)
+  answer-same Accepted lent e Accepted f = rw (e, verdict-same, f) (ap Passed (counts-same f))
+
+  slow-law : Lawful (slowCore net sheet) plainCheck 3 (slowCounts net sheet .nodes ∷ slowCounts net sheet .arcs ∷ slowCounts net sheet .awaits ∷ [])
+      (netChecks net ++ sheetChecks (petriNet net) sheet)
+  slow-law = record {
+    judged = rw verdict-same (check-law net sheet .judged);
+    proper = check-law net sheet .proper;
+    plain-accepted = refl;
+    own-length = refl;
+    plain-refused = λ r. refl;
+  }
+
+pub slow-demand : SlowDemand
+slow-demand = record {
+  tables = tables-right;
+  grid = grid-right;
+  every = λ net sheet. every-call-none (slow-law net sheet) refl;
+  alike = λ net sheet scratch s₁ s₂ a b d e. record {
+    answer = d .reply ∙ answer-same net sheet _ _ refl _ refl ∙ sym (e .reply);
+    scratch = d .scratch-after ∙ sym (e .scratch-after);
+  };
+}

@@ -1,0 +1,28 @@
+-- `plainly::check` meets its contract.
+use Rattle.scan.proofs.Basics.{refl, sym, _∙_}
+use Rattle.call.proofs.Laws.{refused-scratch, served}
+use Rattle.call.proofs.Lent.{scratch-holds}
+use Rattle.plainly.proofs.Answer.{cleared-same}
+use Rattle.plainly.proofs.Whole.{slow-words}
+use borrow.Author.Needs.{needs}
+use Rattle.plainly.proofs.check.Statement.{statement}
+use Rattle.plainly.proofs.check.Tie as tie
+
+returns : tie.Need-returns
+returns c = refused-scratch (sym (c .before .before .before .scratch-fault .ensures) ∙ c .before .found .given .1) refl
+
+answered-requires : tie.Need-answered-requires
+answered-requires c κs = scratch-holds 8192 _ (sym (c .before .before .before .scratch-fault .ensures) ∙ c .before .enum-told .given .1)
+
+returns-2 : tie.Need-returns-2
+returns-2 c =
+    let (answer, front) = c .before .before .before .before .before .before .answered .ensures in
+    served (sym (c .before .before .before .before .before .before .before .before .before .before .scratch-fault .ensures)
+    ∙ c .before .before .before .before .before .before .before .before .enum-told .given .1)
+    (slow-words _ _ _ answer) ((c .before .before .clear-front .ensures) ∙ cleared-same 8192 _ _ front)
+
+pub check-spec : {M : Type 1} → statement M
+check-spec =
+    tie.close
+    (tie.spec (λ c κs. search needs) (λ c. search needs) returns (λ c. search needs) answered-requires (λ c κs. search needs) (λ c. search needs)
+    returns-2)

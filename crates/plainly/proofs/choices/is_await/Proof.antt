@@ -1,0 +1,40 @@
+-- `plainly::choices::is_await` meets its contract.
+use Rattle.scan.proofs.Basics.{_-_, _≤_, arith, _≡_, refl, sym, true}
+use Rattle.scan.specs.Scan.{all}
+use Rattle.scan.proofs.Tests.{not-true, not-false}
+use Rattle.scan.proofs.Every.{all-fails, all-more}
+use Rattle.plainly.specs.Cells.{hasArc, awaitCell, cellsAwait}
+use borrow.Author.Needs.{needs}
+use Rattle.plainly.proofs.choices.is_await.Statement.{statement}
+use Rattle.plainly.proofs.choices.is_await.Tie as tie
+
+abbrev Inv-loop : tie.InvT-loop
+Inv-loop taken grid places transitions n t₀ t = (t ≤ transitions) × (all (awaitCell taken grid places n) t ≡ true)
+
+abbrev μ-loop : tie.MeasureT-loop
+μ-loop taken grid places transitions n t₀ t = transitions - t
+
+loop-holds : tie.Need-loop-holds Inv-loop μ-loop
+unfolding all
+loop-holds c = (omega arith, refl)
+
+is-source-requires : tie.Need-is-source-requires Inv-loop μ-loop
+is-source-requires c κs = (c .before .before .before .before .before .pre .1, omega (arith, c .before .before .before .before .before .pre .0 .few-transitions))
+
+returns : tie.Need-returns Inv-loop μ-loop
+unfolding cellsAwait awaitCell hasArc
+returns c = sym (all-fails _ _ (c .before .before .before .before .loop .t) (c .before .before .before .loop-test .taken) (rw (← c .before .is-source .ensures) (not-true _ (c .if1 .taken))))
+
+loop-again : tie.Need-loop-again Inv-loop μ-loop
+unfolding awaitCell hasArc
+loop-again c = (omega arith, all-more _ _ (c .before .before .before .before .loop .inv .1) (rw (← c .before .is-source .ensures) (not-false _ (c .if1 .left))))
+
+returns-2 : tie.Need-returns-2 Inv-loop μ-loop
+unfolding cellsAwait
+returns-2 c = let e : c .before .loop .t ≡ c .before .before .before .before .args .transitions = omega arith in sym (rw e at (c .before .loop .inv .1))
+
+pub is-await-spec : {M : Type 1} → statement M
+is-await-spec =
+    tie.close
+    (tie.spec Inv-loop μ-loop loop-holds (λ c. search needs) (λ c. search needs) (λ c. search needs) (λ c. search needs) is-source-requires returns
+    (λ c. search needs) (λ c. search needs) loop-again returns-2)

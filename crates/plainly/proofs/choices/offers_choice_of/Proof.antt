@@ -1,0 +1,53 @@
+-- `plainly::choices::offers_choice_of` meets its contract.
+use Rattle.scan.proofs.Basics.{_-_, _≤_, arith, _≡_, refl, sym, true}
+use Rattle.scan.specs.Scan.{all}
+use Rattle.scan.proofs.Tests.{not-true, not-false}
+use Rattle.scan.proofs.Every.{all-fails, all-more}
+use Rattle.plainly.specs.Cells.{hasArc, choiceCell, cellsChoice}
+use borrow.Author.Needs.{needs}
+use Rattle.plainly.proofs.choices.offers_choice_of.Statement.{statement}
+use Rattle.plainly.proofs.choices.offers_choice_of.Tie as tie
+
+abbrev Inv-loop : tie.InvT-loop
+Inv-loop taken grid places transitions n t free u₀ u = (u ≤ transitions) × (all (choiceCell taken grid places free n t) u ≡ true)
+
+abbrev μ-loop : tie.MeasureT-loop
+μ-loop taken grid places transitions n t free u₀ u = transitions - u
+
+is-free-requires : tie.Need-is-free-requires Inv-loop μ-loop
+is-free-requires c κs = (c .before .before .pre .1 .0, c .before .before .pre .1 .1, c .before .before .pre .0 .few-transitions)
+
+loop-holds : tie.Need-loop-holds Inv-loop μ-loop
+unfolding all
+loop-holds c = (omega arith, refl)
+
+same-choice-requires : tie.Need-same-choice-requires Inv-loop μ-loop
+same-choice-requires c κs = (
+  c .before .before .before .before .before .before .pre .1 .0,
+  c .before .before .before .before .before .before .pre .1 .1,
+  omega
+      (arith, c .before .before .before .before .before .before .pre .0 .few-transitions),
+)
+
+returns : tie.Need-returns Inv-loop μ-loop
+unfolding cellsChoice choiceCell hasArc
+returns c =
+    sym (rw (← c .before .before .before .before .before .is-free .ensures)
+    (all-fails _ _ (c .before .before .before .before .loop .u) (c .before .before .before .loop-test .taken)
+    (rw (← c .before .same-choice .ensures) (not-true _ (c .if1 .taken)))))
+
+loop-again : tie.Need-loop-again Inv-loop μ-loop
+unfolding choiceCell hasArc
+loop-again c = (omega arith, all-more _ _ (c .before .before .before .before .loop .inv .1) (rw (← c .before .same-choice .ensures) (not-false _ (c .if1 .left))))
+
+returns-2 : tie.Need-returns-2 Inv-loop μ-loop
+unfolding cellsChoice
+returns-2 c =
+    let e : c .before .loop .u ≡ c .before .before .before .before .before .args .transitions = omega arith in
+    sym (rw (← c .before .before .is-free .ensures) (rw e at (c .before .loop .inv .1)))
+
+pub offers-choice-of-spec : {M : Type 1} → statement M
+offers-choice-of-spec =
+    tie.close
+    (tie.spec Inv-loop μ-loop is-free-requires loop-holds (λ c. search needs) (λ c. search needs) (λ c. search needs) (λ c. search needs)
+    same-choice-requires returns (λ c. search needs) (λ c. search needs) loop-again returns-2)

@@ -1,0 +1,47 @@
+-- `plainly::counting::arc_count` meets its contract.
+use Rattle.scan.proofs.Basics.{_-_, arith}
+use Rattle.plainly.proofs.Keys.{Counted, counted-start, counted-more, counted-next, counted-all, counted-fits}
+use borrow.Author.Needs.{needs}
+use Rattle.plainly.proofs.counting.arc_count.Statement.{statement}
+use Rattle.plainly.proofs.counting.arc_count.Tie as tie
+
+abbrev Inv-loop2 : tie.InvT-loop2
+Inv-loop2 s grid i₀ n t₀ i t = Counted s grid n t i
+
+abbrev μ-loop2 : tie.MeasureT-loop2
+μ-loop2 s grid i₀ n t₀ i t = s .transitions - t
+
+abbrev Inv-loop : tie.InvT-loop
+Inv-loop s grid i₀ n₀ i n = Counted s grid n 0 i
+
+abbrev μ-loop : tie.MeasureT-loop
+μ-loop s grid i₀ n₀ i n = s .nodes - n
+
+loop-holds : tie.Need-loop-holds Inv-loop2 μ-loop2 Inv-loop μ-loop
+loop-holds c = counted-start _ _ (c .before .pre)
+
+loop2-holds : tie.Need-loop2-holds Inv-loop2 μ-loop2 Inv-loop μ-loop
+loop2-holds c = c .before .before .loop .inv
+
+add-i : tie.Need-add-i Inv-loop2 μ-loop2 Inv-loop μ-loop
+add-i c =
+    omega (
+      arith,
+      counted-fits (c .before .before .before .before .before .before .before .before .before .args .s) _
+          (c .before .before .before .before .before .if1 .taken) (c .before .before .if2 .taken) (c .before .before .before .before .loop2 .inv) _ (c .one-if .ensures),
+    )
+
+loop2-again : tie.Need-loop2-again Inv-loop2 μ-loop2 Inv-loop μ-loop
+loop2-again c = counted-more _ _ (c .before .before .before .before .before .if1 .taken) (c .before .before .if2 .taken) (c .one-if .ensures) (c .before .before .before .before .loop2 .inv)
+
+loop-again : tie.Need-loop-again Inv-loop2 μ-loop2 Inv-loop μ-loop
+loop-again c = counted-next _ _ (c .before .before .before .if1 .taken) (c .if2 .left) (c .before .before .loop2 .inv)
+
+returns : tie.Need-returns Inv-loop2 μ-loop2 Inv-loop μ-loop
+returns c = counted-all _ _ (c .if1 .left) (c .before .before .loop .inv)
+
+pub arc-count-spec : {M : Type 1} → statement M
+arc-count-spec =
+    tie.close
+    (tie.spec Inv-loop2 μ-loop2 Inv-loop μ-loop loop-holds loop2-holds (λ c. search needs) (λ c. search needs) (λ c. search needs) (λ c. search needs)
+    (λ c κs. search needs) add-i (λ c. search needs) (λ c. search needs) loop2-again (λ c. search needs) (λ c. search needs) loop-again returns)

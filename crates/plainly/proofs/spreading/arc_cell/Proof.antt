@@ -1,0 +1,37 @@
+-- `plainly::spreading::arc_cell` meets its contract.
+use Rattle.scan.proofs.Basics.{arith, _∙_}
+use Rattle.plainly.proofs.LookUp.{rows-small, keyed, arc-no-node, arc-no-transition, arc-value}
+use borrow.Author.Needs.{needs}
+use Rattle.plainly.proofs.spreading.arc_cell.Statement.{statement}
+use Rattle.plainly.proofs.spreading.arc_cell.Tie as tie
+
+returns : tie.Need-returns
+returns c = arc-no-node (c .before .before .before .before .before .pre) _ _ (c .if1 .taken)
+
+returns-2 : tie.Need-returns-2
+returns-2 c = arc-no-transition (c .before .before .before .before .before .before .pre) _ _ (rw (c .before .before .before .transitions .ensures) at (c .if2 .taken))
+
+mul-value-of : tie.Need-mul-value-of
+mul-value-of c =
+    let a = c .before .before .before .before .before .before .args in
+    let z = c .before .before .before .before .before .before .pre .arcs .sizes in
+    omega (arith, rows-small (a .n) (c .before .before .before .transitions .result) (omega arith) (omega (arith, c .before .before .before .transitions .ensures)))
+
+add-value-of : tie.Need-add-value-of
+add-value-of c =
+    let a = c .before .before .before .before .before .before .args in
+    let z = c .before .before .before .before .before .before .pre .arcs .sizes in
+    omega (arith, rows-small (a .n) (c .before .before .before .transitions .result) (omega arith) (omega (arith, c .before .before .before .transitions .ensures)))
+
+value-of-requires : tie.Need-value-of-requires
+value-of-requires c κs = (keyed (c .before .before .before .before .before .before .pre), omega arith)
+
+returns-3 : tie.Need-returns-3
+returns-3 c =
+    let e = c .before .before .before .before .transitions .ensures in
+    (rw e at (c .value-of .ensures)) ∙ arc-value (c .before .before .before .before .before .before .before .pre) _ _ (c .before .before .if1 .left) (rw e at (c .before .if2 .left))
+
+pub arc-cell-spec : {M : Type 1} → statement M
+arc-cell-spec =
+    tie.close
+    (tie.spec (λ c κs. search needs) (λ c. search needs) returns returns-2 mul-value-of add-value-of value-of-requires returns-3)

@@ -1,0 +1,17 @@
+-- `plainly::spreading::cell` meets its contract.
+use Rattle.scan.proofs.Basics.{_∙_}
+use Rattle.plainly.proofs.LookUp.{cell-arc, cell-count}
+use borrow.Author.Needs.{needs}
+use Rattle.plainly.proofs.spreading.cell.Statement.{statement}
+use Rattle.plainly.proofs.spreading.cell.Tie as tie
+
+returns : tie.Need-returns
+returns c = (c .arc-cell .ensures) ∙ cell-arc _ _ _ (c .before .if1 .taken)
+
+returns-2 : tie.Need-returns-2
+returns-2 c = (c .count-cell .ensures) ∙ cell-count _ _ _ (c .before .if1 .left)
+
+pub cell-spec : {M : Type 1} → statement M
+cell-spec =
+    tie.close
+    (tie.spec (λ c. search needs) (λ c. search needs) (λ c κs. search needs) returns (λ c κs. search needs) returns-2)

@@ -1,0 +1,61 @@
+-- `plainly::spreading::count_cell` meets its contract.
+use Rattle.scan.proofs.Basics.{arith, _∙_, getD}
+use Rattle.plainly.proofs.LookUp.{rows-small, keyed, count-no-node, count-no-place, count-value}
+use borrow.Author.Needs.{needs}
+use Rattle.plainly.proofs.spreading.count_cell.Statement.{statement}
+use Rattle.plainly.proofs.spreading.count_cell.Tie as tie
+
+returns : tie.Need-returns
+returns c = count-no-node (c .before .before .before .before .before .pre) _ _ (c .if1 .taken)
+
+returns-2 : tie.Need-returns-2
+returns-2 c = count-no-place (c .before .before .before .before .before .before .pre) _ _ (rw (c .before .before .before .places .ensures) at (c .if2 .taken))
+
+mul-first : tie.Need-mul-first
+mul-first c = let z = c .before .before .before .before .before .before .before .before .pre .arcs .sizes in rw (c .transitions .ensures) (omega (arith, z .few-arcs))
+
+mul-value-of : tie.Need-mul-value-of
+mul-value-of c =
+    let a = c .before .before .before .before .before .before .before .before .args in
+    let z = c .before .before .before .before .before .before .before .before .pre .arcs .sizes in
+    omega (
+      arith,
+      rows-small (a .n) (c .before .before .before .before .before .places .result) (omega arith) (omega (arith, c .before .before .before .before .before .places .ensures)),
+      rows-small (getD (a .sheet .now) 0 0) (c .transitions .result) (omega arith) (omega (arith, c .transitions .ensures)),
+    )
+
+add-value-of : tie.Need-add-value-of
+add-value-of c =
+    let a = c .before .before .before .before .before .before .before .before .args in
+    let z = c .before .before .before .before .before .before .before .before .pre .arcs .sizes in
+    omega (
+      arith,
+      rows-small (a .n) (c .before .before .before .before .before .places .result) (omega arith) (omega (arith, c .before .before .before .before .before .places .ensures)),
+      rows-small (getD (a .sheet .now) 0 0) (c .transitions .result) (omega arith) (omega (arith, c .transitions .ensures)),
+    )
+
+add-value-of-2 : tie.Need-add-value-of-2
+add-value-of-2 c =
+    let a = c .before .before .before .before .before .before .before .before .args in
+    let z = c .before .before .before .before .before .before .before .before .pre .arcs .sizes in
+    omega (
+      arith,
+      rows-small (a .n) (c .before .before .before .before .before .places .result) (omega arith) (omega (arith, c .before .before .before .before .before .places .ensures)),
+      rows-small (getD (a .sheet .now) 0 0) (c .transitions .result) (omega arith) (omega (arith, c .transitions .ensures)),
+    )
+
+value-of-requires : tie.Need-value-of-requires
+value-of-requires c κs = (keyed (c .before .before .before .before .before .before .before .before .pre), omega arith)
+
+returns-3 : tie.Need-returns-3
+returns-3 c =
+    let e = c .before .transitions .ensures in
+    let f = c .before .before .before .before .before .before .places .ensures in
+    (rw (e, f) at (c .value-of .ensures)) ∙ count-value (c .before .before .before .before .before .before .before .before .before .pre) _ _
+    (c .before .before .before .before .if1 .left) (rw f at (c .before .before .before .if2 .left))
+
+pub count-cell-spec : {M : Type 1} → statement M
+count-cell-spec =
+    tie.close
+    (tie.spec (λ c κs. search needs) (λ c. search needs) returns returns-2 (λ c. search needs) (λ c κs. search needs) mul-first mul-value-of
+    add-value-of add-value-of-2 value-of-requires returns-3)

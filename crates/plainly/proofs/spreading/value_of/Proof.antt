@@ -1,0 +1,29 @@
+-- `plainly::spreading::value_of` meets its contract.
+use Rattle.scan.proofs.Basics.{arith}
+use Rattle.plainly.proofs.LookUp.{value-small, value-found, value-absent}
+use borrow.Author.Needs.{needs}
+use Rattle.plainly.proofs.spreading.value_of.Statement.{statement}
+use Rattle.plainly.proofs.spreading.value_of.Tie as tie
+
+add-result : tie.Need-add-result
+add-result c =
+    omega (
+      arith,
+      value-small _ (c .before .before .before .before .before .before .before .pre .0) _ (c .before .before .before .before .find .ensures) _
+          (c .before .before .i .given .1),
+      c .value .ensures,
+    )
+
+returns : tie.Need-returns
+returns c =
+    value-found _ (c .before .before .before .before .before .before .before .pre .0) _ (c .before .before .before .before .find .ensures) _ _ (c .before .before .i .given .1)
+    (c .value .ensures)
+
+returns-2 : tie.Need-returns-2
+returns-2 c = value-absent _ (c .before .before .before .before .before .pre .0) _ (c .before .before .find .ensures) _ (c .enum-told .given .1)
+
+pub value-of-spec : {M : Type 1} → statement M
+value-of-spec =
+    tie.close
+    (tie.spec (λ c. search needs) (λ c. search needs) (λ c κs. search needs) (λ c. search needs) (λ c κs. search needs) add-result (λ c. search needs)
+    returns returns-2)
