@@ -16,13 +16,14 @@ pub enum Kind {
     Mend,
     Compose,
     Trim,
+    React,
     Compare,
     Plain,
 }
 
 use Kind::{
-    Compare, Compose, FreshWalker, Mend, NetCheck, PlaceBounds, Plain, Replay, Run, SheetCheck,
-    ShortForm, SingleFiring, Trim,
+    Compare, Compose, FreshWalker, Mend, NetCheck, PlaceBounds, Plain, React, Replay, Run,
+    SheetCheck, ShortForm, SingleFiring, Trim,
 };
 
 /// The operations that the program `calls` plays, and of which `cases` makes cases. One that the
@@ -39,6 +40,7 @@ pub const OPERATIONS: &[Kind] = &[
     Mend,
     Compose,
     Trim,
+    React,
     Compare,
     Plain,
 ];
@@ -49,7 +51,7 @@ const OF_NET: [u64; 7] = [0, 1, 2, 3, 4, 5, 26];
 const OF_SHEET: [u64; 14] = [6, 7, 8, 9, 10, 11, 12, 13, 14, 15, 16, 17, 21, 27];
 
 impl Kind {
-    pub const ALL: [Kind; 13] = [
+    pub const ALL: [Kind; 14] = [
         NetCheck,
         SheetCheck,
         PlaceBounds,
@@ -61,6 +63,7 @@ impl Kind {
         Mend,
         Compose,
         Trim,
+        React,
         Compare,
         Plain,
     ];
@@ -78,6 +81,7 @@ impl Kind {
             Mend => "mend",
             Compose => "compose",
             Trim => "trim",
+            React => "react",
             Compare => "compare",
             Plain => "plain",
         }
@@ -90,6 +94,7 @@ impl Kind {
             Mend => 10,
             Compose => 11,
             Trim => 12,
+            React => 13,
             Compare => 14,
             Plain => 15,
             _ => self as u32 + 1,
@@ -102,7 +107,7 @@ impl Kind {
             SheetCheck | Plain => &["nodes", "arcs", "awaits"],
             SingleFiring => &["entry"],
             Run => &["fired", "node", "entry"],
-            ShortForm => &["length"],
+            ShortForm | React => &["length"],
             Replay => &["taken", "put", "entry"],
             Mend | Trim => &["length", "list"],
             Compose => &["length", "sheet"],
@@ -122,6 +127,7 @@ impl Kind {
             Mend => &[6, 7, 8, 9, 11, 12, 13, 16, 17, 21, 22, 25],
             Compose => &[22, 28, 29, 30],
             Trim => &[6, 7, 8, 9, 21, 22],
+            React => &[22, 32, 33],
         };
         let of_sheet = if self.checks_whole() { &OF_SHEET[..] } else { &[] };
         OF_NET.iter().chain(of_sheet).chain(own).copied().collect()
@@ -153,7 +159,7 @@ impl Kind {
     }
 
     pub fn writes_out(self) -> bool {
-        matches!(self, PlaceBounds | Run | ShortForm | Mend | Compose | Trim | Compare)
+        matches!(self, PlaceBounds | Run | ShortForm | Mend | Compose | Trim | React | Compare)
     }
 
     /// Whether it has a second output buffer of words.
@@ -161,9 +167,9 @@ impl Kind {
         matches!(self, Mend | Trim | Compare)
     }
 
-    /// Whether it is handed a record or a log.
+    /// Whether it is handed a record, a log or durations.
     pub fn has_record(self) -> bool {
-        matches!(self, Run | Replay)
+        matches!(self, Run | Replay | React)
     }
 
     /// Whether it has two output buffers, of 64 bits to the number.
@@ -285,6 +291,7 @@ impl Call {
                 model::compose(net, self.number, sheets, &mut out, &mut scratch).to_vec()
             }
             Trim => model::trim(net, sheet, &mut out, &mut list, &mut scratch).to_vec(),
+            React => model::react(net, sheet, record, &mut out, &mut scratch).to_vec(),
             Compare => {
                 let (sheets, outs) = ([&sheet[..], &self.others[0]], [&mut out[..], &mut list]);
                 model::compare(net, sheets, outs, &mut scratch).to_vec()
@@ -301,7 +308,7 @@ impl Call {
         let length = match self.kind {
             _ if outcome.reply[0] != 0 => 0,
             PlaceBounds | Run => self.net.first().map_or(0, |&places| places as usize),
-            ShortForm | Mend | Compose | Trim | Compare => outcome.reply[3] as usize,
+            ShortForm | Mend | Compose | Trim | React | Compare => outcome.reply[3] as usize,
             _ => 0,
         };
         &outcome.out[..length.min(outcome.out.len())]

@@ -3,6 +3,7 @@
 
 pub mod aimed;
 pub mod damage;
+pub mod durations;
 pub mod logs;
 pub mod rng;
 pub mod schedules;
@@ -139,6 +140,7 @@ pub fn call(rng: &mut Rng, kinds: &[Kind]) -> Call {
     }
     let mut call = match kind {
         Kind::Compose => composition(rng),
+        Kind::React => reaction(rng),
         Kind::Compare => comparison(rng),
         _ => of_one_sheet(rng, kind),
     };
@@ -155,6 +157,20 @@ fn composition(rng: &mut Rng) -> Call {
     let tasks::Handed { net, number, mut sheets } = tasks::handed(rng);
     let mut call = Call::new(Kind::Compose, &net, &sheets.remove(0));
     (call.number, call.others) = (number, sheets);
+    roomy_buffers(rng, &mut call);
+    call
+}
+
+/// A call that asks for reaction times, with a buffer that holds them in most.
+fn reaction(rng: &mut Rng) -> Call {
+    let schedule = durations::timed(rng);
+    let (net, sheet) = match rng.below(20) {
+        0..=12 => schedule.words(),
+        13..=16 => aimed::any(rng, &schedule),
+        _ => words(rng, &schedule),
+    };
+    let mut call = Call::new(Kind::React, &net, &sheet);
+    call.record = durations::any(rng, &schedule.net);
     roomy_buffers(rng, &mut call);
     call
 }

@@ -2,6 +2,7 @@
 
 mod comparison;
 mod composition;
+mod reaction;
 mod trimming;
 
 use crate::call::{Call, Kind};
@@ -131,6 +132,7 @@ pub fn check(tally: &mut Tally) {
     comparison::check(tally);
     composition::check(tally);
     trimming::check(tally);
+    reaction::check(tally);
 }
 
 fn text_words(text: &str) -> Vec<u32> {

@@ -9,12 +9,14 @@ mod form;
 mod mending;
 mod net;
 mod plain;
+mod reaction;
 mod sheet;
 mod trimming;
 
 pub use composition::{composed, Clash, Task};
 pub use mending::Misfit;
 pub use net::{Net, Shape};
+pub use reaction::Durations;
 pub use sheet::Sheet;
 
 /// P and T are at most 32 (§1.3); a walker has 32 counts whatever P is (§10.5).
@@ -24,6 +26,8 @@ pub const MAX_ENTRIES: u64 = 4_096;
 pub const MAX_WEIGHT: u64 = 1_000_000_000;
 /// Firings that a log has at most: §1.9.
 pub const MAX_FIRINGS: u64 = 4_096;
+/// Seconds that a firing takes at most: request #112.
+pub const MAX_DURATION: u64 = 1_000_000;
 /// Sheets that a composition has at most: request #108.
 pub const TASKS: usize = 4;
 /// Words of scratch below which a call is refused by 21: §1.6.
@@ -404,6 +408,24 @@ pub fn trim(
         write(out, &words)?;
         write(list, &old)?;
         Ok(vec![words.len() as u64, old.len() as u64])
+    });
+    plain(answer)
+}
+
+/// Reaction times: the best and the worst until the sheet waits again, for each await node and each
+/// source (request #112).
+pub fn react(
+    net: &[u32],
+    sheet: &[u32],
+    durations: &[u32],
+    out: &mut [u32],
+    scratch: &mut [u32],
+) -> [u64; 4] {
+    let answer = accept(net, sheet, scratch).and_then(|(net, sheet)| {
+        let durations = Durations::read(&net, durations)?;
+        let times = sheet.reaction_times(&net, &durations)?;
+        write(out, &times)?;
+        Ok(vec![times.len() as u64])
     });
     plain(answer)
 }

@@ -49,6 +49,7 @@ fn sorts(call: &Call, outcome: &Outcome) -> Vec<Sort> {
     match call.kind {
         Kind::Compose => composition(call, outcome),
         Kind::Trim => trimmed(call, outcome),
+        Kind::React => timed(call, outcome),
         Kind::Compare => compared(call, outcome),
         _ => Vec::new(),
     }
@@ -158,6 +159,51 @@ fn trimmed(call: &Call, outcome: &Outcome) -> Vec<Sort> {
         ("full", accepted && call.sheet[1] == 4_096),
         ("one-short", reply[0] == 22 && short[0] && !short[1]),
         ("other-short", reply[0] == 22 && !short[0] && short[1]),
+    ]
+}
+
+/// What the durations are like, what is wrong with them, and what the sheet's busy nodes are like.
+fn timed(call: &Call, outcome: &Outcome) -> Vec<Sort> {
+    let Outcome { reply, .. } = outcome;
+    let net = Net::spread_out(&call.net).filter(|_| [0, 32, 33].contains(&reply[0]));
+    let Some((net, sheet)) = net.and_then(|net| {
+        let sheet = Sheet::read(&net, &call.sheet).ok()?;
+        Some((net, sheet))
+    }) else {
+        return Vec::new();
+    };
+    let words = &call.record;
+    let (accepted, times) = (reply[0] == 0, call.result(outcome));
+    let (t, length) = (reply[2] as usize, 1 + 2 * net.transitions());
+    let at_fault = if reply[..2] == [32, 1] {
+        [words[1 + t], words[1 + net.transitions() + t]]
+    } else {
+        [0, 0]
+    };
+    let shapeless = reply[..2] == [32, 0];
+    let awaits = (0..sheet.nodes()).filter(|&n| sheet.is_await(&net, n)).count();
+    let loops = |n: usize| sheet.arcs[n].contains(&Some(n)) && !sheet.is_await(&net, n);
+    let before = reply[0] == 33 && (0..t).any(|n| !sheet.is_await(&net, n));
+    let longest = accepted && awaits == 1 && times.iter().any(|&time| time >= 127_000_000);
+    let meet =
+        |m: usize| sheet.all_arcs().iter().filter(|arc| arc.2 == m && arc.0 != m).count() > 1;
+    let busy_meet = (0..sheet.nodes()).any(|m| !sheet.is_await(&net, m) && meet(m));
+    vec![
+        ("zero", accepted && words[1..].iter().all(|&word| word == 0)),
+        ("span", times.chunks(2).any(|pair| pair[0] < pair[1])),
+        ("limit", accepted && words.contains(&1_000_000)),
+        ("above", at_fault.contains(&1_000_001)),
+        ("crossed", at_fault[1] < at_fault[0] && at_fault[0] <= 1_000_000),
+        ("length", shapeless && words.len() != length),
+        ("other-t", shapeless && words.len() == length),
+        ("chain-of-127", accepted && sheet.nodes() == 128 && awaits == 1),
+        ("longest", longest),
+        ("meet", accepted && busy_meet),
+        ("many-awaits", accepted && awaits > 2),
+        ("many-sources", accepted && net.sources().len() > 1),
+        ("self-loop", reply[0] == 33 && loops(t)),
+        ("loop", reply[0] == 33 && !loops(t)),
+        ("behind", before),
     ]
 }
 

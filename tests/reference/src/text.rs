@@ -16,13 +16,14 @@
 //! | 10 mending | net, sheet, out, list, scratch |
 //! | 11 composition | net, number, four sheets, out, scratch |
 //! | 12 trimming | net, sheet, out, list, scratch |
+//! | 13 reaction times | net, sheet, durations, out, scratch |
 //! | 14 comparison | net, sheet, sheet, out, out, scratch |
 //! | 15 sheet check by the plain engine | net, sheet, scratch |
 //!
 //! A call of the small panel has its operation's number plus 100; operations without scratch have
 //! none, nor those from 11 on.
 //!
-//! Net, sheet, record and log are their length and their words; out, list, taken, put and scratch the
+//! Net, sheet, record, log and durations are their length and their words; out, list, taken, put and scratch the
 //! length lent: these hold 9 before the call, and scratch 7. Numbers are decimal and parted by
 //! anything that is no digit; `#` starts a comment that ends with the line. 0 for an operation, or the
 //! end, ends.
@@ -157,7 +158,11 @@ impl Call {
             text += &format!(" | sheet {}", counted(sheet));
         }
         if self.kind.has_record() {
-            let name = if self.kind == Kind::Run { "record" } else { "log" };
+            let name = match self.kind {
+                Kind::Run => "record",
+                Kind::React => "durations",
+                _ => "log",
+            };
             text += &format!(" | {name} {}", counted(&self.record));
         }
         if self.kind == Kind::SingleFiring {
