@@ -2,17 +2,17 @@
 import os
 import re
 
-from lineup import faults, files, logfile, names, netfile, sheetfile, wordfile, words
+from lineup import faults, files, logfile, names, netfile, reacting, sheetfile, timesfile, wordfile, words
 from lineup.match import mapped
 from lineup.trouble import Trouble
 from lineup.visible import quoted
 
-FORMS = {".bin": "bytes", ".txt": "decimal words", ".pnml": "PNML", ".net": "text", ".sheet": "text", ".log": "text"}
+FORMS = {".bin": "bytes", ".txt": "decimal words", ".pnml": "PNML", ".net": "text", ".sheet": "text", ".log": "text", ".times": "text"}
 REMARKS = re.compile(rb"(?:\xef\xbb\xbf)?\s*(?:#[^\n]*\n\s*)*")
 
 
 class Source:
-    """A net, a sheet or a log as it was read: the words for the core, and the same with names, where the words can be read."""
+    """A net, a sheet, a log or durations as they were read: the words for the core, and the same with names, where the words can be read."""
 
     def __init__(self, path, form):
         self.path, self.form = path, form  # form: text, PNML, decimal words, bytes
@@ -148,4 +148,20 @@ def log(path, net_source, sheet_source):
     elif source.is_words() and not faults.log_shape(source.words):
         many = source.words[0]
         source.model = logfile.Log(source.words[1 : 1 + many], source.words[1 + many :])
+    return source
+
+
+def durations(path, net_source):
+    """The durations of a file or a folder, over a net."""
+    source = opened(path, "times", words.TIMES_WORDS)
+    if source.form == "PNML":
+        raise Trouble("PNML is for nets, and durations are expected", source.path)
+    if source.tail:
+        raise Trouble(f"{len(source.data)} bytes are no whole words of four bytes: {source.tail} over", source.path)
+    if not source.is_words() and net_source.model:
+        source.model = timesfile.read(source.path, files.text(source.path, source.data), net_source.model)
+        source.words = words.duration_words(source.model)
+    elif source.is_words() and net_source.model and not reacting.duration_shape(source.words, len(net_source.model.transitions)):
+        many = source.words[0]
+        source.model = timesfile.Durations(source.words[1 : 1 + many], source.words[1 + many :])
     return source

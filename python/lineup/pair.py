@@ -25,10 +25,10 @@ class Pair:
         net, sheet = (s.data if s and s.tail else packed(s.words) if s else b"" for s in (self.net, self.sheet))
         return [core.files(net, sheet)]
 
-    def refusal(self, answer, record=None, log=None, judged=faults.sheet_fault):
+    def refusal(self, answer, record=None, log=None, judged=faults.sheet_fault, times=None):
         """The report of a refusal by the core."""
         likely = causes.likely(self.net, self.sheet) if answer.number in OF_NET | OF_WORDS else []
-        return refused(explain.explain(answer, self.net, self.sheet, record, log, judged), answer, likely)
+        return refused(explain.explain(answer, self.net, self.sheet, record, log, judged, times), answer, likely)
 
     def agree(self, checked, bounds):
         """Holds the numbers of an accepted sheet to what the sheet says."""

@@ -5,7 +5,7 @@ Refusal = namedtuple("Refusal", "word meaning remedy")
 
 # which are about the net, about the words of a sheet, about a list of firings, and about a log; the others are about a sheet that can be read
 OF_NET, OF_WORDS, OF_RECORD, OF_LOG = {1, 2, 3, 4, 5, 26}, {6, 7, 8, 9}, {20}, {20, 23, 24}
-NO_COUNTS = 25
+NO_COUNTS, BAD_DURATION, ENDLESS = 25, 32, 33
 
 REFUSALS = {
     1: Refusal(
@@ -142,5 +142,15 @@ REFUSALS = {
         "over capacity",
         "A transition is planned where a place has no room for what it puts, before anything is taken from it.",
         "Plan the transition after one that drains the place, or correct its capacity.",
+    ),
+    32: Refusal(
+        "bad duration",
+        "The durations are not two for each transition of the net, or a transition's earliest is above its latest, or one of them is above 1,000,000 seconds.",
+        "Give each transition its earliest and its latest duration in seconds; by hand, count the words: how many transitions, then as many earliest durations, then as many latest.",
+    ),
+    33: Refusal(
+        "endless reaction",
+        "The same outcomes, coming again and again, would keep the plant at work for ever without its waiting once; so no worst time can be told.",
+        "Lead some arrow of the loop to a node that waits, or plan how often it may go round, with nodes of its own for each time.",
     ),
 }

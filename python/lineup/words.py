@@ -1,10 +1,11 @@
-"""Nets, sheets and logs as the words that the core reads, and back: the formulas of the keys stand here alone."""
+"""Nets, sheets, logs and durations as the words that the core reads, and back: the formulas of the keys stand here alone."""
 from lineup.net import Net
 from lineup.sheet import Sheet
 
 NET_HEAD, SHEET_HEAD = 3, 2  # words before the keys
 NET_WORDS, SHEET_WORDS, LOG_WORDS = 4_228, 8_195, 8_194  # handed on of a longer file, one more than fits
 LIST_WORDS = 8_193  # of a list of changes, at most
+TIMES_WORDS, REPORT_WORDS = 66, 8_192  # of durations, handed on as above; of a report of times, at most
 
 
 def keyed(entries):
@@ -113,6 +114,13 @@ def sheet_of(words, net, nodes):
 
 def log_words(log):
     return [len(log.firings)] + log.firings + log.nodes
+
+
+# ---- durations: how many transitions, their earliest durations, their latest
+
+
+def duration_words(durations):
+    return [len(durations.early)] + durations.early + durations.late
 
 
 # ---- the list of what mending changes: how many counts, their keys, the new counts

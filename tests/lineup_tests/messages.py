@@ -4,11 +4,11 @@ import os
 import sys
 import tempfile
 
-from lineup import files, inputs, logfile, netfile, pnml, sheetfile, trouble, wordfile
+from lineup import files, inputs, logfile, netfile, pnml, sheetfile, timesfile, trouble, wordfile
 from lineup.home import HOME
 from lineup.trouble import Trouble
 
-READERS = ["tokens", "netfile", "sheetfile", "logfile", "wordfile", "names", "xml", "pnml", "files", "inputs", "match"]
+READERS = ["tokens", "netfile", "sheetfile", "logfile", "timesfile", "wordfile", "names", "xml", "pnml", "files", "inputs", "match"]
 
 NET = "net jetty\npl header (1)\ntr berth -> jetty\ntr line-up jetty header -> line\n"
 
@@ -119,6 +119,17 @@ PNMLS = [
     (OPEN + PLACE + '<arc id="a" source="p" target="t"/><arc id="b" source="p" target="t"/>' + CLOSE, "5:36", ["a second arc from 'p' to 't'"]),
 ]
 
+TIMES = [
+    ("s 1 2\n", "1:1", ["no durations for u"]),
+    ("", "1:1", ["no durations for s, u"]),
+    ("s 1 2\ns 1 2\n", "2:1", ["transition s has durations already, in line 1"]),
+    ("s 1\n", "1:4", ["the latest duration, in seconds, is expected, not the end of the line"]),
+    ("s 1 2 3\n", "1:7", ["'3' after the durations"]),
+    ("s one 2\n", "1:3", ["the earliest duration, in seconds, is expected, not 'one'"]),
+    ("-> 1 2\n", "1:1", ["'transition EARLIEST LATEST' is expected, not '->'"]),
+    ("v 1 2\n", "1:1", ["no transition 'v'"]),
+]
+
 WORDS = [
     ("1 1\n0x10\n", "2:1", ["'0x10' is no decimal word"]),
     ("1 -1", "1:3", ["'-1' is no decimal word"]),
@@ -141,6 +152,7 @@ def run(tally):
     tables = [("net", NETS, lambda text: netfile.read("x", text)), ("sheet", SHEETS, lambda text: sheetfile.read("x", text, over))]
     at = sheetfile.read("x.sheet", "a:\nberthed: jetty\n", over)
     tables += [("log", LOGS, lambda text: logfile.read("x", text, over, at))]
+    tables += [("times", TIMES, lambda text: timesfile.read("x", text, netfile.read("x.net", "tr s -> a\ntr u a ->\n")))]
     tables += [("PNML", PNMLS, lambda text: pnml.read("x", text.encode())), ("words", WORDS, lambda text: wordfile.decimal("x", text))]
     for kind, table, read in tables:
         for text, where, parts in table:
@@ -186,6 +198,9 @@ def in_files(tally, folder):
     expect(tally, "PNML for a log", lambda: inputs.log(path("a.pnml"), *both), "", ["PNML is for nets, and a log is expected"])
     expect(tally, "bytes of a log", lambda: inputs.log(path("a.bin", b"\0\0\0\0\1"), *both), "", ["5 bytes are no whole words of four bytes: 1 over"])
     expect(tally, "no log", lambda: inputs.log(path("bare"), *both), "", ["the folder has no log.bin and no log.txt"])
+    expect(tally, "PNML for durations", lambda: inputs.durations(path("a.pnml"), both[0]), "", ["PNML is for nets, and durations are expected"])
+    expect(tally, "bytes of durations", lambda: inputs.durations(path("a.bin"), both[0]), "", ["5 bytes are no whole words of four bytes: 1 over"])
+    expect(tally, "no durations", lambda: inputs.durations(path("bare"), both[0]), "", ["the folder has no times.bin and no times.txt"])
     expect(tally, "a place to write", lambda: files.write(path("no/such/file"), "x"), "", ["cannot be written: no such file or directory"])
     for i, (text, where, parts) in enumerate(NAMES):
         path(f"names{i}/net.txt", "1 1 0")

@@ -56,8 +56,8 @@ fn fired(fired: Fired) {
     print::walker(next);
 }
 
-// Makes a call with the larger scratch and prints its answer. The words behind the sheet are a record, a walker and the transition that it is
-// to fire, or a transition and a place.
+// Makes a call with the larger scratch and prints its answer. The words behind the sheet are a record, durations, a walker and the transition that
+// it is to fire, or a transition and a place.
 fn larger_call(
     operation: u32,
     net: &[u32],
@@ -77,6 +77,7 @@ fn larger_call(
         7 => print::form_answer(minimize::minimal_form(net, sheet, out, scratch)),
         8 => weights(net, at(words, 0), at(words, 1)),
         12 => print::trim_answer(trim::trim(net, sheet, out, second, scratch)),
+        13 => print::reaction_answer(react::reactions(net, sheet, words, out, scratch)),
         15 => print::check_answer(plainly::check(net, sheet, scratch)),
         _ => print::mend_answer(mend::mend(net, sheet, out, second, scratch)),
     }

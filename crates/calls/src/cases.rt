@@ -92,7 +92,7 @@ fn operation_shape(operation: u32) -> Shape {
         2 | 15 => parts(0, 1, false, 0, 0),
         3 | 7 => parts(0, 1, false, 0, 1),
         5 => parts(0, 1, false, 34, 0),
-        6 => parts(0, 1, true, 0, 1),
+        6 | 13 => parts(0, 1, true, 0, 1),
         8 => parts(0, 0, false, 2, 0),
         9 => parts(0, 1, true, 0, 2),
         11 => parts(1, 4, false, 0, 1),
@@ -233,7 +233,7 @@ fn answered(operation: u32, buffer: &mut [u8], from: Text, into: &mut [u32]) -> 
 // Whether a number stands for an operation.
 fn stands(operation: u32) -> bool {
     match operation {
-        1..=12 | 14 | 15 => true,
+        1..=15 => true,
         102 | 103 | 105..=107 | 109 | 110 => true,
         _ => false,
     }

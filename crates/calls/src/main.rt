@@ -9,6 +9,7 @@
 //   10 mending       net, sheet, out, list, scratch
 //   11 composition  net, number, four sheets, out, scratch
 //   12 trimming      net, sheet, out, list, scratch
+//   13 reaction times  net, sheet, durations, out, scratch
 //   14 comparison    net, two sheets, two outs, scratch
 //   15 the sheet check by the plain engine  net, sheet, scratch
 // 102, 103, 105 to 107, 109 and 110 are the small panel's, each with the arguments of the number without 100.

@@ -9,6 +9,7 @@ use libc::STDOUT_FILENO;
 use mended::MendAnswer;
 use minimal::FormAnswer;
 use net::PlaceCapacity;
+use reaction::ReactionAnswer;
 use refusal::Verdict;
 use replay::ReplayAnswer;
 use schedule::FireAnswer;
@@ -104,6 +105,12 @@ pub(crate) fn trim_answer(answer: TrimAnswer) {
     told(plain[0], plain[1], plain[2]);
     named(b" length", plain[3] as u64);
     named(b" list", plain[4] as u64);
+}
+
+pub(crate) fn reaction_answer(answer: ReactionAnswer) {
+    let plain = answer.plain();
+    told(plain[0], plain[1], plain[2]);
+    named(b" length", plain[3] as u64);
 }
 
 pub(crate) fn compare_answer(answer: CompareAnswer) {

@@ -1,0 +1,149 @@
+-- The report as it is written: the pairs of an await node along its arcs, and the rows of all await nodes.
+use Rattle.scan.proofs.Basics.{ℕ, _+_, _*_, _-_, _≤_, _<_, arith, _≡_, refl, _∙_, true, false, none, some, List, [], _∷_, getD}
+use Rattle.scan.specs.Placed.{placed}
+use Rattle.net.specs.Net.{transitionCount}
+use Rattle.sequential.specs.Words.{nodeCount, entryKey, entryValue}
+use Rattle.graph.specs.Rows.{arcsStart}
+use Rattle.encoding.specs.Rows.{Appended}
+use Rattle.reaction.specs.ToGo.{best, worst}
+use Rattle.reaction.specs.Words.{ShapePasses, strung, rowAt, report}
+use Rattle.reaction.specs.Call.{sheetGraph, reportWords}
+use Rattle.react.specs.Rows.{IsNode, ArcOf, HasEntry}
+use Rattle.react.specs.Times.{durationOf, timeOf, Ready, TimesOf}
+use Rattle.react.specs.Report.{Writable}
+use Rattle.react.proofs.ArcRows.{whole, few-nodes, key-low, key-high, arc-at, rows, first-key, has-entry, Walked, walk-start, walk-end, walk-reach, walk-gap, walk-more}
+use Rattle.react.proofs.StopMarks.{await-at, busy-at}
+use Rattle.react.proofs.Recursion.{sum-most}
+use Rattle.react.proofs.RowPairs.{strung-none, strung-hit, strung-miss, pairs, row, skip, row-busy, pair-some, rowsOf}
+
+-- ---- one row as it is written: the arcs before entry i
+
+pub record RowWriting (net sheet words starts best worst : List ℕ) (n : ℕ) (out₀ : List ℕ) (at first transitions : ℕ) (out : List ℕ) (next i : ℕ) : Type 0 where
+  pub writable : Writable net sheet words starts best worst n
+  pub first-is : first ≡ n * transitionCount net
+  pub size : transitions ≡ transitionCount net
+  pub upto : ℕ
+  pub walked : Walked net sheet starts n i upto
+  pub written : Appended out₀ at (strung (pairs net sheet words n) upto) next out
+
+pub row-start : {net sheet words starts best worst : List ℕ} {n : ℕ} {out : List ℕ} {at first transitions : ℕ} → Writable net sheet words starts best worst n
+    → first ≡ arcsStart net n → transitions ≡ transitionCount net → RowWriting net sheet words starts best worst n out at first transitions out at (getD starts n 0)
+row-start v f s = record {
+  writable = v;
+  first-is = f ∙ first-key (v .mapped) (v .node);
+  size = s;
+  upto = 0;
+  walked = walk-start (v .mapped) (v .node);
+  written = strung-none _ _ _;
+}
+
+module _ {net sheet words starts best worst : List ℕ} {n : ℕ} {out₀ : List ℕ} {at first transitions : ℕ} {out : List ℕ} {next i : ℕ}
+    (g : RowWriting net sheet words starts best worst n out₀ at first transitions out next i) where
+  abbrev v : Writable net sheet words starts best worst n
+  v = g .writable
+
+  passed-over : (t : ℕ) → g .upto ≤ t → ((u : ℕ) → g .upto ≤ u → u < t → sheetGraph net sheet .arc n u ≡ none) → Appended out₀ at (strung (pairs net sheet words n) t) next out
+  passed-over t l h = rw (skip net sheet words n (g .upto) t l h) (g .written)
+
+  pub row-end : getD starts (n + 1) 0 ≤ i → Appended out₀ at (row net sheet words n) next out
+  unfolding rowAt
+  row-end l = passed-over (transitionCount net) (g .walked .few) (λ u a b. walk-end (v .mapped) (v .node) (g .walked) l u a)
+
+  module _ (k : i < getD starts (n + 1) 0) where
+    here : ArcOf starts n i
+    here = record { begun = g .walked .begun; ends = k }
+
+    pub row-entry : HasEntry sheet i
+    row-entry = has-entry (rows (v .mapped)) (v .node) here
+
+    pub row-first : first ≤ entryKey sheet i
+    row-first = omega (arith, g .first-is, key-low (v .mapped) (v .node) here)
+
+    pub row-shape : ShapePasses words transitions
+    row-shape = rw (g .size) (v .passed .durations-pass .shape)
+
+    module _ {t : ℕ} (e : t ≡ entryKey sheet i - first) where
+      key-is : entryKey sheet i ≡ n * transitionCount net + t
+      key-is = omega (arith, e, g .first-is, row-first)
+
+      pub row-within : t < transitions
+      row-within = omega (arith, g .size, key-high (v .mapped) (v .node) here, key-is)
+
+      module _ {x : ℕ} (q : x ≡ entryValue sheet i) where
+        arc : sheetGraph net sheet .arc n t ≡ some x
+        arc = rw q (arc-at (v .mapped) (v .node) here t key-is)
+
+        target : IsNode sheet x
+        target = whole (v .mapped) .lands n t x (v .node) arc
+
+        pub row-low : x < 128
+        row-low = omega (arith, target, few-nodes (v .mapped))
+
+        module _ {own : ℕ} where
+          pub early-fits : own ≡ durationOf words false t → own + getD best x 0 ≤ 128000000
+          early-fits d = sum-most (v .passed) false (omega (arith, row-within, g .size)) target d (v .best-told .told x target)
+
+          pub late-fits : own ≡ durationOf words true t → own + getD worst x 0 ≤ 128000000
+          late-fits d = sum-most (v .passed) true (omega (arith, row-within, g .size)) target d (v .worst-told .told x target)
+
+        pub row-more : {a b : ℕ} → a ≡ durationOf words false t → b ≡ durationOf words true t → {r : ℕ} {out₂ : List ℕ}
+            → Appended out next ((a + getD best x 0) ∷ (b + getD worst x 0) ∷ []) r out₂ → RowWriting net sheet words starts best worst n out₀ at first transitions out₂ r (i + 1)
+        unfolding durationOf timeOf
+        row-more d f h =
+            let p = passed-over t (walk-reach (v .mapped) (v .node) (g .walked) here t key-is) (walk-gap (v .mapped) (v .node) (g .walked) here t key-is) in
+            record {
+              writable = v;
+              first-is = g .first-is;
+              size = g .size;
+              upto = t + 1;
+              walked = walk-more (v .mapped) (v .node) (g .walked) here t key-is;
+              written = strung-hit (pairs net sheet words n) t p (pair-some net sheet words n (v .awaits) t x arc)
+                  (rw (← d, ← f, ← v .best-told .told x target, ← v .worst-told .told x target) h);
+            }
+
+-- ---- all rows: the nodes below n
+
+pub record Writing (net sheet words starts awaits out₀ best worst : List ℕ) (nodes : ℕ) (out : List ℕ) (next n : ℕ) : Type 0 where
+  pub ready : Ready net sheet words starts awaits
+  pub best-told : TimesOf net sheet words false best
+  pub worst-told : TimesOf net sheet words true worst
+  pub nodes-are : nodes ≡ nodeCount sheet
+  pub bound : n ≤ nodes
+  pub written : Appended out₀ 0 (rowsOf net sheet words n) next out
+
+pub write-start : {net sheet words starts awaits out best worst : List ℕ} → Ready net sheet words starts awaits → TimesOf net sheet words false best → TimesOf net sheet words true worst
+    → Writing net sheet words starts awaits out best worst (nodeCount sheet) out 0 0
+write-start r b w = record { ready = r; best-told = b; worst-told = w; nodes-are = refl; bound = omega arith; written = strung-none _ _ 0 }
+
+module _ {net sheet words starts awaits out₀ best worst : List ℕ} {nodes : ℕ} {out : List ℕ} {next n : ℕ}
+    (g : Writing net sheet words starts awaits out₀ best worst nodes out next n) where
+  pub all-written : nodes ≤ n → out ≡ placed out₀ 0 (reportWords net sheet words)
+  unfolding reportWords report
+  all-written l = let q : n ≡ nodeCount sheet = omega (arith, g .nodes-are, g .bound) in g .written .held ∙ rw q
+
+  module _ (k : n < nodes) where
+    write-node : IsNode sheet n
+    write-node = omega (arith, g .nodes-are)
+
+    pub write-low : n < 128
+    write-low = omega (arith, g .nodes-are, few-nodes (g .ready .judged .mapped))
+
+    pub writable : 0 < getD awaits n 0 → Writable net sheet words starts best worst n
+    writable h = record {
+      mapped = g .ready .judged .mapped;
+      passed = g .ready .passed;
+      best-told = g .best-told;
+      worst-told = g .worst-told;
+      node = write-node;
+      awaits = await-at (g .ready .judged) write-node h;
+    }
+
+    -- with the row of an await node, or nothing
+    write-next : {r : ℕ} {out₂ : List ℕ} → Appended out₀ 0 (rowsOf net sheet words (n + 1)) r out₂ → Writing net sheet words starts awaits out₀ best worst nodes out₂ r (n + 1)
+    write-next a = record { ready = g .ready; best-told = g .best-told; worst-told = g .worst-told; nodes-are = g .nodes-are; bound = omega arith; written = a }
+
+    pub writes-row : {r : ℕ} {out₂ : List ℕ} → Appended out next (row net sheet words n) r out₂ → Writing net sheet words starts awaits out₀ best worst nodes out₂ r (n + 1)
+    writes-row a = write-next (strung-hit _ n (g .written) refl a)
+
+    pub skips-row : getD awaits n 0 ≡ 0 → Writing net sheet words starts awaits out₀ best worst nodes out next (n + 1)
+    skips-row h = write-next (rw (strung-miss _ n (row-busy net sheet words n (busy-at (g .ready .judged) write-node h))) (g .written))

@@ -1,0 +1,15 @@
+-- `react::durations::duration_fails` meets its contract.
+use Rattle.react.proofs.Lasting.{fails-order, fails-long}
+use borrow.Author.Needs.{needs}
+use Rattle.react.proofs.durations.duration_fails.Statement.{statement}
+use Rattle.react.proofs.durations.duration_fails.Tie as tie
+
+returns : tie.Need-returns
+returns c = fails-order _ _ (c .before .before .duration .ensures) (c .before .duration2 .ensures) (c .if1 .taken)
+
+returns-2 : tie.Need-returns-2
+returns-2 c = fails-long _ _ (c .before .before .duration .ensures) (c .before .duration2 .ensures) (c .if1 .left)
+
+pub duration-fails-spec : {M : Type 1} → statement M
+duration-fails-spec =
+    tie.close (tie.spec (λ c κs. search needs) (λ c κs. search needs) returns returns-2)

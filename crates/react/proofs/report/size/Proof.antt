@@ -1,0 +1,87 @@
+-- `react::report::size` meets its contract: the rows of the nodes before the counter.
+use Rattle.scan.proofs.Basics.{_-_, arith}
+use Rattle.reach.specs.Reach.{isMarked}
+use Rattle.react.proofs.ArcRows.{node-low, start-most, end-most}
+use Rattle.react.proofs.ReportSize.{Sizing, size-start, size-node, size-end, size-busy, size-await}
+use Rattle.react.proofs.report.size.Statement.{statement}
+use Rattle.react.proofs.report.size.Tie as tie
+
+abbrev Inv-loop : tie.InvT-loop
+Inv-loop sheet starts awaits nodes size₀ n₀ size n = Sizing sheet starts awaits nodes size n
+
+abbrev μ-loop : tie.MeasureT-loop
+μ-loop sheet starts awaits nodes size₀ n₀ size n = nodes - n
+
+add-arcs : tie.Need-add-arcs Inv-loop μ-loop
+add-arcs c = omega (arith, node-low (c .before .before .before .pre) (size-node (c .before .loop .inv) (c .loop-test .taken)))
+
+mul-arcs : tie.Need-mul-arcs Inv-loop μ-loop
+mul-arcs c = omega (arith, node-low (c .before .before .before .pre) (size-node (c .before .loop .inv) (c .loop-test .taken)))
+
+element-copy-out-arcs : tie.Need-element-copy-out-arcs Inv-loop μ-loop
+element-copy-out-arcs c = omega (arith, node-low (c .before .before .before .pre) (size-node (c .before .loop .inv) (c .loop-test .taken)))
+
+cast-arcs : tie.Need-cast-arcs Inv-loop μ-loop
+cast-arcs c = omega (arith, end-most (c .before .before .before .before .pre) (size-node (c .before .before .loop .inv) (c .before .loop-test .taken)))
+
+mul-arcs-2 : tie.Need-mul-arcs-2 Inv-loop μ-loop
+mul-arcs-2 c = omega (arith, node-low (c .before .before .before .before .pre) (size-node (c .before .before .loop .inv) (c .before .loop-test .taken)))
+
+element-copy-out-arcs-2 : tie.Need-element-copy-out-arcs-2 Inv-loop μ-loop
+element-copy-out-arcs-2 c = omega (arith, node-low (c .before .before .before .before .pre) (size-node (c .before .before .loop .inv) (c .before .loop-test .taken)))
+
+cast-arcs-2 : tie.Need-cast-arcs-2 Inv-loop μ-loop
+cast-arcs-2 c = omega (
+  arith,
+  start-most (c .before .before .before .before .before .pre) (size-node (c .before .before .before .loop .inv)
+      (c .before .before .loop-test .taken)),
+)
+
+sub-arcs : tie.Need-sub-arcs Inv-loop μ-loop
+sub-arcs c = omega (arith, c .before .before .before .before .before .pre .rises _ (size-node (c .before .before .before .loop .inv) (c .before .before .loop-test .taken)))
+
+element-copy-out-waits : tie.Need-element-copy-out-waits Inv-loop μ-loop
+element-copy-out-waits c = omega (
+  arith,
+  node-low (c .before .before .before .before .before .pre) (size-node (c .before .before .before .loop .inv)
+      (c .before .before .loop-test .taken)),
+)
+
+add-n : tie.Need-add-n Inv-loop μ-loop
+add-n c = omega (
+  arith,
+  node-low (c .before .before .before .before .before .before .pre) (size-node (c .before .before .before .before .loop .inv)
+      (c .before .before .before .loop-test .taken)),
+)
+
+mul-size : tie.Need-mul-size Inv-loop μ-loop
+mul-size c = omega (
+  arith,
+  end-most (c .before .before .before .before .before .before .before .pre) (size-node (c .before .before .before .before .before .loop .inv)
+      (c .before .before .before .before .loop-test .taken)),
+)
+
+add-size : tie.Need-add-size Inv-loop μ-loop
+add-size c =
+    let p = c .before .before .before .before .before .before .before .pre in
+    let g = c .before .before .before .before .before .loop .inv in
+    let l = size-node g (c .before .before .before .before .loop-test .taken) in
+    omega (arith, end-most p l, node-low p l, g .few)
+
+loop-again : tie.Need-loop-again Inv-loop μ-loop
+unfolding isMarked
+loop-again c = size-await (c .before .before .before .before .before .loop .inv) (c .before .before .before .before .loop-test .taken)
+    (c .before .before .before .before .before .before .before .pre) (c .if1 .taken)
+
+loop-again-2 : tie.Need-loop-again-2 Inv-loop μ-loop
+unfolding isMarked
+loop-again-2 c = size-busy (c .before .before .before .before .before .loop .inv) (c .before .before .before .before .loop-test .taken) (c .if1 .left)
+
+pub size-spec : {M : Type 1} → statement M
+size-spec =
+    tie.close (tie.spec Inv-loop μ-loop (λ c. omega (arith, c .before .pre .long)) (λ c. omega (arith, c .before .pre .few-nodes)) (λ c. size-start) add-arcs mul-arcs
+    element-copy-out-arcs cast-arcs mul-arcs-2 element-copy-out-arcs-2 cast-arcs-2 sub-arcs element-copy-out-waits add-n mul-size add-size (λ c. omega (
+      arith,
+      c .before .before .before .before .loop-test .taken,
+    )) loop-again (λ c. omega (arith, c .before .before .before .before .loop-test .taken)) loop-again-2 (λ c. size-end
+    (c .before .loop .inv) (c .loop-test .left)))

@@ -1,0 +1,12 @@
+-- `react::report::write_pair` meets its contract.
+use Rattle.encoding.proofs.Rows.{appended-more}
+use borrow.Author.Needs.{needs}
+use Rattle.react.proofs.report.write_pair.Statement.{statement}
+use Rattle.react.proofs.report.write_pair.Tie as tie
+
+returns : tie.Need-returns
+returns c = appended-more (c .before .before .before .before .before .before .put .ensures) (c .before .before .put2 .ensures)
+
+pub write-pair-spec : {M : Type 1} → statement M
+write-pair-spec =
+    tie.close (tie.spec (λ c κs. search needs) (λ c κs. search needs) (λ c. search needs) returns)

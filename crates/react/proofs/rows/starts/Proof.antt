@@ -1,0 +1,55 @@
+-- `react::rows::starts` meets its contract: the nodes before the counter have their starts.
+use Rattle.scan.proofs.Basics.{ℕ, _*_, _-_, _≤_, _<_, arith, _≡_, refl, _∙_, ap, length, getD, length-set}
+use Rattle.scan.proofs.Tabulate.{stored-more}
+use Rattle.table.specs.Bisection.{lowerBound}
+use Rattle.net.specs.Net.{transitionCount}
+use Rattle.graph.proofs.Starts.{arcs-start-is}
+use Rattle.graph.proofs.ArcCount.{arcs-within}
+use Rattle.react.proofs.ArcRows.{start-low, starts-all}
+use borrow.Author.Needs.{needs}
+use Rattle.react.proofs.rows.starts.Statement.{statement}
+use Rattle.react.proofs.rows.starts.Tie as tie
+
+abbrev Inv-loop : tie.InvT-loop
+Inv-loop net sheet nodes entries starts₀ n₀ starts n = (length starts ≡ 129) × (n ≤ nodes) × (nodes ≤ 128) × ((k : ℕ) → k < n → getD starts k 0 ≡ lowerBound sheet 2 entries (k
+    * transitionCount net))
+
+abbrev μ-loop : tie.MeasureT-loop
+μ-loop net sheet nodes entries starts₀ n₀ starts n = nodes - n
+
+cast-starts : tie.Need-cast-starts Inv-loop μ-loop
+cast-starts c =
+    let z = start-low (c .before .before .before .before .before .before .before .before .pre) _ (c .lower-bound .ensures) in
+    omega arith
+
+loop-again : tie.Need-loop-again Inv-loop μ-loop
+loop-again c =
+    let (a, b, d, f) = c .before .before .before .loop .inv in
+    let s = c .before .before .before .before .before .before .before .before .pre .sizes in
+    let k = c .before .before .loop-test .taken in (
+      simp length-set a,
+      omega arith,
+      d,
+      stored-more _ (c .before .before .before .loop .starts) _ _ f (omega arith) (c .lower-bound .ensures ∙ ap (lowerBound _ 2 _)
+          (c .before .arcs-start .ensures .0 ∙ arcs-start-is _ _ (omega arith) (s .some-transition) (s .few-transitions))),
+    )
+
+cast-starts-3 : tie.Need-cast-starts-3 Inv-loop μ-loop
+cast-starts-3 c =
+    let p = c .before .before .before .before .before .before .before .pre in
+    let z = arcs-within _ _ p in
+    let s = p .sizes in
+    omega (arith, c .arc-count .ensures)
+
+returns : tie.Need-returns Inv-loop μ-loop
+returns c =
+    let (a, b, d, f) = c .before .before .loop .inv in
+    starts-all (c .before .before .before .before .before .before .before .pre) (c .before .before .loop .starts) a (λ k l. f k (omega (arith, c .before .loop-test .left)))
+    (c .arc-count .ensures)
+
+pub starts-spec : {M : Type 1} → statement M
+starts-spec =
+    tie.close (tie.spec Inv-loop μ-loop (λ c. let s = c .before .before .before .pre .sizes in omega arith) (λ c. let s = c .before .before .before .before .pre .sizes in
+    omega arith) (λ c. search needs) (λ c. (refl, omega arith, c .before .before .before .before .pre .sizes .few-nodes, λ j l. absurd (omega arith))) (λ c κs. search needs)
+    (λ c κs. search needs) cast-starts (λ c. search needs) (λ c. search needs) (λ c. search needs) (λ c. search needs) (λ c. search needs) loop-again (λ c κs. search needs)
+    cast-starts-3 (λ c. search needs) (λ c. search needs) (λ c. search needs) returns)

@@ -1,0 +1,151 @@
+-- `react::times::time_of_node` and `time_of_arcs` meet their contracts; the measure is twice the nodes not visited, and 1 more at the arcs.
+use Rattle.scan.proofs.Basics.{ℕ, _+_, _*_, _-_, _<_, arith, set}
+use Rattle.reaction.specs.Memo.{unvisited}
+use Rattle.react.proofs.ArcRows.{rows, start-most, end-most}
+use Rattle.react.proofs.Recursion.{few, node-low, worked-await, kept-value, worked-kept, begin-falls, begins, closes, worked-fits}
+use Rattle.react.proofs.Recursion.{Going, goes-start, goes-fewer, goes-end, goes-entry, goes-first, within, shape, enters, sum-fits, goes-arc}
+use borrow.Author.Needs.{needs}
+use borrow.Fn.Kinds.{In}
+use borrow.Fn.PlainCycle.{Measures, is, falls, and}
+use Rattle.react.proofs.times.time_of_arcs.Reads as time-of-arcs
+use Rattle.react.proofs.times.time_of_arcs.Kinds as time-of-arcs-kinds
+use Rattle.react.proofs.times.+time_of_arcs+time_of_node.Lts-time_of_arcs as time-of-arcs-lts
+use Rattle.react.proofs.times.time_of_node.Reads as time-of-node
+use Rattle.react.proofs.times.time_of_node.Kinds as time-of-node-kinds
+use Rattle.react.proofs.times.+time_of_arcs+time_of_node.Lts-time_of_node as time-of-node-lts
+use Rattle.graph.proofs.arcs_start.Reads as arcs-start-reads
+use Rattle.net.proofs.transitions.Reads as transitions-reads
+use Rattle.react.proofs.times.start.Reads as start-reads
+use Rattle.react.proofs.rows.transition.Reads as transition-reads
+use Rattle.react.proofs.rows.leads_to.Reads as leads-to-reads
+use Rattle.react.proofs.durations.duration.Reads as duration-reads
+use Rattle.react.proofs.times.pick.Reads as pick-reads
+use Rattle.react.proofs.times.+time_of_arcs+time_of_node.{statement}
+use Rattle.react.proofs.times.+time_of_arcs+time_of_node.Tie.{close}
+
+abbrev μ-time-of-arcs : Measures 6 time-of-arcs-kinds.ps ℕ
+μ-time-of-arcs κs a = 2 * unvisited (a .1 .1 .1 .1 .1 .1 .0 .now) + 1
+
+abbrev μ-time-of-node : Measures 6 time-of-node-kinds.ps ℕ
+μ-time-of-node κs a = 2 * unvisited (a .1 .1 .1 .1 .1 .1 .0 .now)
+
+abbrev time-of-arcs-at : ℕ → In 6 time-of-arcs-kinds.ps
+time-of-arcs-at t =
+    and 6 time-of-arcs-kinds.ps (is 6 time-of-arcs-kinds.ps μ-time-of-arcs t) time-of-arcs.Pre
+
+abbrev time-of-arcs-below : ℕ → In 6 time-of-arcs-kinds.ps
+time-of-arcs-below t =
+    and
+    6
+    time-of-arcs-kinds.ps
+    (falls 6 time-of-arcs-kinds.ps _<_ μ-time-of-arcs t)
+    time-of-arcs.Pre
+
+abbrev time-of-node-at : ℕ → In 6 time-of-node-kinds.ps
+time-of-node-at t =
+    and 6 time-of-node-kinds.ps (is 6 time-of-node-kinds.ps μ-time-of-node t) time-of-node.Pre
+
+abbrev time-of-node-below : ℕ → In 6 time-of-node-kinds.ps
+time-of-node-below t =
+    and
+    6
+    time-of-node-kinds.ps
+    (falls 6 time-of-node-kinds.ps _<_ μ-time-of-node t)
+    time-of-node.Pre
+
+abbrev time-of-arcs-Inv-loop : time-of-arcs-lts.InvT-loop
+time-of-arcs-Inv-loop net sheet words starts awaits latest memo₀ n first transitions end time₀ i₀ memo time i =
+    Going net sheet words starts awaits latest n memo₀ first transitions memo time i
+
+abbrev time-of-arcs-μ-loop : time-of-arcs-lts.MeasureT-loop
+time-of-arcs-μ-loop net sheet words starts awaits latest memo₀ n first transitions end time₀ i₀ memo time i = end - i
+
+pub +time-of-arcs+time-of-node-spec : {M : Type 1} → statement M
++time-of-arcs+time-of-node-spec =
+    close μ-time-of-arcs μ-time-of-node (λ t. time-of-arcs-lts.spec (
+      arcs-start-reads.Asked,
+      arcs-start-reads.Learnt,
+      transitions-reads.Asked,
+      transitions-reads.Learnt,
+      start-reads.Asked,
+      start-reads.Learnt,
+      transition-reads.Asked,
+      transition-reads.Learnt,
+      leads-to-reads.Asked,
+      leads-to-reads.Learnt,
+      time-of-node-below t,
+      time-of-node.Post,
+      duration-reads.Asked,
+      duration-reads.Learnt,
+      pick-reads.Asked,
+      pick-reads.Learnt,
+    ) (time-of-arcs-at t) time-of-arcs.Post time-of-arcs-Inv-loop
+    time-of-arcs-μ-loop (λ c. let p = c .before .before .before .pre in omega (arith, p .1 .1 .node, few (p .1 .0))) (λ c κs. search needs) (λ c κs. search needs) (λ c. search
+    needs) (λ c. let p = c .before .before .before .before .before .pre in omega (arith, p .1 .1 .node, few (p .1 .0))) (λ c. let p =
+    c .before .before .before .before .before .pre in omega (arith, p .1 .1 .node, few (p .1 .0))) (λ c. let p = c .before .before .before .before .before .pre in omega
+    (arith, p .1 .1 .node, few (p .1 .0))) (λ c. let p = c .before .before .before .before .before .before .pre in omega (
+      arith,
+      end-most (rows (p .1 .0 .judged .mapped)) (p
+          .1 .1 .node),
+    )) (λ c κs. search needs) (λ c. let p = c .before .before .before .before .before .before .before .pre in omega (arith, p .1 .1 .node, few (p .1 .0))) (λ c.
+    let p = c .before .before .before .before .before .before .before .pre in omega (arith, p .1 .1 .node, few (p .1 .0))) (λ c. let p =
+    c .before .before .before .before .before .before .before .before .pre in omega (arith, start-most (rows (p .1 .0 .judged .mapped)) (p .1 .1 .node))) (λ c. let p =
+    c .before .before .before .before .before .before .before .before .pre in goes-start (p .1 .0) (p .1 .1) (c .before .before .before .before .arcs-start .ensures .0)
+    (c .before .before .before .transitions .ensures) (c .before .start .ensures)) (λ c κs. let g = c .before .loop .inv in let k = c .loop-test .taken in (
+      goes-entry g k,
+      goes-first g k,
+    )) (λ c κs. goes-entry (c .before .before .loop .inv) (c .before .loop-test .taken)) (λ c κs. let g = c .before .before .before .before .loop .inv in let h :
+    2 * unvisited (c .before .before .before .before .loop .memo) < t = omega (
+      arith,
+      c .before .before .before .before .before .before .before .before .before .before .before .before .before .pre .0,
+      goes-fewer g,
+    ) in (
+      h,
+      (
+        g .ready,
+        enters g
+            (c .before .before .before .loop-test .taken) (c .before .before .transition .ensures) (c .before .leads-to .ensures),
+      ),
+    )) (λ c κs. let g =
+    c .before .before .before .before .before .loop .inv in let k = c .before .before .before .before .loop-test .taken in (
+      shape g k,
+      within g k
+          (c .before .before .before .transition .ensures),
+    )) (λ c. omega (
+      arith,
+      sum-fits (c .before .before .before .before .before .before .loop .inv)
+          (c .before .before .before .before .before .loop-test .taken) (c .before .before .before .before .transition .ensures) (c .before .before .before .leads-to .ensures)
+          (c .before .time-of-node .ensures) (c .duration .ensures),
+    )) (λ c κs. search needs) (λ c. let p =
+    c .before .before .before .before .before .before .before .before .before .before .before .before .before .before .before .before .pre in omega (
+      arith,
+      c .before .before .before .before .before .before .loop-test .taken,
+      end-most (rows (p .1 .0 .judged .mapped)) (p .1 .1 .node),
+    )) (λ c. omega (
+      arith,
+      c .before .before .before .before .before .before .loop-test .taken,
+    )) (λ c. goes-arc (c .before .before .before .before .before .before .before .loop .inv)
+    (c .before .before .before .before .before .before .loop-test .taken) (c .before .before .before .before .before .transition .ensures)
+    (c .before .before .before .before .leads-to .ensures) (c .before .before .time-of-node .ensures) (c .before .duration .ensures) (c .pick .ensures)) (λ c. goes-end
+    (c .before .loop .inv) (c .loop-test .left))) λ t. time-of-node-lts.spec (time-of-arcs-below t, time-of-arcs.Post) (time-of-node-at t) time-of-node.Post (λ c. let p =
+    c .before .before .before .pre in omega (arith, node-low (p .1 .0) (p .1 .1))) (λ c. let p = c .before .before .before .before .before .pre in worked-await (p .1 .0) (p .1
+    .1) (c .if1 .taken)) (λ c. let p = c .before .before .before .before .before .pre in omega (arith, node-low (p .1 .0) (p .1 .1))) (λ c. let p =
+    c .before .before .before .before .before .pre in omega (arith, node-low (p .1 .0) (p .1 .1))) (λ c. let p = c .before .before .before .before .before .before .before .pre
+    in omega (arith, kept-value (p .1 .0) (p .1 .1) (c .if2 .taken))) (λ c. let p = c .before .before .before .before .before .before .before .pre in worked-kept (p .1 .0) (p
+    .1 .1) (c .if2 .taken)) (λ c. let p = c .before .before .before .before .before .before .before .pre in omega (arith, node-low (p .1 .0) (p .1 .1))) (λ c. let p =
+    c .before .before .before .before .before .before .before .pre in omega (arith, node-low (p .1 .0) (p .1 .1))) (λ c κs. let p =
+    c .before .before .before .before .before .before .before .before .pre .1 in let z = c .before .if2 .left in let h : 2 * unvisited (set
+    (c .before .before .before .before .before .before .before .before .args .memo .now) (c .before .before .before .before .before .before .before .before .args .n) 1) + 1 <
+    t = omega (arith, c .before .before .before .before .before .before .before .before .pre .0, begin-falls (p .0) (p .1) (omega (arith, z))) in (
+      h,
+      (
+        p .0,
+        begins (p .0) (p
+            .1) (omega (arith, z)) (omega (arith, c .before .before .before .if1 .left)),
+      ),
+    )) (λ c. let p =
+    c .before .before .before .before .before .before .before .before .before .pre in omega (arith, worked-fits (p .1 .0) (c .time-of-arcs .ensures) (p .1 .1 .node))) (λ c.
+    let p = c .before .before .before .before .before .before .before .before .before .pre in omega (arith, node-low (p .1 .0) (p .1 .1))) (λ c. let p =
+    c .before .before .before .before .before .before .before .before .before .pre in omega (arith, node-low (p .1 .0) (p .1 .1))) (λ c. let p =
+    c .before .before .before .before .before .before .before .before .before .pre in closes (p .1 .0) (p .1 .1) (omega (arith, c .before .before .if2 .left))
+    (c .time-of-arcs .ensures))

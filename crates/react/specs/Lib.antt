@@ -1,0 +1,5 @@
+pub mod Rows
+pub mod Loops
+pub mod Times
+pub mod Report
+pub mod Checked
