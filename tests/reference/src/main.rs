@@ -1,6 +1,6 @@
 //! The reference: the calls and the program in ordinary Rust, and comparisons with it.
 //!
-//! `selftest` and `program` end with the line `N passed, M failed`; the exit status is 0 only where M is
+//! `selftest`, `smallest` and `program` end with the line `N passed, M failed`; the exit status is 0 only where M is
 //! 0, and elsewhere where nothing went wrong.
 
 mod arbitration;
@@ -17,6 +17,7 @@ mod panel;
 mod program;
 mod second;
 mod selftest;
+mod smallest;
 mod sorts;
 mod tally;
 mod text;
@@ -34,6 +35,7 @@ use tally::Tally;
 use text::{Case, Numbers};
 
 const USAGE: &str = "usage: reference selftest
+       reference smallest
        reference program CHECKER SEED COUNT
        reference lay SEED INDEX DIR
        reference file DIR
@@ -77,6 +79,7 @@ fn main() -> ExitCode {
             tally.check(false, || USAGE.to_string());
         }
         ["selftest"] => selftest::run(&mut tally),
+        ["smallest"] => smallest::check(&mut tally),
         ["program", checker, seed, count] => match (seed.parse(), count.parse()) {
             (Ok(seed), Ok(count)) => {
                 let path = Path::new(checker);
