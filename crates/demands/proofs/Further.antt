@@ -37,14 +37,14 @@ use Rattle.schedule.proofs.Walkers.{walker-out, few-places, fresh-passes, fresh
 use Rattle.schedule.proofs.Following.{run-leads, run-allowed, run-ends, end-length}
 use Rattle.schedule.proofs.Folded.{Kept, chain-along, along-chain}
 use Rattle.schedule.proofs.Done.{fire-law, run-law}
-use Rattle.minimal.specs.Minimal.{minimalForm, Fewest}
+use Rattle.minimal.specs.Minimal.{minimalForm}
 use Rattle.encoding.proofs.Encoded.{encoded-passes}
 use Rattle.encoding.proofs.Decoded.{decode-encode}
 use Rattle.encoding.proofs.Recoded.{encode-decode, decoded-encodable}
-use Rattle.minimal.proofs.Minimal.{form-no-longer, form-twice, form-fewest}
+use Rattle.minimal.proofs.Minimal.{form-no-longer, form-twice}
 use Rattle.demands.specs.Terms.{said}
 use Rattle.demands.specs.Demand3.{made}
-use Rattle.demands.specs.Further.{FreshPasses, PathsShorten, ChoicePartition, PublishedChoiceSets, NeverStuck, OneEncoding, FormNoLonger, FormTwice, FormFewest}
+use Rattle.demands.specs.Further.{FreshPasses, PathsShorten, ChoicePartition, PublishedChoiceSets, NeverStuck, OneEncoding, FormNoLonger, FormTwice}
 use Rattle.demands.specs.Further.{Firings, none-fired, one-fired, Folds, RunFolds}
 use Rattle.demands.proofs.Calls.{call-zero}
 use Rattle.demands.proofs.Checked.{accepted-reply, some-scratch, enough-scratch}
@@ -179,7 +179,3 @@ form-is-no-longer net sheet h c = rw (size-form net sheet c) (form-no-longer net
 pub form-of-form : FormTwice
 form-of-form net sheet h c d =
     made-form net (made c) d ∙ ap (minimalForm net) (made-form net sheet c) ∙ form-twice net sheet (accepted-reply net sheet h) ∙ sym (made-form net sheet c)
-
-pub form-has-fewest : FormFewest
-form-has-fewest net sheet other h k s c =
-    subst (λ (form : List ℕ). Fewest (petriNet net) form other) (sym (made-form net sheet c)) (form-fewest net sheet other (accepted-reply net sheet h) (accepted-reply net other k) s)

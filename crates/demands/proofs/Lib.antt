@@ -7,6 +7,8 @@ pub mod Demand2
 pub mod Demand3
 -- what is promised beside them, request by request
 pub mod Further
+pub mod Renumbered
+pub mod Shortest
 pub mod BesideRun
 pub mod Replay
 pub mod Entries

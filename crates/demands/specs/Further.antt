@@ -5,7 +5,7 @@ use mathlib.Core.Logic.{_↔_}
 use mathlib.Core.List.{List, [], _∷_}
 use mathlib.Core.Bool.{Bool, true}
 use lib.ListN.{length, getD}
-use Rattle.automaton.specs.Automaton.{Automaton, allows, SameLists}
+use Rattle.automaton.specs.Automaton.{Automaton, allows}
 use Rattle.refusal.specs.Checks.{AllPass}
 use Rattle.refusal.specs.declared.Verdict.{Verdict}
 use Rattle.net.specs.Checks.{IsNet}
@@ -24,7 +24,6 @@ use Rattle.schedule.specs.declared.Walker.{Walker}
 use Rattle.schedule.specs.declared.FireAnswer.the-variants.{Done}
 use Rattle.schedule.specs.declared.RunAnswer.{RunAnswer}
 use Rattle.encoding.specs.Encoding.{encode, Encodable}
-use Rattle.minimal.specs.Minimal.{Fewest}
 use Rattle.demands.specs.Terms.{said, Accepted}
 use Rattle.demands.specs.Demand3.{Form, size, made}
 
@@ -112,8 +111,3 @@ FormNoLonger = (net sheet : List ℕ) → Accepted net sheet → (c : Form net s
 -- the minimal form of a minimal form is itself
 abbrev pub FormTwice : Type 0
 FormTwice = (net sheet : List ℕ) → Accepted net sheet → (c : Form net sheet) (d : Form net (made c)) → made d ≡ made c
-
--- no accepted schedule that allows the same lists has fewer nodes; one with as many differs in the numbers of its nodes alone
-abbrev pub FormFewest : Type 0
-FormFewest = (net sheet other : List ℕ) → Accepted net sheet → Accepted net other → SameLists (said net sheet) (said net other) 0 0
-    → (c : Form net sheet) → Fewest (petriNet net) (made c) other

@@ -3,6 +3,7 @@ pub mod Demand1
 pub mod Demand2
 pub mod Demand3
 pub mod Further
+pub mod Shortest
 pub mod Replay
 pub mod Entries
 pub mod Mend
