@@ -306,7 +306,18 @@ fn among_several<'a>(
     other: &'a mut [u32],
     scratch: &'a mut [u32],
 ) {
-    several_call(operation, net, number, first, second, third, fourth, out, other, scratch);
+    several_call(
+        operation,
+        net,
+        number,
+        first,
+        second,
+        third,
+        fourth,
+        out,
+        other,
+        scratch,
+    );
     left(shape, out, other, scratch);
 }
 
@@ -331,9 +342,14 @@ fn several<'a>(
     let mut other = [9u32; 9000];
     let mut scratch = [7u32; 9000];
     among_several(
-        operation, shape,
+        operation,
+        shape,
         net,
-        number, first, second, third, fourth, 
+        number,
+        first,
+        second,
+        third,
+        fourth,
         &mut out[..outs],
         &mut other[..seconds],
         &mut scratch[..scratches],
@@ -342,12 +358,10 @@ fn several<'a>(
 
 // The line of a case whose parts lie one after the other.
 pub(crate) fn line(operation: u32, shape: Shape, all: &[u32], marks: Marks, lent: Buffers)
-    requires {
-        ⌜
-            (marks .net ≤ marks .numbers) × (marks .numbers ≤ marks .first) × (marks .first ≤ marks .second) × (marks .second ≤ marks .third)
-            × (marks .third ≤ marks .fourth) × (marks .fourth ≤ marks .words) × (marks .words ≤ length (now all))
-        ⌝
-    }
+    requires { ⌜
+        (marks .net ≤ marks .numbers) × (marks .numbers ≤ marks .first) × (marks .first ≤ marks .second) × (marks .second ≤ marks .third)
+        × (marks .third ≤ marks .fourth) × (marks .fourth ≤ marks .words) × (marks .words ≤ length (now all))
+        ⌝ }
     requires { ⌜ (lent .out ≤ 9000) × (lent .second ≤ 9000) × (lent .scratch ≤ 9000) ⌝ }
 {
     let net = marks.net;
