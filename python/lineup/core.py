@@ -12,7 +12,7 @@ from lineup.words import LIST_WORDS, LOG_WORDS, NET_WORDS, REPORT_WORDS, SHEET_W
 SCRATCH, OUT_BLANK = 8_192, 9  # the words of scratch lent, and what an output buffer holds before a call
 KINDS = ("none", "entry", "place", "node", "record")
 ANSWER = re.compile(
-    rf"answer (?P<number>\d+) (?P<kind>{'|'.join(KINDS)}) (?P<index>\d+)(?P<own>(?: (?:nodes|arcs|awaits|fired|node|length|taken|put|entry|list) \d+)*)"
+    rf"answer (?P<number>\d+) (?P<kind>{'|'.join(KINDS)}) (?P<index>\d+)(?P<own>(?: (?:nodes|arcs|awaits|fired|node|length|taken|put|entry|list|same|sheet) \d+)*)"
     r"(?P<outs>(?: out(?: \d+)* rest \d+)*)(?: scratch [\d ]+)?"
 )
 OUT = re.compile(r" out((?: \d+)*) rest (\d+)")
@@ -20,7 +20,8 @@ OUT = re.compile(r" out((?: \d+)*) rest (\d+)")
 
 class Answer:
     """A line of the core: number, kind and index of the position, the call's own numbers by name, and what each output buffer holds, of which
-    `out` is the first. `line` and, with the buffers, `whole` are what is quoted of it."""
+    `out` is the first; `written` are the words that a call wrote there, by the lengths that it answers. `line` and, with the buffers, `whole` are
+    what is quoted of it."""
 
     def __init__(self, line):
         found = ANSWER.fullmatch(line)
@@ -28,9 +29,11 @@ class Answer:
             raise Trouble(f"the core's answer cannot be read: {quoted(line)}")
         self.number, self.kind, self.index = int(found["number"]), found["kind"], int(found["index"])
         own = found["own"].split()
-        self.own = dict(zip(own[::2], map(int, own[1::2])))
+        own = list(zip(own[::2], map(int, own[1::2])))
+        self.own = dict(own)
         self.outs = [[int(word) for word in out.split()] + [OUT_BLANK] * int(rest) for out, rest in OUT.findall(found["outs"])]
         self.out = self.outs[0] if self.outs else []
+        self.written = [out[:length] for out, length in zip(self.outs, (length for name, length in own if name in ("length", "list")))]
         self.whole = line.split(" scratch ")[0]
         self.line = self.whole.split(" out ")[0]
 
@@ -45,9 +48,9 @@ def told(words):
     return f"{len(words)}: {' '.join(map(str, words))}"
 
 
-def pair(net, sheet):
+def pair(net, *sheets):
     """Of longer words only the first are handed on, which changes no answer."""
-    return f"net {told(net[:NET_WORDS])} | sheet {told(sheet[:SHEET_WORDS])}"
+    return f"net {told(net[:NET_WORDS])}" + "".join(f" | sheet {told(sheet[:SHEET_WORDS])}" for sheet in sheets)
 
 
 def net_check(net):
@@ -77,6 +80,10 @@ def short(net, sheet):
 
 def mend(net, sheet):
     return f"10 {pair(net, sheet)} | out {SHEET_WORDS - 1} | list {LIST_WORDS} | scratch {SCRATCH}"
+
+
+def compare(net, one, other):
+    return f"14 {pair(net, one, other)} | out {SHEET_WORDS - 1} | out {SHEET_WORDS - 1} | scratch {SCRATCH}"
 
 
 def times(net, sheet, durations):

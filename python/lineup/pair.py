@@ -25,6 +25,10 @@ class Pair:
         net, sheet = (s.data if s and s.tail else packed(s.words) if s else b"" for s in (self.net, self.sheet))
         return [core.files(net, sheet)]
 
+    def fault(self):
+        """The first fault, found beside the core."""
+        return explain.again(self.net, self.sheet)
+
     def refusal(self, answer, record=None, log=None, judged=faults.sheet_fault, times=None):
         """The report of a refusal by the core."""
         likely = causes.likely(self.net, self.sheet) if answer.number in OF_NET | OF_WORDS else []
@@ -54,11 +58,14 @@ class Pair:
             report.say(f"  the last arrow: {place(self.sheet.path, *(self.sheet.locate(('arc', *last)) or ()))}entry {seen}")
 
 
-def ask_each(pairs, call):
-    """The core's answers to one call on several pairs."""
-    if any(both.tail() for both in pairs):
-        return [both.ask(call)[0] for both in pairs]
-    return core.ask(*(call(*both.words()) for both in pairs))
+def at_fault(answer, pairs):
+    """Of pairs with one net, that whose sheet the core names as refused: the first that is at fault here, too. Of a net it names none."""
+    named, seen = answer.own["sheet"], 0
+    if answer.number not in OF_NET:
+        seen = next((i for i, both in enumerate(pairs, 1) if both.fault()), 0)
+    if named != seen:
+        raise Disagreement(f"the core answers {answer.line!r}, and the explanation finds a fault in {f'sheet {seen}' if seen else 'no sheet'}")
+    return pairs[max(named - 1, 0)]
 
 
 def readable(net_path, sheet_path):

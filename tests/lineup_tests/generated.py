@@ -23,10 +23,12 @@ def lines(command, seed, count):
     done = subprocess.run([REFERENCE, command, str(seed), str(count)], capture_output=True, text=True, check=True)
     for line in done.stdout.splitlines():
         operation, _, rest = line.partition(" ")
-        parts = {}
+        parts = {"sheets": []}
         for part in rest.split(" | "):
             name, _, told = part.partition(" ")
             parts[name] = [int(word) for word in told.rpartition(":")[2].split()] if ":" in told else told
+            if name == "sheet":
+                parts["sheets"].append(parts[name])
         yield str(int(operation) % 100), parts
 
 
@@ -70,6 +72,14 @@ def stale(seed, count):
         if operation == "10":
             net = net_source(parts["net"])
             yield net, sheet_source(parts["sheet"], net)
+
+
+def compared(seed, count):
+    """Two sheets of one net, of which one or both may be damaged: (net, one, other)."""
+    for operation, parts in lines("cases", seed, count):
+        if operation == "14":
+            net = net_source(parts["net"])
+            yield net, *(sheet_source(sheet, net, f"generated/{name}.txt") for sheet, name in zip(parts["sheets"], ("one", "other")))
 
 
 def log_source(found, path="generated/log.txt"):

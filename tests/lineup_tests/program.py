@@ -71,7 +71,12 @@ def statuses(tally, folder):
         (1, "spread x.net torn.sheet", ["[x] 10: the first node", "[ ] 11, 12: each node", "torn.sheet:3:1: refused, 11 dead end", "core: answer 11 node 1"]),
         (1, "spread back.net full.sheet", ["\n    b   .\n", "[x] 13: ", "[ ] 14, 27, 15: each arrow", "refused, 27 over capacity", "core: answer 27 entry 1"]),
         (1, "spread over.net x.sheet", ["over.net:1:13: refused, 26 overfull start", "core: answer 26 place 0"]),
-        (0, "diff x.net x.sheet longer.sheet", ["same: ", "core: x.sheet: answer 0 none 0 length 8"]),
+        (0, "compare x.net x.sheet longer.sheet", ["same: x.sheet and longer.sheet allow the same firings", "core: answer 0 none 0 length 8 length 8 same 1 sheet 0"]),
+        (1, "compare x.net x.sheet greedy.sheet", ["different: x.sheet and greedy.sheet do not", "core: answer 0 none 0 length 8 length 16 same 0 sheet 0"]),
+        (2, "compare x.net x.sheet torn.sheet", ["torn.sheet:3:1: refused, 11 dead end; it cannot be compared", "core: answer 11 node 1 length 0 length 0 same 0 sheet 2"]),
+        (2, "compare x.net torn.sheet torn.sheet", ["refused, 11 dead end; it cannot be compared", "same 0 sheet 1"]),
+        (2, "compare over.net x.sheet torn.sheet", ["over.net:1:13: refused, 26 overfull start; it cannot be compared", "same 0 sheet 0"]),
+        (0, "diff x.net x.sheet longer.sheet", ["same: ", "core: answer 0 none 0 length 8 length 8 same 1"]),
         (1, "diff x.net x.sheet greedy.sheet", ["different: after 1 firing", "only x.sheet allows: s, u", "only greedy.sheet allows: s, s", "answer 20 record 1"]),
         (1, "check shared.net both.sheet", ["t, u take the same (a), but on a place of theirs draws w (a*2)", "each of them stands alone", "core: answer 12 node 1"]),
         (0, "check shared.net x.sheet", ["accepted", "core: answer 0 none 0 nodes 2 arcs 2 awaits 1"]),
@@ -165,6 +170,8 @@ def as_json(tally, folder):
         "check x.net torn.sheet": {"accepted": False},
         "spread capped.net x.sheet": {"accepted": True, "starts": {}, "capacities": {"a": 1}, "taken": {"s": {}, "u": {"a": 1}}, "change": {"s": {"a": 1}, "u": {"a": -1}}, "grid": {"n": {"arrows": {"s": "m"}, "holds": {}}, "m": {"arrows": {"u": "n"}, "holds": {"a": 1}}}},
         "spread x.net torn.sheet": {"accepted": False},
+        "compare x.net x.sheet longer.sheet": {"same": True, "nodes": [2, 2], "words": [[2, 3, 0, 3, 5, 1, 0, 1]] * 2},
+        "compare x.net x.sheet greedy.sheet": {"same": False, "nodes": [2, 4]},
         "diff x.net x.sheet longer.sheet": {"same": True},
         "diff x.net x.sheet greedy.sheet": {"same": False, "before": ["s"]},
         "short x.net longer.sheet": {"nodes": 2, "merged": [["n", "o"], ["m", "p"]], "words": [2, 3, 0, 3, 5, 1, 0, 1]},
@@ -264,7 +271,9 @@ def mixed(tally, folder, net, sheet):
     tally.holds("a folder's net and a text sheet", lineup(folder, "check", "mixed", "numbered.sheet")[1], "accepted")
     tally.holds("a folder without names is matched by its words", lineup(folder, "diff", "x.net", "x.sheet", "mixed")[1], "same: ")
     save(folder, "tail.bin", sheet + b"\1")
-    tally.same("a tail in diff", lineup(folder, "diff", "x.net", "x.sheet", "tail.bin")[0], 2)
+    for command in ("compare", "diff"):
+        tally.holds(f"a tail in {command}", lineup(folder, command, "x.net", "x.sheet", "tail.bin")[1], "tail.bin: refused, 6 ragged sheet; it cannot be compared")
+        tally.holds(f"a tail in {command}, after a refusal", lineup(folder, command, "x.net", "torn.sheet", "tail.bin")[1], "torn.sheet:3:1: refused, 11")
     save(folder, "unnamed.words", "# no suffix tells\n1 2 2 1 2 1 1\n")
     tally.holds("words told by what they are", lineup(folder, "check", "unnamed.words")[1], "accepted, as a net")
 
@@ -324,6 +333,11 @@ def disagreements(tally, folder):
             ("mend x.net arrows.sheet", "answer 0 none 0 length 8 list 3", "answer 25 none 0 length 0 list 0"),
             ("diff x.net x.sheet greedy.sheet", "answer 20", "answer 0"),
             ("diff x.net torn.sheet x.sheet", "answer 11 node 1 length 0", "answer 0 none 0 length 0"),
+            ("compare x.net x.sheet greedy.sheet", "same 0", "same 1"),
+            ("compare x.net x.sheet longer.sheet", "same 1", "same 0"),
+            ("compare x.net x.sheet torn.sheet", "sheet 2", "sheet 1"),
+            ("compare x.net torn.sheet torn.sheet", "sheet 1", "sheet 2"),
+            ("compare over.net x.sheet torn.sheet", "sheet 0", "sheet 1"),
             ("short x.net torn.sheet", "answer 11 node 1 length 0", "answer 0 none 0 length 0"),
             ("diff x.net x.sheet longer.sheet", "0 3 5 1 0 1", "0 3 5 1 0 2"),
             ("short x.net longer.sheet", "0 3 5 1 0 1 ", "0 3 5 0 1 1 "),

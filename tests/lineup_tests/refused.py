@@ -109,7 +109,7 @@ def applied(tally, what, net, sheet, mended, changes):
     tally.same(f"{what}: applied", [{p: count for p, count in held.items() if count} for held in counts], mended.counts)
     both = words.net_words(net), words.sheet_words(net, mended)
     checked, again = core.ask(core.check(*both), core.mend(*both))
-    tally.same(f"{what}: accepted, and mended to itself", (checked.number, mend.results(again)), (0, [both[1], [0]]))
+    tally.same(f"{what}: accepted, and mended to itself", (checked.number, again.written), (0, [both[1], [0]]))
 
 
 def nets_alone(tally, cases):

@@ -1,57 +1,28 @@
 """lineup diff: whether two sheets of a net allow the same firings, and if not, a shortest list that only one allows."""
-from lineup import core, explain, inputs, pair
-from lineup.compare import parting
+from lineup import core
+from lineup.commands import compare
 from lineup.explain import Disagreement
-from lineup.report import REFUSED, TROUBLE, Report, plural
+from lineup.report import REFUSED, Report, plural
 from lineup.visible import inline
 
-SUMMARY = "tell whether two sheets allow the same firings, by the core's short forms, or where they part"
+SUMMARY = "tell whether two sheets allow the same firings, by the core's comparison, or where they part"
 EXAMPLE = "lineup diff samples/jetty/jetty.net samples/jetty/may.sheet samples/jetty/june.sheet"
 
-
-def arguments(parser):
-    parser.add_argument("net", metavar="NET", help="the net of both sheets")
-    parser.add_argument("one", metavar="A", help="a sheet as text or words, or a folder with its own net and names")
-    parser.add_argument("other", metavar="B", help="another")
+arguments = compare.arguments
 
 
 def main(args):
-    net = inputs.net(args.net)
-    return compared([pair.Pair(net, inputs.sheet(path, net)) for path in (args.one, args.other)])
+    return compared(compare.of_one_net(args))
 
 
 def compared(pairs):
     """The report on two sheets of one net."""
-    forms = pair.ask_each(pairs, core.short)
-    for both, form in zip(pairs, forms):
-        if form.number:
-            return not_compared(both, form)
-        explain.agree(form, both.net, both.sheet)
-    found = parting(*(both.sheet.model for both in pairs))
-    equal = written(forms[0]) == written(forms[1])
-    if equal != (found is None):
-        raise Disagreement(f"the short forms are {'equal' if equal else 'unlike'}, and the firings that tell the sheets apart are {found}")
-    return different(pairs, *found) if found else same(pairs, forms)
-
-
-def written(form):
-    return form.out[: form.own["length"]]
-
-
-def not_compared(both, form):
-    """A refused sheet allows nothing that could be compared. The status is not that of a difference."""
-    report = both.refusal(form)
-    report.status = TROUBLE
-    report.lines[0] += "; it cannot be compared"
-    return report
-
-
-def same(pairs, forms):
-    report = Report(same=True)
-    report.say(f"same: {inline(pairs[0].sheet.path)} and {inline(pairs[1].sheet.path)} allow the same firings; their short forms are equal")
-    for both, form in zip(pairs, forms):
-        report.quote(form, of=f"{inline(both.sheet.path)}: ")
-    return report
+    refusal, answer, found = compare.judged(pairs)
+    if refusal:
+        return refusal
+    if found:
+        return different(pairs, *found)
+    return Report(same=True).say(compare.same(pairs)).quote(answer)
 
 
 def different(pairs, firings, nodes):

@@ -26,7 +26,7 @@ def main(args):
     net, sheet = both.net.model, both.sheet.model
     mended, changes = held_to(net, sheet, answer)
     report = Report(accepted=True, nodes=len(sheet.nodes), changes=[named(net, sheet, change) for change in changes])
-    report.data.update(zip(("words", "list"), results(answer)), sheet=sheetfile.write(net, mended))
+    report.data.update(zip(("words", "list"), answer.written), sheet=sheetfile.write(net, mended))
     remarks = [f"{inline(both.sheet.path)}: {summary(sheet, changes)}", *told(both, mended, changes), *zeros(net, sheet, mended)]
     report.quote(answer)
     if args.output:
@@ -43,14 +43,9 @@ def held_to(net, sheet, answer):
     mended = Sheet(sheet.name)
     mended.nodes, mended.arcs, mended.counts = sheet.nodes, sheet.arcs, mending.worked_out(net, sheet)[0]
     changes = mending.changed(net, sheet, mended.counts)
-    if results(answer) != [words.sheet_words(net, mended), words.change_words(net, changes)]:
+    if answer.written != [words.sheet_words(net, mended), words.change_words(net, changes)]:
         raise Disagreement(f"the core answers {answer.whole!r}, and firing from the first node gives other counts")
     return mended, changes
-
-
-def results(answer):
-    """The words that the core wrote: the mended sheet, and the list of what changed."""
-    return [out[: answer.own[length]] for out, length in zip(answer.outs, ("length", "list"))]
 
 
 def summary(sheet, changes):

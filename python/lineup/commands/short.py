@@ -26,7 +26,7 @@ def main(args):
     remarks = [f"the short form of {inline(both.sheet.path)}: {plural(len(sheet.nodes), 'node')} became {len(form.nodes)}"]
     remarks += [f"{', '.join(sheet.nodes[n] for n in nodes)} became {form.nodes[c]}" for c, nodes in enumerate(classes) if len(nodes) > 1]
     report = Report(accepted=True, nodes=len(form.nodes), merged=[[sheet.nodes[n] for n in nodes] for nodes in classes])
-    report.data.update(words=answer.out[: answer.own["length"]], sheet=sheetfile.write(net, form))
+    report.data.update(words=answer.written[0], sheet=sheetfile.write(net, form))
     report.quote(answer)
     if args.output:
         files.write(args.output, sheetfile.write(net, form))
@@ -39,7 +39,7 @@ def main(args):
 
 def named(net, sheet, answer):
     """The short form that the core wrote, each node with the name of the first that became it, and the nodes merged."""
-    found = answer.out[: answer.own["length"]]
+    found = answer.written[0]
     form = words.sheet_of(found, net, names.Names().of("node", found[0]))
     classes = merged(sheet, form)
     if classes is None:
