@@ -23,6 +23,10 @@ def torn_choice(n, net, source):
     first = offered[0]
     whole = net.choice_set(first)
     lines = [f"node {sheet.nodes[n]} offers {net.listed(offered)}"]
+    others = [t for t in offered if t in net.removed]
+    if others:
+        lines.append(f"{net.listed(others)}: that is for another sheet, which this one does not know of")
+        return at_node(source, n), lines, {"nodes": [n]}
     lacking = [t for t in whole if t not in offered]
     if lacking:
         takes = net.held(net.taken[first])

@@ -135,13 +135,18 @@ def sheet_over(path, net_source):
     return source
 
 
-def log(path, net_source, sheet_source):
-    """The log of a file or a folder, over a net and a sheet."""
-    source = opened(path, "log", words.LOG_WORDS)
-    if source.form == "PNML":
-        raise Trouble("PNML is for nets, and a log is expected", source.path)
+def whole(source):
+    """A source whose bytes are whole words, for calls that the file program does not have."""
     if source.tail:
         raise Trouble(f"{len(source.data)} bytes are no whole words of four bytes: {source.tail} over", source.path)
+    return source
+
+
+def log(path, net_source, sheet_source):
+    """The log of a file or a folder, over a net and a sheet."""
+    source = whole(opened(path, "log", words.LOG_WORDS))
+    if source.form == "PNML":
+        raise Trouble("PNML is for nets, and a log is expected", source.path)
     if not source.is_words() and net_source.model and sheet_source.model:
         source.model = logfile.read(source.path, files.text(source.path, source.data), net_source.model, sheet_source.model)
         source.words = words.log_words(source.model)

@@ -1,4 +1,5 @@
 """A place/transition net with names: what each transition takes and puts, and what each place starts with and can hold."""
+import copy
 
 
 class Net:
@@ -10,15 +11,21 @@ class Net:
         self.name = name
         self.places, self.transitions = [], []
         self.taken, self.put, self.start, self.capacity = [], [], {}, {}
-        self.where = {}
+        self.where, self.removed = {}, frozenset()
+
+    def only(self, source):
+        """The net for a sheet of one source: the others are removed, but for their numbers. They are no sources and in no choice set."""
+        net = copy.copy(self)
+        net.removed = frozenset(self.sources()) - {source}
+        return net
 
     def sources(self):
         """The transitions that take nothing."""
-        return [t for t, taken in enumerate(self.taken) if not taken]
+        return [t for t, taken in enumerate(self.taken) if not taken and t not in self.removed]
 
     def alike(self, t):
         """The transitions that take the same as t."""
-        return [u for u, taken in enumerate(self.taken) if taken == self.taken[t]]
+        return [u for u, taken in enumerate(self.taken) if taken == self.taken[t] and u not in self.removed]
 
     def rivals(self, t):
         """The transitions that draw on a place which t draws on, and take otherwise."""

@@ -9,8 +9,8 @@ from lineup.words import SHEET_HEAD, sheet_key
 
 
 class Pair:
-    def __init__(self, net, sheet):
-        self.net, self.sheet = net, sheet
+    def __init__(self, net, sheet, judged=faults.sheet_fault):
+        self.net, self.sheet, self.judged = net, sheet, judged  # `judged` finds what is asked of the sheet
 
     def words(self):
         return [source.words for source in (self.net, self.sheet) if source]
@@ -27,12 +27,12 @@ class Pair:
 
     def fault(self):
         """The first fault, found beside the core."""
-        return explain.again(self.net, self.sheet)
+        return explain.again(self.net, self.sheet, judged=self.judged)
 
-    def refusal(self, answer, record=None, log=None, judged=faults.sheet_fault, times=None):
+    def refusal(self, answer, record=None, log=None, judged=None, times=None):
         """The report of a refusal by the core."""
         likely = causes.likely(self.net, self.sheet) if answer.number in OF_NET | OF_WORDS else []
-        return refused(explain.explain(answer, self.net, self.sheet, record, log, judged, times), answer, likely)
+        return refused(explain.explain(answer, self.net, self.sheet, record, log, judged or self.judged, times), answer, likely)
 
     def agree(self, checked, bounds):
         """Holds the numbers of an accepted sheet to what the sheet says."""

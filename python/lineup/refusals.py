@@ -143,6 +143,21 @@ REFUSALS = {
         "A transition is planned where a place has no room for what it puts, before anything is taken from it.",
         "Plan the transition after one that drains the place, or correct its capacity.",
     ),
+    28: Refusal(
+        "number of sheets",
+        "There are more or fewer sheets to compose than the net has sources, or more than four.",
+        "Give one sheet for each source, in any order. A net with more than four sources has to be planned in one sheet.",
+    ),
+    29: Refusal(
+        "too many",
+        "The sheets are too large together: their numbers of nodes multiply to more than 128, or a count would be above 1,000,000,000, or there would be more than 4,096 arcs and counts.",
+        "Merge nodes of a sheet that hold the same and go on alike, or plan for fewer parcels at once.",
+    ),
+    30: Refusal(
+        "dependent",
+        "A sheet relies on what another one keeps changed while it waits: a transition is planned where a place then holds less than it takes, or has no room for what it puts.",
+        "Let the other sheet give back what it took, or clear what it put, before it waits; or plan both sources in one sheet.",
+    ),
     32: Refusal(
         "bad duration",
         "The durations are not two for each transition of the net, or a transition's earliest is above its latest, or one of them is above 1,000,000 seconds.",

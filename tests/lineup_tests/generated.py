@@ -82,6 +82,14 @@ def compared(seed, count):
             yield net, *(sheet_source(sheet, net, f"generated/{name}.txt") for sheet, name in zip(parts["sheets"], ("one", "other")))
 
 
+def tasks(seed, count):
+    """Sheets to compose, as many as the number says: (net, sheets)."""
+    for operation, parts in lines("cases", seed, count):
+        if operation == "11":
+            net, number = net_source(parts["net"]), min(int(parts["number"]), 5)
+            yield net, [sheet_source(sheet, net, f"generated/{i}.txt") for i, sheet in enumerate([*parts["sheets"], []][:number])]
+
+
 def log_source(found, path="generated/log.txt"):
     source = inputs.Source(path, "decimal words")
     source.words = found

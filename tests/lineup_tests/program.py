@@ -26,6 +26,8 @@ ARROWS = "n:\n  s -> m\nm:\n  u -> n\n"
 STALE = "n: a*0\n  s -> m\nm: a*7\n  u -> o\no: a*4294967295\n  s -> p\np:\n  u -> n\n"
 HOARD = "n:\n  s -> n\n"
 STARVED = "n:\n  s -> m\nm:\n  w -> n\n"
+TWO = "pl a\npl b\ntr s -> a\ntr u a ->\ntr v -> b\ntr w b ->\n"
+OTHER = "k:\n  v -> l\nl: b\n  w -> k\n"
 CAPPED = "pl a <= 1\ntr s -> a\ntr u a ->\n"
 BACK = "pl a <= 1\ntr s -> a\ntr b a -> a\ntr u a ->\n"
 BACKS = "n:\n  s -> m\nm:\n  b -> m\n  u -> n\n"
@@ -34,7 +36,7 @@ OVER = "pl a (2) <= 1\ntr s -> a\ntr u a ->\n"
 FILES = {
     "x.net": NET, "x.sheet": SHEET, "longer.sheet": LONGER, "greedy.sheet": GREEDY, "torn.sheet": TORN, "shared.net": SHARED, "both.sheet": BOTH, "x.log": LOG,
     "arrows.sheet": ARROWS, "stale.sheet": STALE, "hoard.sheet": HOARD, "starved.sheet": STARVED,
-    "capped.net": CAPPED, "back.net": BACK, "back.sheet": BACKS, "full.sheet": FULL, "over.net": OVER,
+    "two.net": TWO, "other.sheet": OTHER, "capped.net": CAPPED, "back.net": BACK, "back.sheet": BACKS, "full.sheet": FULL, "over.net": OVER,
 }
 
 
@@ -100,6 +102,11 @@ def statuses(tally, folder):
         (1, "mend x.net torn.sheet", ["torn.sheet:3:1: refused, 11 dead end", "core: answer 11 node 1 length 0 list 0"]),
         (1, "mend x.net hoard.sheet", ["hoard.sheet:2:3: refused, 25 no counts fit", "node n, s -> n: a: 0 - 0 + 1 = 1, and another way to node n gives 0", "node n is reached by no firing and then holds nothing", "core: answer 25 none 0"]),
         (1, "mend shared.net starved.sheet", ["starved.sheet:4:3: refused, 25 no counts fit", "node m, w -> n: a: w takes 2, and there is 1", "node m is reached by s and then holds a"]),
+        (0, "compose two.net other.sheet x.sheet", ["# composed: 3 nodes, 4 arcs, 1 await node", "# for s: x.sheet, 2 nodes", "# for v: other.sheet, 2 nodes", "# core: answer 0 none 0 length 14 sheet 0", "{n+k}:", "{m+k}:  a"]),
+        (1, "compose two.net x.sheet", ["two.net:3:4: refused, 28 number of sheets", "the net has 2 sources, s, v, and there is 1 sheet", "core: answer 28 none 0 length 0 sheet 0"]),
+        (1, "compose two.net torn.sheet other.sheet", ["torn.sheet:3:1: refused, 11 dead end", "read as one for s alone, without v", "core: answer 11 node 1 length 0 sheet 1"]),
+        (1, "compose over.net x.sheet", ["over.net:1:13: refused, 26 overfull start", "core: answer 26 place 0 length 0 sheet 0"]),
+        (0, "compose x.net x.sheet", ["# composed: 2 nodes, 2 arcs, 1 await node", "m:  a"]),
         (0, "check capped.net", ["accepted, as a net", "capacities: a <= 1"]),
         (0, "check capped.net x.sheet", ["accepted", "bounds: a <= 1"]),
         (1, "check capped.net greedy.sheet", ["greedy.sheet:4:3: refused, 27 over capacity", "node m, s -> o: a: 1 + 1 = 2, but it can hold at most 1", "core: answer 27 entry 1"]),
@@ -138,6 +145,8 @@ def outputs(tally, folder):
     tally.holds("mend -o, what is told", lineup(folder, "mend", "x.net", "arrows.sheet", "-o", "mended.sheet")[1], "  arrows.sheet:3:1: node m holds a\n", "written: mended.sheet\n")
     tally.same("mend -o", read(folder, "mended.sheet"), "n:\n  s -> m\nm:  a\n  u -> n\n")
     tally.same("mend -o, a refused one", (lineup(folder, "mend", "x.net", "hoard.sheet", "-o", "none.sheet")[0], os.path.exists(os.path.join(folder, "none.sheet"))), (1, False))
+    tally.holds("compose -o, what is told", lineup(folder, "compose", "two.net", "x.sheet", "other.sheet", "-o", "composed.sheet")[1], "  for s: x.sheet, 2 nodes\n", "written: composed.sheet\n")
+    tally.holds("compose -o", lineup(folder, "check", "two.net", "composed.sheet")[1], "composed.sheet: accepted", "answer 0 none 0 nodes 3 arcs 4 awaits 1")
     tally.same("words -o", lineup(folder, "words", "x.net", "x.sheet", "-o", "w/x")[0], 0)
     tally.same("words -o, the files", sorted(os.listdir(os.path.join(folder, "w", "x"))), ["names.txt", "net.txt", "sheet.txt"])
     tally.same("words -o, read again", lineup(folder, "words", "w/x")[1], lineup(folder, "words", "x.net", "x.sheet")[1])
@@ -183,6 +192,8 @@ def as_json(tally, folder):
         "mend x.net hoard.sheet": {"accepted": False},
         "mend capped.net arrows.sheet": {"accepted": True, "nodes": 2, "list": [1, 1, 1]},
         "mend capped.net greedy.sheet": {"accepted": False},
+        "compose two.net other.sheet x.sheet": {"accepted": True, "nodes": 3, "states": [["n", "k"], ["m", "k"], ["n", "l"]], "tasks": [{"source": "s", "sheet": "x.sheet"}, {"source": "v", "sheet": "other.sheet"}]},
+        "compose two.net x.sheet": {"accepted": False},
         "words x.net": {"net": [1, 2, 2, 1, 2, 1, 1]},
         "names x.net": {"net": "pl a\ntr s    -> a\ntr u  a ->\n"},
         "draw x.net x.sheet": {"accepted": True},
@@ -274,6 +285,9 @@ def mixed(tally, folder, net, sheet):
     for command in ("compare", "diff"):
         tally.holds(f"a tail in {command}", lineup(folder, command, "x.net", "x.sheet", "tail.bin")[1], "tail.bin: refused, 6 ragged sheet; it cannot be compared")
         tally.holds(f"a tail in {command}, after a refusal", lineup(folder, command, "x.net", "torn.sheet", "tail.bin")[1], "torn.sheet:3:1: refused, 11")
+    tally.holds("a tail in compose", lineup(folder, "compose", "x.net", "tail.bin")[2], "tail.bin: 33 bytes are no whole words of four bytes: 1 over")
+    save(folder, "tailed.bin", net + b"\1")
+    tally.holds("a net's tail in compose", lineup(folder, "compose", "tailed.bin", "x.sheet")[1], "tailed.bin: refused, 1 ragged net")
     save(folder, "unnamed.words", "# no suffix tells\n1 2 2 1 2 1 1\n")
     tally.holds("words told by what they are", lineup(folder, "check", "unnamed.words")[1], "accepted, as a net")
 
@@ -293,6 +307,7 @@ def trouble(tally, folder):
         ("replay x.net x.sheet", 2, "a log is missing", ""),
         ("replay x.net x.sheet y.log", 2, "no such file (did you mean 'x.log'?)", ""),
         ("mend x.net", 2, "a sheet is missing", ""),
+        ("compose x.net", 2, "the following arguments are required: SHEET", ""),
         ("draw x.net -o picture", 2, "the suffix tells the form", ""),
         ("draw x.net -o no/where.svg", 2, "cannot be written", ""),
         ("words x.net -o x.net/y", 2, "no folder can be made", ""),
@@ -331,6 +346,11 @@ def disagreements(tally, folder):
             ("mend x.net arrows.sheet", "list 3", "list 1"),
             ("mend x.net hoard.sheet", "answer 25 none 0", "answer 0 none 0"),
             ("mend x.net arrows.sheet", "answer 0 none 0 length 8 list 3", "answer 25 none 0 length 0 list 0"),
+            ("compose two.net x.sheet other.sheet", "answer 0 none 0 length 14", "answer 30 none 0 length 0"),
+            ("compose two.net x.sheet other.sheet", "out 3 6", "out 4 6"),
+            ("compose two.net torn.sheet other.sheet", "sheet 1", "sheet 2"),
+            ("compose two.net x.sheet", "answer 28", "answer 0"),
+            ("compose over.net x.sheet", "answer 26 place 0", "answer 0 none 0"),
             ("diff x.net x.sheet greedy.sheet", "answer 20", "answer 0"),
             ("diff x.net torn.sheet x.sheet", "answer 11 node 1 length 0", "answer 0 none 0 length 0"),
             ("compare x.net x.sheet greedy.sheet", "same 0", "same 1"),
