@@ -7,7 +7,7 @@ import tempfile
 from lineup import home
 from lineup.trouble import Trouble
 from lineup.visible import quoted
-from lineup.words import LIST_WORDS, LOG_WORDS, NET_WORDS, REPORT_WORDS, SHEET_WORDS, TASKS, TIMES_WORDS
+from lineup.words import KEPT_WORDS, LIST_WORDS, LOG_WORDS, NET_WORDS, REPORT_WORDS, SHEET_WORDS, TASKS, TIMES_WORDS
 
 SCRATCH, OUT_BLANK = 8_192, 9  # the words of scratch lent, and what an output buffer holds before a call
 KINDS = ("none", "entry", "place", "node", "record")
@@ -80,6 +80,10 @@ def short(net, sheet):
 
 def mend(net, sheet):
     return f"10 {pair(net, sheet)} | out {SHEET_WORDS - 1} | list {LIST_WORDS} | scratch {SCRATCH}"
+
+
+def trim(net, sheet):
+    return f"12 {pair(net, sheet)} | out {SHEET_WORDS - 1} | list {KEPT_WORDS} | scratch {SCRATCH}"
 
 
 def compose(net, *sheets):

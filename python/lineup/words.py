@@ -6,6 +6,7 @@ NET_HEAD, SHEET_HEAD = 3, 2  # words before the keys
 NET_WORDS, SHEET_WORDS, LOG_WORDS = 4_228, 8_195, 8_194  # handed on of a longer file, one more than fits
 LIST_WORDS = 8_193  # of a list of changes, at most
 TIMES_WORDS, REPORT_WORDS = 66, 8_192  # of durations, handed on as above; of a report of times, at most
+KEPT_WORDS = 128  # of a list of the nodes kept, at most
 TASKS = 4  # sheets that are composed, at most
 
 

@@ -74,6 +74,14 @@ def stale(seed, count):
             yield net, sheet_source(parts["sheet"], net)
 
 
+def unreached(seed, count):
+    """Pairs of which the sheet is to be trimmed: (net, sheet)."""
+    for operation, parts in lines("cases", seed, count):
+        if operation == "12":
+            net = net_source(parts["net"])
+            yield net, sheet_source(parts["sheet"], net)
+
+
 def compared(seed, count):
     """Two sheets of one net, of which one or both may be damaged: (net, one, other)."""
     for operation, parts in lines("cases", seed, count):

@@ -105,7 +105,7 @@ JETTY = os.path.join(HOME, "samples", "jetty")
 BITS = [b"->", b"*", b":", b"{", b"}", b"(", b")", b"pl ", b"tr ", b"net ", b"sheet ", b"0", b"4294967295", b"4294967296", b"33", b"\x1b", b"\xff", b"\n", b"#", b"tank1", b"<", b"\\"]
 COMMANDS = [
     "check jetty.net may.sheet", "check w", "check w may.sheet", "check jetty.net w", "check jetty.pnml may.sheet", "diff jetty.net may.sheet june.sheet",
-    "diff jetty.net may.sheet w", "compare jetty.net may.sheet june.sheet", "compare w may.sheet w", "spread w", "spread jetty.net may.sheet", "short w", "bounds w", "run w berth line-up", "mend w", "mend jetty.net may.sheet", "compose jetty.net w", "compose w may.sheet", "words jetty.net may.sheet", "names w", "names jetty.pnml",
+    "diff jetty.net may.sheet w", "compare jetty.net may.sheet june.sheet", "compare w may.sheet w", "spread w", "spread jetty.net may.sheet", "short w", "bounds w", "run w berth line-up", "mend w", "mend jetty.net may.sheet", "compose jetty.net w", "compose w may.sheet", "trim w", "trim jetty.net may.sheet", "words jetty.net may.sheet", "names w", "names jetty.pnml",
     "draw w -o x.svg", "draw --net w -o x.svg", "draw jetty.net may.sheet",
 ]
 

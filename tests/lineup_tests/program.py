@@ -28,6 +28,7 @@ HOARD = "n:\n  s -> n\n"
 STARVED = "n:\n  s -> m\nm:\n  w -> n\n"
 TWO = "pl a\npl b\ntr s -> a\ntr u a ->\ntr v -> b\ntr w b ->\n"
 OTHER = "k:\n  v -> l\nl: b\n  w -> k\n"
+LEFT = "n:\n  s -> m\no: a*7\n  u -> m\nm: a\n  u -> n\nq:\n"
 CAPPED = "pl a <= 1\ntr s -> a\ntr u a ->\n"
 BACK = "pl a <= 1\ntr s -> a\ntr b a -> a\ntr u a ->\n"
 BACKS = "n:\n  s -> m\nm:\n  b -> m\n  u -> n\n"
@@ -36,7 +37,7 @@ OVER = "pl a (2) <= 1\ntr s -> a\ntr u a ->\n"
 FILES = {
     "x.net": NET, "x.sheet": SHEET, "longer.sheet": LONGER, "greedy.sheet": GREEDY, "torn.sheet": TORN, "shared.net": SHARED, "both.sheet": BOTH, "x.log": LOG,
     "arrows.sheet": ARROWS, "stale.sheet": STALE, "hoard.sheet": HOARD, "starved.sheet": STARVED,
-    "two.net": TWO, "other.sheet": OTHER, "capped.net": CAPPED, "back.net": BACK, "back.sheet": BACKS, "full.sheet": FULL, "over.net": OVER,
+    "two.net": TWO, "other.sheet": OTHER, "left.sheet": LEFT, "capped.net": CAPPED, "back.net": BACK, "back.sheet": BACKS, "full.sheet": FULL, "over.net": OVER,
 }
 
 
@@ -107,6 +108,11 @@ def statuses(tally, folder):
         (1, "compose two.net torn.sheet other.sheet", ["torn.sheet:3:1: refused, 11 dead end", "read as one for s alone, without v", "core: answer 11 node 1 length 0 sheet 1"]),
         (1, "compose over.net x.sheet", ["over.net:1:13: refused, 26 overfull start", "core: answer 26 place 0 length 0 sheet 0"]),
         (0, "compose x.net x.sheet", ["# composed: 2 nodes, 2 arcs, 1 await node", "m:  a"]),
+        (0, "trim x.net left.sheet", ["# left.sheet: of 4 nodes 2 are not reached and dropped", "# left.sheet:3:1: node o is dropped", "# left.sheet:7:1: node q is dropped", "# core: answer 0 none 0 length 8 list 2", "m:  a"]),
+        (0, "trim x.net x.sheet", ["# x.sheet: every node is reached, and none is dropped"]),
+        (0, "trim x.net torn.sheet", ["# torn.sheet: every node is reached", "m:  a"]),
+        (1, "trim x.net stale.sheet", ["stale.sheet:1:4: refused, 9 sheet value", "core: answer 9 entry 4 length 0 list 0"]),
+        (1, "trim over.net x.sheet", ["over.net:1:13: refused, 26 overfull start", "core: answer 26 place 0 length 0 list 0"]),
         (0, "check capped.net", ["accepted, as a net", "capacities: a <= 1"]),
         (0, "check capped.net x.sheet", ["accepted", "bounds: a <= 1"]),
         (1, "check capped.net greedy.sheet", ["greedy.sheet:4:3: refused, 27 over capacity", "node m, s -> o: a: 1 + 1 = 2, but it can hold at most 1", "core: answer 27 entry 1"]),
@@ -147,6 +153,8 @@ def outputs(tally, folder):
     tally.same("mend -o, a refused one", (lineup(folder, "mend", "x.net", "hoard.sheet", "-o", "none.sheet")[0], os.path.exists(os.path.join(folder, "none.sheet"))), (1, False))
     tally.holds("compose -o, what is told", lineup(folder, "compose", "two.net", "x.sheet", "other.sheet", "-o", "composed.sheet")[1], "  for s: x.sheet, 2 nodes\n", "written: composed.sheet\n")
     tally.holds("compose -o", lineup(folder, "check", "two.net", "composed.sheet")[1], "composed.sheet: accepted", "answer 0 none 0 nodes 3 arcs 4 awaits 1")
+    tally.holds("trim -o, what is told", lineup(folder, "trim", "x.net", "left.sheet", "-o", "trimmed.sheet")[1], "  left.sheet:3:1: node o is dropped\n", "written: trimmed.sheet\n")
+    tally.same("trim -o", read(folder, "trimmed.sheet"), "n:\n  s -> m\nm:  a\n  u -> n\n")
     tally.same("words -o", lineup(folder, "words", "x.net", "x.sheet", "-o", "w/x")[0], 0)
     tally.same("words -o, the files", sorted(os.listdir(os.path.join(folder, "w", "x"))), ["names.txt", "net.txt", "sheet.txt"])
     tally.same("words -o, read again", lineup(folder, "words", "w/x")[1], lineup(folder, "words", "x.net", "x.sheet")[1])
@@ -194,6 +202,8 @@ def as_json(tally, folder):
         "mend capped.net greedy.sheet": {"accepted": False},
         "compose two.net other.sheet x.sheet": {"accepted": True, "nodes": 3, "states": [["n", "k"], ["m", "k"], ["n", "l"]], "tasks": [{"source": "s", "sheet": "x.sheet"}, {"source": "v", "sheet": "other.sheet"}]},
         "compose two.net x.sheet": {"accepted": False},
+        "trim x.net left.sheet": {"accepted": True, "nodes": 2, "kept": ["n", "m"], "dropped": ["o", "q"], "words": [2, 3, 0, 3, 5, 1, 0, 1], "list": [0, 2], "sheet": "n:\n  s -> m\nm:  a\n  u -> n\n"},
+        "trim x.net stale.sheet": {"accepted": False},
         "words x.net": {"net": [1, 2, 2, 1, 2, 1, 1]},
         "names x.net": {"net": "pl a\ntr s    -> a\ntr u  a ->\n"},
         "draw x.net x.sheet": {"accepted": True},
@@ -238,7 +248,7 @@ def word_files(tally, folder):
         found = lineup(folder, "check", what)
         tally.same(f"{what}: status", (found[0], found[2]), (1, ""))
         tally.holds(what, found[1], *parts)
-        for command in ("spread", "short", "bounds", "run", "mend", "words", "names", "draw"):
+        for command in ("spread", "short", "bounds", "run", "mend", "trim", "words", "names", "draw"):
             tally.same(f"{what}: {command}", lineup(folder, command, what)[0], 1)
     mixed(tally, folder, net, sheet)
     word_logs(tally, folder, net, sheet)
@@ -307,6 +317,7 @@ def trouble(tally, folder):
         ("replay x.net x.sheet", 2, "a log is missing", ""),
         ("replay x.net x.sheet y.log", 2, "no such file (did you mean 'x.log'?)", ""),
         ("mend x.net", 2, "a sheet is missing", ""),
+        ("trim x.net", 2, "a sheet is missing", ""),
         ("compose x.net", 2, "the following arguments are required: SHEET", ""),
         ("draw x.net -o picture", 2, "the suffix tells the form", ""),
         ("draw x.net -o no/where.svg", 2, "cannot be written", ""),
@@ -346,6 +357,10 @@ def disagreements(tally, folder):
             ("mend x.net arrows.sheet", "list 3", "list 1"),
             ("mend x.net hoard.sheet", "answer 25 none 0", "answer 0 none 0"),
             ("mend x.net arrows.sheet", "answer 0 none 0 length 8 list 3", "answer 25 none 0 length 0 list 0"),
+            ("trim x.net left.sheet", "out 2 3 0 3 5 1 0 1", "out 2 3 0 3 5 1 0 2"),
+            ("trim x.net left.sheet", "out 0 2", "out 0 1"),
+            ("trim x.net left.sheet", "answer 0 none 0 length 8 list 2", "answer 16 node 1 length 0 list 0"),
+            ("trim x.net stale.sheet", "answer 9 entry 4", "answer 0 none 0"),
             ("compose two.net x.sheet other.sheet", "answer 0 none 0 length 14", "answer 30 none 0 length 0"),
             ("compose two.net x.sheet other.sheet", "out 3 6", "out 4 6"),
             ("compose two.net torn.sheet other.sheet", "sheet 1", "sheet 2"),
