@@ -46,7 +46,7 @@ struct Words {
 
 impl Words {
     fn any(rng: &mut Rng) -> Words {
-        let call = generate::call(rng);
+        let call = generate::call(rng, &KINDS);
         let reply = Call::new(Kind::ShortForm, &call.net, &call.sheet).put().reply;
         let places = call.net.first().map_or(0, |&places| places.min(40) as usize);
         Words { places, form: reply[3] as usize, call }
