@@ -20,10 +20,12 @@ use Rattle.graph.specs.Rows.{arcEntryRow}
 use Rattle.sequential.specs.Only.{only}
 use Rattle.choice.specs.Rows.{netByRows, present, arcByRow, graphByRows}
 use Rattle.choice.specs.Choices.{ChoicesOf, offerOf}
+use Rattle.choice.specs.Whole.{Offering}
 use Rattle.choice.specs.Nodes.{offerFault, awaitsBelow, offersFault, awaitMark, awaitMarks, nodesRefused, taskNodesReply}
 use Rattle.choice.specs.declared.NodesAnswer.{NodesAnswer}
 use Rattle.choice.specs.declared.offers.Offer.{Offer}
 use Rattle.choice.specs.declared.offers.Offer.the-variants.{Whole}
+use Rattle.choice.proofs.Choices.{leader-low}
 use Rattle.choice.proofs.Offer.{Tells, offer-tells}
 
 -- what does not change in it
@@ -37,6 +39,10 @@ pub record Ground (net : List ℕ) (s : ℕ) (sheet leaders : List ℕ) (source 
 pub ground-is : {net : List ℕ} {s : ℕ} {sheet leaders : List ℕ} {source transitions nodes : ℕ} → ChoicesOf (only (netByRows net) s) leaders source → transitions ≡ min (transitionCount net) 32
     → nodes ≡ min (nodeCount sheet) 128 → Ground net s sheet leaders source transitions nodes
 ground-is c t n = record { choices = c; transitions-are = unfold netByRows in t; nodes-are = unfold graphByRows in n; few-nodes = omega arith; few-transitions = omega arith }
+
+-- what the look at one node asks
+pub offering : {net : List ℕ} {s : ℕ} {sheet leaders : List ℕ} {source transitions nodes : ℕ} → Ground net s sheet leaders source transitions nodes → Offering net leaders transitions
+offering {net = net} {s = s} g = record { all = unfold netByRows in (g .transitions-are); led = λ t l m. leader-low (only (netByRows net) s) (g .choices) t (omega (arith, g .transitions-are)) m }
 
 pub record Passing (net : List ℕ) (s : ℕ) (sheet leaders : List ℕ) (source transitions nodes : ℕ) (awaits : List ℕ) (n : ℕ) : Type 0 where
   pub ground : Ground net s sheet leaders source transitions nodes

@@ -1,10 +1,11 @@
 -- The table of choice sets: what the loops over rows of weights find, and what a least transition tells of its set.
-use Rattle.scan.proofs.Basics.{ℕ, _≤_, _<_, arith, _≡_, refl, subst, sym, _∙_, true, false, cond, eqb, List, length, getD, set}
+use Rattle.scan.proofs.Basics.{ℕ, _≤_, _<_, arith, _≡_, refl, subst, sym, ap, _∙_, true, false, cond, ltb, eqb, List, length, getD, set}
 use Prim.Native.Nat.{min}
 use lib.Seq.{getD-set-same, getD-set-other}
 use Rattle.scan.proofs.Tests.{lt-ltb, le-ltb, eqb-true, eqb-false, eq-eqb, ne-eqb, byTest, iff→eq, true-false, not-true→false}
 use Rattle.scan.specs.Scan.{all, least}
-use Rattle.scan.proofs.Least.{least-hit, least-of}
+use Rattle.scan.proofs.Every.{all-out}
+use Rattle.scan.proofs.Least.{least-hit, least-of, least-ext}
 use Rattle.net.specs.Net.{placeCount}
 use Rattle.net.specs.Accessors.{takenRowReply}
 use Rattle.automaton.specs.Equivalence.{leaderBy, sameClass}
@@ -15,14 +16,25 @@ use Rattle.sequential.proofs.Choices.{choice↔, choice-sym, choice-kept, choic
 use Rattle.sequential.specs.Only.{isSourceOf, only}
 use Rattle.sequential.proofs.Only.{only-whole, kept-on, leader-on, kept-one, removed-others, leader-one, least-only}
 use Rattle.choice.specs.Rows.{netByRows}
-use Rattle.choice.specs.Choices.{choiceOf, leftOf, firstSource, ChoicesOf, Noted, NotedAfter, equalAt, zeroAt, bothAt, rowsFit}
+use Rattle.choice.specs.Choices.{choiceOf, leftOf, firstSource, ChoicesOf, Noted, NotedAfter, equalAt, zeroAt, weighsAt, bothAt, rowsFit, FirstPlaces}
 
 -- ---- rows of weights
+
+pub few-by-rows : (net : List ℕ) → netByRows net .transitions ≤ 32
+unfolding netByRows
+few-by-rows net = omega arith
 
 module _ (net : List ℕ) (places : ℕ) (all-of : places ≡ min (placeCount net) 32) where
   pub alike-told : (t u : ℕ) (a b : List ℕ) → a ≡ takenRowReply net t → b ≡ takenRowReply net u → all (equalAt a b) places ≡ takesSame (netByRows net) t u
   unfolding netByRows takesSame takesAlike equalAt
   alike-told t u a b e f = rw (all-of, e, f)
+
+  -- those that take the same draw on the same place first
+  pub first-told : {firsts : List ℕ} → FirstPlaces net firsts → (t u : ℕ) → t < netByRows net .transitions → u < netByRows net .transitions
+      → takesSame (netByRows net) t u ≡ true → getD firsts t 0 ≡ getD firsts u 0
+  unfolding netByRows takesSame takesAlike weighsAt
+  first-told f t u l m h =
+      f .first t l ∙ least-ext _ _ _ (λ p k. ap (ltb 0) (eqb-true (getD (takenRowReply net t) p 0) (getD (takenRowReply net u) p 0) (all-out _ _ h p k))) ∙ sym (f .first u m)
 
   pub fit-told : (t u : ℕ) (a b : List ℕ) → a ≡ takenRowReply net t → b ≡ takenRowReply net u → rowsFit a b places ≡ sharesAlike (netByRows net) t u
   unfolding netByRows sharesAlike sharesPlace bothDraw takesSame takesAlike rowsFit bothAt equalAt
@@ -79,6 +91,11 @@ module _ (N : PetriNet) where
   pub removed-choice : (t : ℕ) → N .kept t ≡ false → choiceOf N t ≡ 32
   unfolding choiceOf
   removed-choice t k = rw k
+
+  pub leader-low : {leaders : List ℕ} {source : ℕ} → ChoicesOf N leaders source → (t : ℕ) → t < N .transitions → getD leaders t 0 < 32 → getD leaders t 0 ≤ t
+  leader-low c t l m =
+      let q = c .leaders-are t l in
+      byTest (N .kept t) (λ k. omega (arith, q, kept-choice t k)) (λ k. absurd (omega (arith, q, removed-choice t k)))
 
   pub choice-test : N .transitions ≤ 32 → (t u : ℕ) → u < N .transitions → N .kept u ≡ true → eqb (choiceOf N t) (choiceOf N u) ≡ sameChoice N t u
   unfolding sameClass

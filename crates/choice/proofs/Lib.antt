@@ -2,6 +2,7 @@
 pub mod Rows
 pub mod Choices
 -- what a node offers, and all nodes
+pub mod Whole
 pub mod Offer
 pub mod Answer
 -- what that says of the schedule

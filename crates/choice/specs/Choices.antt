@@ -7,10 +7,11 @@ use lib.ListN.{getD}
 use lib.Dec.{ltb, eqb}
 use Rattle.scan.specs.Scan.{all, any, least}
 use Rattle.refusal.specs.Limits.{mostTransitions}
+use Rattle.net.specs.Accessors.{takenRowReply}
 use Rattle.automaton.specs.Equivalence.{leaderBy}
 use Rattle.sequential.specs.Petri.{PetriNet}
 use Rattle.sequential.specs.Tests.{isSource, freeChoice, sameChoice}
-use Rattle.choice.specs.Rows.{present}
+use Rattle.choice.specs.Rows.{netByRows, present}
 use Rattle.choice.specs.declared.offers.Offer.{Offer}
 use Rattle.choice.specs.declared.offers.Offer.the-variants.{Nothing, Whole, Torn}
 
@@ -48,6 +49,14 @@ equalAt a b p = eqb (getD a p 0) (getD b p 0)
 -- a row has no weight at place p
 unfoldable pub zeroAt : List ℕ → ℕ → Bool
 zeroAt row p = eqb (getD row p 0) 0
+
+-- a row has one there
+unfoldable pub weighsAt : List ℕ → ℕ → Bool
+weighsAt row p = ltb 0 (getD row p 0)
+
+-- by each transition the first place that it draws on, P where it draws on none
+pub record FirstPlaces (net firsts : List ℕ) : Type 0 where
+  pub first : (t : ℕ) → t < netByRows net .transitions → getD firsts t 0 ≡ least (weighsAt (takenRowReply net t)) (netByRows net .places)
 
 -- both rows have a weight at place p
 unfoldable pub bothAt : List ℕ → List ℕ → ℕ → Bool

@@ -1,4 +1,5 @@
 pub mod Rows
 pub mod Choices
+pub mod Whole
 pub mod Nodes
 pub mod Demands

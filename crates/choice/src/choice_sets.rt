@@ -1,16 +1,16 @@
 // Choice sets (§5.1): each is known by its least transition. The weights are those that the rows of the net tell.
 ghost use mathlib.Core.Path.{_≡_};
-ghost use Prim.Native.Nat.{_≤_, min};
+ghost use Prim.Native.Nat.{_≤_, _<_, min};
 ghost use mathlib.Core.Bool.{cond};
 ghost use lib.Dec.{eqb};
-ghost use Rattle.scan.specs.Scan.{all, any};
+ghost use Rattle.scan.specs.Scan.{all, any, least};
 ghost use Rattle.automaton.specs.Equivalence.{leaderBy};
 ghost use Rattle.refusal.specs.Limits.{mostPlaces, mostTransitions};
 ghost use Rattle.net.specs.Net.{placeCount, transitionCount};
 ghost use Rattle.sequential.specs.Tests.{takesSame, freeChoice};
 ghost use Rattle.choice.specs.Rows.{netByRows};
 ghost use Rattle.sequential.specs.Only.{only};
-ghost use Rattle.choice.specs.Choices.{firstSource, ChoicesOf, leftOf, equalAt, zeroAt, bothAt, rowsFit, Noted, NotedAfter};
+ghost use Rattle.choice.specs.Choices.{firstSource, ChoicesOf, leftOf, equalAt, zeroAt, weighsAt, bothAt, rowsFit, FirstPlaces, Noted, NotedAfter};
 use refusal::Limits;
 
 // The least transition of each transition's choice set, and the least source, which stands for all of them (§5.2).
@@ -82,18 +82,53 @@ fn rows_fit(a: [u32; 32], b: [u32; 32], places: usize) -> bool
     true
 }
 
-// The least transition that takes the same as t.
-fn least_alike(net: &[u32], t: u32) -> u32
+// The first place of a row that has a weight, or the number of places.
+fn first_weight(row: [u32; 32], places: usize) -> u32
+    requires { ⌜ places ≤ 32 ⌝ }
+    ensures { λ r. ⌜ r ≡ least (weighsAt row) places ⌝ }
+{
+    let mut p = 0;
+    while p < places {
+        if 0 < row[p] {
+            return p as u32;
+        }
+        p += 1;
+    }
+    places as u32
+}
+
+// By each transition the first place that it draws on.
+fn first_places(net: &[u32]) -> [u32; 32]
+    ensures { λ r. ⌜ FirstPlaces (now (net .entry)) r ⌝ }
+{
+    let places = places(net);
+    let transitions = transitions(net);
+    let mut firsts = [0u32; 32];
+    for i in 0..transitions {
+        let first = first_weight(net::taken_row(net, i as u32), places);
+        firsts[i] = first;
+    }
+    firsts
+}
+
+// The least transition that takes the same as t. Only those are looked at that draw on the same place first.
+fn least_alike(net: &[u32], firsts: &[u32; 32], t: u32) -> u32
+    requires { ⌜ FirstPlaces (now net) (now firsts) ⌝ }
+    requires { ⌜ t < netByRows (now net) .transitions ⌝ }
     ensures { λ r. ⌜ r ≡ leaderBy (takesSame (netByRows (now (net .entry)))) t ⌝ }
 {
     let taken = net::taken_row(net, t);
     let places = places(net);
+    let first = firsts[t as usize];
     let mut u = 0;
     while u < t {
-        if rows_equal(net::taken_row(net, u), taken, places) {
-            return u;
-        }
+        let v = u;
         u += 1;
+        if firsts[v as usize] == first {
+            if rows_equal(net::taken_row(net, v), taken, places) {
+                return v;
+            }
+        }
     }
     t
 }
@@ -181,10 +216,11 @@ pub(crate) fn choices_of(net: &[u32]) -> Choices
     ensures { λ r. ⌜ ChoicesOf (netByRows (now (net .entry))) (r .leaders) (r .source) ⌝ }
 {
     let transitions = transitions(net);
+    let firsts = first_places(net);
     let mut leaders = [0u32; 32];
     let mut notes = [0u32; 32];
     for i in 0..transitions {
-        let leader = least_alike(net, i as u32);
+        let leader = least_alike(net, &firsts, i as u32);
         let l = leader as usize;
         let note = noted(net, notes[l], leader, i as u32);
         notes[l] = note;

@@ -70,11 +70,7 @@ pub fn task_nodes(net: &[u32], s: u32, sheet: &[u32]) -> NodesAnswer
     let mut awaits = [0u8; 128];
     let mut n = 0;
     while n < nodes {
-        let offer = offers::offered(
-            graph::arc_entries(net, sheet, n as u32),
-            leaders,
-            transitions,
-        );
+        let offer = offers::offer_at(net, sheet, &leaders, transitions, n as u32);
         match offer {
             Offer::Nothing => {
                 return refused(Refusal::NO_ARC, n);

@@ -1,4 +1,5 @@
 -- words that can be read
+pub mod Pass
 pub mod Readable
 -- a node's rows and arcs
 pub mod Starts

@@ -13,7 +13,7 @@ use Rattle.refusal.specs.declared.Verdict.the-variants.{Accepted}
 use Rattle.net.specs.Net.{placeCount, transitionCount}
 use Rattle.net.specs.Check.{netReply}
 use Rattle.sequential.specs.Petri.{PetriNet, petriNet}
-use Rattle.sequential.specs.Words.{nodeCount, entryCount, arcKeys}
+use Rattle.sequential.specs.Words.{nodeCount, entryCount, entryValue, arcKeys}
 use Rattle.sequential.specs.Checks.{ValuePasses}
 use Rattle.sequential.specs.Check.{valueFails, arcValueFails, wordsFault, arcWordsFault}
 use Rattle.sequential.specs.Known.{ArcsHold}
@@ -38,6 +38,10 @@ faultBy counts N sheet = cond counts (wordsFault N sheet) (arcWordsFault N sheet
 
 abbrev pub replyBy : Bool → List ℕ → List ℕ → Verdict
 replyBy counts net sheet = cond counts (wordsReply net sheet) (arcsReply net sheet)
+
+-- the values of the entries between two bounds lie from low on and below a limit
+abbrev pub ValuesLie : List ℕ → ℕ → ℕ → ℕ → ℕ → Type 0
+ValuesLie sheet from to low limit = (i : ℕ) → from ≤ i → i < to → (low ≤ entryValue sheet i) × (entryValue sheet i < limit)
 
 -- ---- what is readable
 

@@ -10,6 +10,7 @@ ghost use Rattle.sequential.specs.Words.{entryCount};
 ghost use Rattle.sequential.specs.Check.{sizesPass, shapeFault, entryFault};
 ghost use Rattle.sequential.specs.Known.{ShapePasses};
 ghost use Rattle.graph.specs.Readable.{valueTest, faultBy};
+use super::word_pass;
 use refusal::Limits;
 use refusal::Position;
 use refusal::Refusal;
@@ -80,11 +81,14 @@ fn entry_fault(sheet: &[u32], arcs: u32, limit: u32, counts: bool, i: usize) -> 
     Verdict::Accepted
 }
 
-// Refusals 8 and 9, entry by entry.
+// Refusals 8 and 9, entry by entry where not all pass.
 fn entries_fault(sheet: &[u32], arcs: u32, limit: u32, counts: bool) -> Verdict
     requires { ⌜ ShapePasses (now sheet) ⌝ }
     ensures { λ r. ⌜ r ≡ verdictOf (first (entryFault (now (sheet .entry)) limit (valueTest counts (now (sheet .entry)) arcs)) (entryCount (now (sheet .entry)))) ⌝ }
 {
+    if word_pass::entries_pass(sheet, arcs, limit, counts) {
+        return Verdict::Accepted;
+    }
     let entries = sheet[1] as usize;
     let mut i = 0;
     while i < entries {

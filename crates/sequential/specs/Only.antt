@@ -1,4 +1,4 @@
--- A net with one source alone: the others are removed, and every transition keeps its number (source document 001, Definition 6).
+-- A net with one source alone (§10.31; source document 001, Definition 6): the others are removed, and every transition keeps its number.
 use Prim.Native.Nat.{ℕ}
 use mathlib.Core.Bool.{Bool, not, _&&_}
 use lib.Dec.{ltb, eqb}

@@ -1,7 +1,7 @@
 -- `choice::task_nodes` meets its contract: nothing is found at the nodes before the counter, and their marks are right.
-use Rattle.scan.proofs.Basics.{_-_, _≤_, arith}
+use Rattle.scan.proofs.Basics.{_-_, _≤_, arith, refl}
 use borrow.Author.Needs.{needs}
-use Rattle.choice.proofs.Answer.{Passing, ground-is, start, row-tells, refused-at, passes-at, busy-root, all-pass}
+use Rattle.choice.proofs.Answer.{Passing, ground-is, offering, start, row-tells, refused-at, passes-at, busy-root, all-pass}
 use Rattle.choice.proofs.task_nodes.Statement.{statement}
 use Rattle.choice.proofs.task_nodes.Tie as tie
 
@@ -14,19 +14,22 @@ abbrev μ-loop : tie.MeasureT-loop
 loop-holds : tie.Need-loop-holds Inv-loop μ-loop
 loop-holds c = (omega arith, start (ground-is (c .before .before .before .choices-only .ensures) (c .before .transitions .ensures) (c .node-count .ensures)))
 
+offer-at-requires : tie.Need-offer-at-requires Inv-loop μ-loop
+offer-at-requires c κs = offering (c .before .before .loop .inv .1 .ground)
+
 returns : tie.Need-returns Inv-loop μ-loop
 returns c =
     let l = c .before .before .before .before .before .before in
     let (m, s) = l .loop .inv in
     refused-at s _ _ (c .before .before .before .before .before .loop-test .taken)
-    (rw (c .before .enum-told .given .1) at (row-tells (s .ground) _ _ _ (c .before .before .before .before .arc-entries .ensures) (c .before .before .before .offered .ensures))) (c .refused .ensures)
+    (rw (c .before .enum-told .given .1) at (row-tells (s .ground) _ _ _ refl (c .before .before .before .offer-at .ensures))) (c .refused .ensures)
 
 returns-2 : tie.Need-returns-2 Inv-loop μ-loop
 returns-2 c =
     let l = c .before .before .before .before .before .before in
     let (m, s) = l .loop .inv in
     refused-at s _ _ (c .before .before .before .before .before .loop-test .taken)
-    (rw (c .before .enum-told2 .given .1) at (row-tells (s .ground) _ _ _ (c .before .before .before .before .arc-entries .ensures) (c .before .before .before .offered .ensures)))
+    (rw (c .before .enum-told2 .given .1) at (row-tells (s .ground) _ _ _ refl (c .before .before .before .offer-at .ensures)))
     (c .refused2 .ensures)
 
 loop-again : tie.Need-loop-again Inv-loop μ-loop
@@ -35,7 +38,7 @@ loop-again c =
     let (m, s) = o .before .before .before .loop .inv in (
       omega arith,
       passes-at s _ _ (o .before .before .loop-test .taken)
-          (rw (c .before .before .offer .given .1) at (row-tells (s .ground) _ _ _ (o .before .arc-entries .ensures) (o .offered .ensures))) (c .mark-if .ensures),
+          (rw (c .before .before .offer .given .1) at (row-tells (s .ground) _ _ _ refl (o .offer-at .ensures))) (c .mark-if .ensures),
     )
 
 returns-3 : tie.Need-returns-3 Inv-loop μ-loop
@@ -48,6 +51,6 @@ pub task-nodes-spec : {M : Type 1} → statement M
 task-nodes-spec =
     tie.close
     (tie.spec Inv-loop μ-loop (λ c κs. search needs) (λ c κs. search needs) (λ c κs. search needs) loop-holds (λ c. search needs)
-    (λ c κs. search needs) (λ c κs. search needs) (λ c. search needs) (λ c κs. search needs) returns (λ c. search needs) (λ c κs. search needs)
+    offer-at-requires (λ c. search needs) (λ c κs. search needs) returns (λ c. search needs) (λ c κs. search needs)
     returns-2 (λ c. search needs) (λ c κs. search needs) (λ c. search needs) (λ c. search needs) (λ c. search needs) loop-again (λ c. search needs)
     (λ c κs. search needs) returns-3 returns-4)

@@ -1,4 +1,4 @@
--- `graph::word_check::entries_fault` meets its contract: nothing is found at the entries before the counter.
+-- `graph::word_check::entries_fault` meets its contract: all pass, or nothing is found at the entries before the counter.
 use Rattle.scan.proofs.Basics.{_-_, _≤_, arith, _≡_, sym, ap, _∙_, none}
 use borrow.Author.Needs.{needs}
 use Rattle.scan.specs.Scan.{first}
@@ -21,16 +21,19 @@ loop-holds : tie.Need-loop-holds Inv-loop μ-loop
 loop-holds c = (omega arith, first-none _)
 
 returns : tie.Need-returns Inv-loop μ-loop
-returns c = answer-first _ _ _ _ _ (c .before .before .before .before .loop .inv .1) (c .before .before .entry-fault .ensures) (c .enum-told .given .1) (c .before .before .before .loop-test .taken)
+returns c = ap verdictOf (sym (c .before .entries-pass .ensures (c .if1 .taken)))
+
+returns-2 : tie.Need-returns-2 Inv-loop μ-loop
+returns-2 c = answer-first _ _ _ _ _ (c .before .before .before .before .loop .inv .1) (c .before .before .entry-fault .ensures) (c .enum-told .given .1) (c .before .before .before .loop-test .taken)
 
 loop-again : tie.Need-loop-again Inv-loop μ-loop
 loop-again c = (omega arith, first-more _ _ (c .before .before .before .before .loop .inv .1) (answer-none _ (sym (c .before .before .entry-fault .ensures) ∙ (c .enum-told2 .given .1))))
 
-returns-2 : tie.Need-returns-2 Inv-loop μ-loop
-returns-2 c = let e : c .before .loop .i ≡ entryCount (c .before .before .before .before .args .sheet .now) = omega arith in ap verdictOf (sym (rw e at (c .before .loop .inv .1)))
+returns-3 : tie.Need-returns-3 Inv-loop μ-loop
+returns-3 c = let e : c .before .loop .i ≡ entryCount (c .before .before .before .before .before .before .args .sheet .now) = omega arith in ap verdictOf (sym (rw e at (c .before .loop .inv .1)))
 
 pub entries-fault-spec : {M : Type 1} → statement M
 entries-fault-spec =
     tie.close
-    (tie.spec Inv-loop μ-loop (λ c. search needs) (λ c. search needs) loop-holds (λ c κs. search needs) (λ c. search needs) returns
-    (λ c. search needs) (λ c. search needs) (λ c. search needs) loop-again returns-2)
+    (tie.spec Inv-loop μ-loop (λ c κs. search needs) returns (λ c. search needs) (λ c. search needs) loop-holds (λ c κs. search needs) (λ c. search needs) returns-2
+    (λ c. search needs) (λ c. search needs) (λ c. search needs) loop-again returns-3)
