@@ -84,7 +84,7 @@ def statuses(tally, folder):
         (1, "check shared.net both.sheet", ["t, u take the same (a), but on a place of theirs draws w (a*2)", "each of them stands alone", "core: answer 12 node 1"]),
         (0, "check shared.net x.sheet", ["accepted", "core: answer 0 none 0 nodes 2 arcs 2 awaits 1"]),
         (2, "diff x.net x.sheet torn.sheet", ["torn.sheet:3:1: refused, 11 dead end; it cannot be compared", "core: answer 11"]),
-        (0, "short x.net longer.sheet", ["4 nodes became 2", "# n, o became n", "# core: answer 0 none 0 length 8"]),
+        (0, "short x.net longer.sheet", ["4 nodes became 2", "# n, o became n", "# no accepted sheet that allows the same firings has fewer than 2 nodes", "# core: answer 0 none 0 length 8"]),
         (1, "short x.net torn.sheet", ["11 dead end", "core: answer 11"]),
         (0, "bounds x.net greedy.sheet", ["a 2  at o", "core: answer 0 none 0 out 2 rest 0"]),
         (1, "bounds x.net torn.sheet", ["11 dead end"]),

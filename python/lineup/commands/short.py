@@ -25,6 +25,7 @@ def main(args):
     form, classes = named(net, sheet, answer)
     remarks = [f"the short form of {inline(both.sheet.path)}: {plural(len(sheet.nodes), 'node')} became {len(form.nodes)}"]
     remarks += [f"{', '.join(sheet.nodes[n] for n in nodes)} became {form.nodes[c]}" for c, nodes in enumerate(classes) if len(nodes) > 1]
+    remarks.append(f"no accepted sheet that allows the same firings has fewer than {plural(len(form.nodes), 'node')}")
     report = Report(accepted=True, nodes=len(form.nodes), merged=[[sheet.nodes[n] for n in nodes] for nodes in classes])
     report.data.update(words=answer.written[0], sheet=sheetfile.write(net, form))
     report.quote(answer)
