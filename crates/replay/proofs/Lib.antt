@@ -1,4 +1,5 @@
 -- the log, followed
+pub mod LookUp
 pub mod Logs
 pub mod Following
 -- what it says, and its sums

@@ -4,3 +4,4 @@ pub mod Tests
 pub mod Calls
 pub mod Plain
 pub mod Tally
+pub mod LookUp

@@ -3,6 +3,7 @@ ghost use Rattle.sequential.specs.Petri.{petriNet};
 ghost use Rattle.graph.specs.Readable.{ArcsReadable};
 ghost use Rattle.replay.specs.Calls.{LogFollowed};
 ghost use Rattle.replay.specs.Tally.{LogHolds};
+use super::look_up;
 use call::Index;
 use refusal::Position;
 use refusal::Refusal;
@@ -22,11 +23,25 @@ pub(crate) fn followed(net: &[u32], sheet: &[u32], log: &[u32]) -> Findings
     ensures { λ r. ⌜ LogFollowed (petriNet (now (net .entry))) (now (sheet .entry)) (now (log .entry)) (r .verdict) (r .entry) ⌝ }
 {
     let n = log[0] as usize;
+    let transitions = net::transitions(net);
+    let keys = look_up::first_keys(net, sheet);
+    let starts = look_up::arc_starts(net, sheet, &keys);
+    let mut ranks = [0u16; 32];
     let mut node = 0;
     let mut entry = Index::Missing;
     let mut i = 0;
     while i < n {
-        match graph::arc(net, sheet, node, log[1 + i]) {
+        let logged = log[1 + n + i];
+        match look_up::arc(
+            net,
+            sheet,
+            &keys,
+            &starts,
+            &mut ranks,
+            transitions,
+            node,
+            log[1 + i],
+        ) {
             Found::Nothing => {
                 return Findings {
                     verdict: refusal::refuse(Refusal::NOT_OFFERED, Position::Record(i)),
@@ -34,13 +49,14 @@ pub(crate) fn followed(net: &[u32], sheet: &[u32], log: &[u32]) -> Findings
                 };
             }
             Found::At(e) => {
-                node = graph::value(sheet, e);
-                if log[1 + n + i] != node {
+                if logged != look_up::arc_target(sheet, e) {
                     return Findings {
                         verdict: refusal::refuse(Refusal::WRONG_NODE, Position::Record(i)),
                         entry,
                     };
                 }
+                // the schedule's own node, by the log: the next firing does not wait for the schedule
+                node = logged;
                 entry = Index::Known(e as u32);
                 i += 1;
             }

@@ -1,5 +1,6 @@
 // The replay of a log of firings (§10.10, §10.11): each firing is followed along the arcs, and what they take and put is added up by place.
 mod follow;
+mod look_up;
 mod tally;
 
 ghost use mathlib.Core.Path.{_≡_};

@@ -1,0 +1,37 @@
+-- `replay::look_up::first_keys` meets its contract: the nodes before the counter have their keys.
+use Rattle.scan.proofs.Basics.{ℕ, _-_, _≤_, _<_, arith, _≡_, refl, length, getD, length-set}
+use borrow.Author.Needs.{needs}
+use Rattle.scan.proofs.Tabulate.{stored-more}
+use Rattle.graph.specs.Rows.{arcsStart}
+use Rattle.replay.proofs.look_up.first_keys.Statement.{statement}
+use Rattle.replay.proofs.look_up.first_keys.Tie as tie
+
+abbrev Inv-loop : tie.InvT-loop
+Inv-loop net sheet nodes keys₀ n₀ keys n = (length keys ≡ 128) × (n ≤ nodes) × (nodes ≤ 128) × ((k : ℕ) → k < n → getD keys k 0 ≡ arcsStart net k)
+
+abbrev μ-loop : tie.MeasureT-loop
+μ-loop net sheet nodes keys₀ n₀ keys n = nodes - n
+
+shared-slice-read-nodes : tie.Need-shared-slice-read-nodes Inv-loop μ-loop
+shared-slice-read-nodes c = let s = c .before .before .before .pre .sizes in omega arith
+
+loop-holds : tie.Need-loop-holds Inv-loop μ-loop
+loop-holds c = (refl, omega arith, c .before .before .before .pre .sizes .few-nodes, λ j l. absurd (omega arith))
+
+cast-keys : tie.Need-cast-keys Inv-loop μ-loop
+cast-keys c = omega (arith, c .arcs-start .ensures .1)
+
+loop-again : tie.Need-loop-again Inv-loop μ-loop
+loop-again c =
+    let (a, b, d, f) = c .before .before .loop .inv in
+    let l : c .before .before .loop .n < length (c .before .before .loop .keys) = omega arith in
+    (simp length-set a, omega arith, d, stored-more _ (c .before .before .loop .keys) _ _ f l (c .arcs-start .ensures .0))
+
+returns : tie.Need-returns Inv-loop μ-loop
+returns c = let (a, b, d, f) = c .before .loop .inv in record { key = λ n l. f n (omega arith) }
+
+pub first-keys-spec : {M : Type 1} → statement M
+first-keys-spec =
+    tie.close
+    (tie.spec Inv-loop μ-loop shared-slice-read-nodes loop-holds (λ c κs. search needs) cast-keys (λ c. search needs) (λ c. search needs) (λ c. search needs)
+    (λ c. search needs) (λ c. omega arith) loop-again returns)
