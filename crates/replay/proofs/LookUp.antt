@@ -63,8 +63,8 @@ module _ {net sheet keys starts : List ℕ} {transitions node : ℕ} (w : LooksU
     guess-hit {guess} l m e =
         let k : getD sheet (2 + guess) 0 ≡ node * transitionCount net + t = omega (arith, e, w .keys-are .key node (w .at-node), first-key) in
         let q : arcEntry (petriNet net) sheet node t ≡ some guess =
-            rw (lt-ltb node (nodeCount sheet) (w .at-node), lt-ltb t (transitionCount net) (omega (arith, w .all)))
-            (entry-at sheet 2 (entryCount sheet) (words-rise (petriNet net) sheet (w .readable .holds)) guess _ m k) in
+        rw (lt-ltb node (nodeCount sheet) (w .at-node), lt-ltb t (transitionCount net) (omega (arith, w .all)))
+        (entry-at sheet 2 (entryCount sheet) (words-rise (petriNet net) sheet (w .readable .holds)) guess _ m k) in
         sym (look-up-right net sheet (w .readable) node t ∙ ap foundOf q)
 
     -- ---- what is looked up
@@ -74,8 +74,7 @@ module _ {net sheet keys starts : List ℕ} {transitions node : ℕ} (w : LooksU
     in-row {e} h =
         let (l, k) = entry-key (petriNet net) sheet node t e (arc-found net sheet (w .readable) node t e h) in
         let b = arcs-bound (w .readable) (arcsStart net node) in
-        let q = w .starts-are .start node (w .at-node) in
-        (
+        let q = w .starts-are .start node (w .at-node) in (
           elim (decLt e (getD starts node 0)) [ yes m ↦ absurd (let a = b .below e (omega (arith, q)) in omega (arith, k, first-key)) | no m ↦ omega arith ],
           omega (arith, l, w .readable .sizes .few-entries),
         )

@@ -28,8 +28,7 @@ is-whole-requires c κs =
     let b = c .before .before .before .before in
     let s = b .before .before in
     let h = s .before .before in
-    let r = row-known _ _ _ (h .has-row .ensures) (s .before .if1 .taken) in
-    (
+    let r = row-known _ _ _ (h .has-row .ensures) (s .before .if1 .taken) in (
       record { whole = r .long; few = r .few-entries; low = s .arcs-start .ensures .1; start-is = b .lower-bound .ensures },
       set-from (h .before .before .before .pre) _ (c .before .before .if2 .taken),
     )

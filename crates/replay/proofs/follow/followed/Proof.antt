@@ -22,8 +22,7 @@ cast-n c = omega (arith, c .before .before .before .before .pre .1 .few)
 loop-holds : tie.Need-loop-holds Inv-loop μ-loop
 loop-holds c =
     let k = c .before .before in
-    let (r, h) = k .before .before .before .before .before .before .pre in
-    (
+    let (r, h) = k .before .before .before .before .before .before .pre in (
       sets-out r h,
       record { readable = r; keys-are = k .first-keys .ensures; starts-are = c .arc-starts .ensures; all = k .before .transitions .ensures; at-node = r .sizes .some-node },
       unranked,
