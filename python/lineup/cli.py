@@ -1,12 +1,10 @@
 """The command line: which command, with what; its report as text or JSON; the exit status."""
 import argparse
 import importlib
-import os
-import sys
 
-from lineup import commands, files
+from lineup import commands, files, streams
 from lineup.explain import Disagreement
-from lineup.report import TROUBLE
+from lineup.report import ACCEPTED, TROUBLE
 from lineup.trouble import Trouble, suggestion
 from lineup.visible import inline, quoted, visible
 
@@ -17,6 +15,9 @@ STATUS = "Exit status: 0 accepted or the same, 1 refused or different, 2 trouble
 class Parser(argparse.ArgumentParser):
     def error(self, message):
         raise Trouble(f"{inline(message)} ({self.prog} --help tells the usage)")
+
+    def print_help(self, file=None):
+        streams.write(self.format_help())
 
 
 def parser():
@@ -46,15 +47,17 @@ def run(argv):
     if args.version:
         from lineup import version
 
-        return out(version.told() + "\n")
+        streams.write(version.told() + "\n")
+        return ACCEPTED
     if not args.command:
-        return out(top.format_help()) or TROUBLE
+        top.print_help()
+        return TROUBLE
     report = modules[args.command].main(args)
     text = as_json(report.data) if args.json else "".join(f"{line}\n" for line in report.lines)
     if args.output and not getattr(modules[args.command], "OUTPUT", None):
         files.write(args.output, visible(text))
-    else:
-        out(text)
+    elif text:
+        streams.write(text)
     return report.status
 
 
@@ -64,36 +67,27 @@ def as_json(data):
     return json.dumps(data, indent=2) + "\n"
 
 
-def out(text, stream=None):
-    """All that lineup prints goes out here."""
-    stream = stream or sys.stdout
-    stream.write(visible(text))
-    stream.flush()
-    return 0
-
-
 def told(trouble, argv):
     """A trouble as text, and as JSON too where that was asked for."""
-    out(f"lineup: {trouble}\n", sys.stderr)
+    streams.tell(f"lineup: {trouble}\n")
     if "--json" in argv:
         found = trouble if isinstance(trouble, Trouble) else Trouble(trouble)
-        out(as_json({"trouble": {"message": found.message, "file": found.path, "line": found.line, "column": found.column}}))
+        try:
+            streams.write(as_json({"trouble": {"message": found.message, "file": found.path, "line": found.line, "column": found.column}}))
+        except (Trouble, BrokenPipeError):
+            pass  # the status tells it
     return TROUBLE
 
 
 def main(argv):
-    for stream in (sys.stdout, sys.stderr):
-        stream.reconfigure(errors="backslashreplace", newline="\n")
+    streams.prepare()
     try:
         return run(argv)
     except Trouble as trouble:
         return told(trouble, argv)
     except Disagreement as found:
         return told(f"DISAGREEMENT: {found}. The core's answer stands; lineup has misread something and says no more. Please report this.", argv)
-    except BrokenPipeError:
-        os.dup2(os.open(os.devnull, os.O_WRONLY), sys.stdout.fileno())  # else Python tells of the pipe again when it ends
-        return TROUBLE
-    except KeyboardInterrupt:
+    except (BrokenPipeError, KeyboardInterrupt):
         return TROUBLE
     except Exception:  # a defect must not end as status 1, which says `refused`
         import traceback

@@ -1,10 +1,9 @@
 """Where the product lies, and its programs, built where they are missing or older than their source."""
 import os
 import subprocess
-import sys
 
+from lineup import streams
 from lineup.trouble import Trouble
-from lineup.visible import visible
 
 HOME = os.path.dirname(os.path.dirname(os.path.dirname(os.path.abspath(__file__))))
 
@@ -31,7 +30,7 @@ def newest_source():
 
 def build(name, path):
     """Proves and builds a program, as ./run does."""
-    print(f"lineup: proving and building {name}; from nothing this takes some minutes", file=sys.stderr, flush=True)
+    streams.tell(f"lineup: proving and building {name}; from nothing this takes some minutes\n")
     if not os.access(path, os.X_OK):
         forget(os.path.join(HOME, "target", "stamp", name))
     try:
@@ -40,7 +39,7 @@ def build(name, path):
         ) as prover:
             for line in prover.stdout:
                 if line.startswith("rt: "):
-                    print(visible(line), end="", file=sys.stderr, flush=True)
+                    streams.tell(line)
     except FileNotFoundError:
         raise Trouble(f"{name} is not built, and rt, the Rattle kit, is not on the path") from None
     if prover.returncode != 0 or not os.access(path, os.X_OK):

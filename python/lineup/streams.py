@@ -1,0 +1,54 @@
+"""Standard output and standard error, neither of which is taken for granted: one may be closed, full or broken."""
+import os
+import sys
+
+from lineup.trouble import Trouble
+from lineup.visible import visible
+
+NAMES = {"stdout": "standard output", "stderr": "standard error"}
+
+
+def prepare():
+    """What is closed is held by a folder, which nobody can write to: a file that is opened later must not be taken for a stream."""
+    for number in range(3):
+        try:
+            os.fstat(number)
+        except OSError:
+            os.open("/", os.O_RDONLY)  # takes the lowest number that is free
+    for name in NAMES:
+        if getattr(sys, name):
+            getattr(sys, name).reconfigure(errors="backslashreplace", newline="\n")
+
+
+def write(text, name="stdout"):
+    """All that lineup prints goes out here. A pipe that nobody reads any more is the caller's to know of."""
+    stream = getattr(sys, name)
+    if not stream:
+        raise Trouble(f"{NAMES[name]} cannot be written: it is closed")
+    try:
+        stream.write(visible(text))
+        stream.flush()
+    except BrokenPipeError:
+        drop(stream)
+        raise
+    except OSError as error:
+        drop(stream)
+        raise Trouble(f"{NAMES[name]} cannot be written: {(error.strerror or str(error)).lower()}") from None
+
+
+def tell(text):
+    """To standard error, where that can be written; for what has nowhere else to go."""
+    try:
+        write(text, "stderr")
+    except (Trouble, BrokenPipeError):
+        pass
+
+
+def drop(stream):
+    """What could not be written is given up, or else Python tries again when it ends and makes a status of its own of it."""
+    try:
+        nowhere = os.open(os.devnull, os.O_WRONLY)
+        os.dup2(nowhere, stream.fileno())
+        os.close(nowhere)
+    except (OSError, ValueError):
+        pass
