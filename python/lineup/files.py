@@ -66,6 +66,13 @@ def write(path, data):
         raise Trouble("cannot be written: " + reason(error), path) from None
 
 
+def remove(path):
+    try:
+        os.unlink(path)
+    except OSError as error:
+        raise Trouble("cannot be removed: " + reason(error), path) from None
+
+
 def umask():
     """The mask for new files, which can only be read by setting it."""
     mask = os.umask(0)

@@ -2,10 +2,10 @@
 import os
 import re
 
-from lineup import faults, files, logfile, names, netfile, reacting, sheetfile, timesfile, wordfile, words
+from lineup import faults, files, logfile, names, netfile, reacting, sheetfile, streams, timesfile, wordfile, words
 from lineup.match import mapped
 from lineup.trouble import Trouble
-from lineup.visible import quoted
+from lineup.visible import inline, quoted
 
 FORMS = {".bin": "bytes", ".txt": "decimal words", ".pnml": "PNML", ".net": "text", ".sheet": "text", ".log": "text", ".times": "text"}
 REMARKS = re.compile(rb"(?:\xef\xbb\xbf)?\s*(?:#[^\n]*\n\s*)*")
@@ -52,11 +52,12 @@ def form_of(path, data):
 
 
 def in_folder(folder, name):
-    """A folder's binary words, or else its decimal ones."""
-    for suffix in (".bin", ".txt"):
-        path = os.path.join(folder, name + suffix)
-        if os.path.exists(path):
-            return path
+    """A folder's binary words, or else its decimal ones. Where both are there, one may be older, so that it is told which is used."""
+    found = [path for path in (os.path.join(folder, name + suffix) for suffix in (".bin", ".txt")) if os.path.exists(path)]
+    if len(found) == 2:
+        streams.note(f"{inline(folder)} has both {name}.bin and {name}.txt: {name}.bin is used")
+    if found:
+        return found[0]
     texts = sorted(other for other in os.listdir(folder) if other.endswith(f".{name}"))
     instead = f"; {quoted(texts[0])} is a text, and is named itself" if texts else ""
     raise Trouble(f"the folder has no {name}.bin and no {name}.txt{instead}", folder)

@@ -6,10 +6,12 @@ from lineup.trouble import Trouble
 from lineup.visible import visible
 
 NAMES = {"stdout": "standard output", "stderr": "standard error"}
+noted = set()  # what this command has remarked on
 
 
 def prepare():
     """What is closed is held by a folder, which nobody can write to: a file that is opened later must not be taken for a stream."""
+    noted.clear()
     for number in range(3):
         try:
             os.fstat(number)
@@ -34,6 +36,13 @@ def write(text, name="stdout"):
     except OSError as error:
         drop(stream)
         raise Trouble(f"{NAMES[name]} cannot be written: {(error.strerror or str(error)).lower()}") from None
+
+
+def note(text):
+    """A remark on what is read, a line of standard error, once: without it the verdict may be about something else than was meant, so that it has to be told."""
+    if text not in noted:
+        noted.add(text)
+        write(f"lineup: {text}\n", "stderr")
 
 
 def tell(text):

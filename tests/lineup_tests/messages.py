@@ -202,6 +202,7 @@ def in_files(tally, folder):
     expect(tally, "bytes of durations", lambda: inputs.durations(path("a.bin"), both[0]), "", ["5 bytes are no whole words of four bytes: 1 over"])
     expect(tally, "no durations", lambda: inputs.durations(path("bare"), both[0]), "", ["the folder has no times.bin and no times.txt"])
     expect(tally, "a place to write", lambda: files.write(path("no/such/file"), "x"), "", ["cannot be written: no such file or directory"])
+    expect(tally, "a file to remove", lambda: files.remove(path("no/such/file")), "", ["cannot be removed: no such file or directory"])
     for i, (text, where, parts) in enumerate(NAMES):
         path(f"names{i}/net.txt", "1 1 0")
         path(f"names{i}/names.txt", text)

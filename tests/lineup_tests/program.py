@@ -161,6 +161,7 @@ def outputs(tally, folder):
     lineup(folder, "words", "x.net", "x.sheet", "--binary", "-o", "b")
     tally.same("words --binary", read(folder, "b/sheet.bin", "rb"), struct.pack("<8I", 2, 3, 0, 3, 5, 1, 0, 1))
     tally.same("words --binary, read again", lineup(folder, "check", "b")[1].replace("b/sheet.bin", "x.sheet"), shown[1])
+    forms(tally, folder)
     lineup(folder, "names", "b", "-o", "again.net")
     tally.same("names -o", (read(folder, "again.net"), read(folder, "again.sheet")), ("pl a\ntr s    -> a\ntr u  a ->\n", "n:\n  s -> m\nm:  a\n  u -> n\n"))
     lineup(folder, "names", "x.net", "--pnml", "-o", "again")
@@ -172,6 +173,26 @@ def outputs(tally, folder):
         tally.holds("draw -o a.png without graphviz", lineup(folder, "draw", "x.net", "-o", "a.png")[2], "needs graphviz")
     refused = lineup(folder, "draw", "x.net", "torn.sheet", "-o", "torn.svg")
     tally.same("a refused sheet is drawn", (refused[0], "refused, 11 dead end" in read(folder, "torn.svg")), (1, True))
+
+
+def forms(tally, folder):
+    """Words are written over those of the other form, which are removed; where both are there, it is told which is used."""
+    lineup(folder, "words", "x.net", "torn.sheet", "--binary", "-o", "f")
+    found = lineup(folder, "words", "x.net", "x.sheet", "-o", "f")
+    tally.same("words over older ones of bytes", (found, sorted(os.listdir(os.path.join(folder, "f")))), ((0, "".join(
+        [f"written: f/{name}.txt\n" for name in ("net", "sheet", "names")] + [f"removed: f/{name}.bin\n" for name in ("net", "sheet")]), ""), ["names.txt", "net.txt", "sheet.txt"]))
+    tally.same("and they are judged", lineup(folder, "check", "f")[0], 0)
+    found = json.loads(lineup(folder, "words", "x.net", "--binary", "-o", "f", "--json")[1])
+    tally.same("a net alone replaces a net alone", (found["removed"], sorted(os.listdir(os.path.join(folder, "f")))), (["f/net.txt"], ["names.txt", "net.bin", "sheet.txt"]))
+    save(folder, "f/sheet.bin", struct.pack("<6I", 2, 2, 0, 5, 1, 1))
+    for command in ("check f", "check x.net f", "diff f f f"):
+        found = lineup(folder, *command.split())
+        tally.same(f"{command} with both forms", (found[0], found[2]), (2 if "diff" in command else 1, "lineup: f has both sheet.bin and sheet.txt: sheet.bin is used\n"))
+        tally.holds(f"{command} with both forms, the one used", found[1], "f/sheet.bin: refused, 11 dead end")
+    save(folder, "f/net.txt", "1 2 2 1 2 1 1")
+    tally.same("both forms of both", lineup(folder, "short", "f")[2], "".join(f"lineup: f has both {name}.bin and {name}.txt: {name}.bin is used\n" for name in ("net", "sheet")))
+    os.makedirs(os.path.join(folder, "g", "net.bin"))
+    tally.same("a folder in the way", lineup(folder, "words", "x.net", "-o", "g")[::2], (2, "lineup: g/net.bin: cannot be removed: is a directory\n"))
 
 
 def read(folder, name, mode="r"):

@@ -10,7 +10,7 @@ from lineup.wordfile import packed
 
 SUMMARY = "write a net, and a sheet, as words for ./run and the core"
 EXAMPLE = "lineup words samples/jetty/jetty.net samples/jetty/may.sheet -o jetty-words"
-OUTPUT = "write net.txt, sheet.txt and names.txt into the folder FILE, which is made if it is missing"
+OUTPUT = "write net.txt, sheet.txt and names.txt into the folder FILE, which is made if it is missing; the same in the other form is removed there"
 
 
 def arguments(parser):
@@ -36,7 +36,18 @@ def main(args):
         files.write(path, data)
         report.say(f"written: {inline(path)}")
     report.data["written"] = [os.path.join(args.output, name) for name in written]
+    report.data["removed"] = older(args.output, written)
+    for path in report.data["removed"]:
+        files.remove(path)
+        report.say(f"removed: {inline(path)}")
     return report
+
+
+def older(output, written):
+    """The files of the folder that have in the other form what is written: left there, they would be read instead, or doubted."""
+    other = {".txt": ".bin", ".bin": ".txt"}
+    paths = [os.path.join(output, stem + other[suffix]) for stem, suffix in map(os.path.splitext, written) if stem != "names"]
+    return [path for path in paths if os.path.lexists(path)]
 
 
 def file_contents(both, binary):
