@@ -20,7 +20,8 @@ def net_fault(answer, net):
         return net.locate_word(NET_HEAD + i), key_order(net, NET_HEAD, i, limit, lambda i: net_said(net, i))
     weight = net.words[NET_HEAD + net.words[NET_HEAD - 1] + i]
     where = net.locate_word(NET_HEAD + net.words[NET_HEAD - 1] + i) or net.locate(net_about(net, i))
-    return where, [f"{net_said(net, i, weight)}, and a weight is 1 to {WEIGHT:,}" + placed(net, NET_HEAD, i)]
+    said = f"{net_said(net, i, weight)}, and a weight is 1 to {WEIGHT:,}" + placed(net, NET_HEAD, i)
+    return where, [said, *shut(net, net_about(net, i), weight)]
 
 
 def sheet_fault(answer, net, sheet):
@@ -133,6 +134,15 @@ def net_said(net, index, weight=None):
         return f"{place} can hold" + ("" if weight is None else f" at most {weight}")
     transition = net.model.transitions[what[1]] if net.model else net.names.one("transition", what[1])
     return f"{transition} takes{many} from {place}" if what[0] == "taken" else f"{transition} puts{many} into {place}"
+
+
+def shut(net, what, weight):
+    """A capacity of 0 is meant to keep a place empty, and leaving it out would do the opposite."""
+    if what[0] != "capacity" or weight != 0 or not net.model:
+        return []
+    place, putting = net.model.places[what[1]], [t for t, put in enumerate(net.model.put) if put.get(what[1])]
+    now = f"; now {net.model.listed(putting)} {'puts' if len(putting) == 1 else 'put'} into it" if putting else ", as none does now"
+    return [f"without a capacity {place} can hold any number; to keep it empty, let no transition put into it{now}"]
 
 
 def sheet_said(net, sheet, index, value=None):

@@ -26,7 +26,7 @@ REFUSALS = {
     4: Refusal(
         "net weight",
         "A transition takes or puts, or a place starts with or can hold, 0 or more than 1,000,000,000.",
-        "Leave out what is 0; count in a larger unit what is too much.",
+        "Leave out what is 0, but for a capacity: a place without one can hold any number, and one that shall stay empty is a place that no transition puts into. Count in a larger unit what is too much.",
     ),
     5: Refusal(
         "no source",

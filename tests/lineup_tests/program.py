@@ -33,11 +33,13 @@ CAPPED = "pl a <= 1\ntr s -> a\ntr u a ->\n"
 BACK = "pl a <= 1\ntr s -> a\ntr b a -> a\ntr u a ->\n"
 BACKS = "n:\n  s -> m\nm:\n  b -> m\n  u -> n\n"
 FULL = "n:\n  s -> m\nm: a\n  b -> m\n  u -> n\n"
+SHUT = "pl a <= 0\npl b <= 0\ntr s -> b\ntr u b ->\ntr v b -> b a*0\n"
 OVER = "pl a (2) <= 1\ntr s -> a\ntr u a ->\n"
 FILES = {
     "x.net": NET, "x.sheet": SHEET, "longer.sheet": LONGER, "greedy.sheet": GREEDY, "torn.sheet": TORN, "shared.net": SHARED, "both.sheet": BOTH, "x.log": LOG,
     "arrows.sheet": ARROWS, "stale.sheet": STALE, "hoard.sheet": HOARD, "starved.sheet": STARVED,
     "two.net": TWO, "other.sheet": OTHER, "left.sheet": LEFT, "capped.net": CAPPED, "back.net": BACK, "back.sheet": BACKS, "full.sheet": FULL, "over.net": OVER,
+    "shut.net": SHUT.replace(" a*0", "").replace("b <= 0", "b"), "shut2.net": SHUT.replace("a <= 0", "a").replace(" a*0", ""), "none.net": SHUT.replace(" <= 0", ""),
 }
 
 
@@ -123,6 +125,9 @@ def statuses(tally, folder):
         (1, "mend back.net back.sheet", ["back.sheet:4:3: refused, 25 no counts fit", "node m, b -> m: a: 1 + 1 = 2, but it can hold at most 1; what b takes there, 1, makes no room"]),
         (1, "mend over.net arrows.sheet", ["over.net:1:13: refused, 26 overfull start", "a starts with 2, and can hold at most 1", "core: answer 26 place 0 length 0 list 0"]),
         (1, "check over.net", ["over.net:1:13: refused, 26 overfull start", "core: answer 26 place 0"]),
+        (1, "check shut.net", ["shut.net:1:9: refused, 4 net weight", "a can hold at most 0, and a weight is 1 to", "without a capacity a can hold any number; to keep it empty, let no transition put into it, as none does now", "leave out what is 0, but for a capacity"]),
+        (1, "check shut2.net x.sheet", ["shut2.net:2:9: refused, 4 net weight", "without a capacity b can hold any number; to keep it empty, let no transition put into it; now s, v put into it", "core: answer 4 entry 4"]),
+        (1, "check none.net", ["none.net:5:13: refused, 4 net weight\n  v puts 0 into a, and a weight is 1 to 1,000,000,000\n  to do: "]),
         (0, "words capped.net x.sheet", ["net 1 2 3 1 2 5 1 1 1", "sheet 2 3 0 3 5 1 0 1"]),
         (0, "names capped.net", ["pl a <= 1"]),
         (0, "names capped.net --pnml", ["<capacity><text>1</text></capacity>"]),
