@@ -23,6 +23,8 @@ def shape(log):
     """Another length, or more firings than there may be."""
     words = log.words
     if not words:
+        if not log.is_words():
+            return None, ["there is no firing, and no line 'log NAME', by which a log without firings says so"]
         return None, ["there is no word, and a log begins with the number of its firings"]
     many = words[0]
     if many > FIRINGS:

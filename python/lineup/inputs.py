@@ -150,7 +150,7 @@ def log(path, net_source, sheet_source):
         raise Trouble("PNML is for nets, and a log is expected", source.path)
     if not source.is_words() and net_source.model and sheet_source.model:
         source.model = logfile.read(source.path, files.text(source.path, source.data), net_source.model, sheet_source.model)
-        source.words = words.log_words(source.model)
+        source.words = words.log_words(source.model) if source.model.told() else []
     elif source.is_words() and not faults.log_shape(source.words):
         many = source.words[0]
         source.model = logfile.Log(source.words[1 : 1 + many], source.words[1 + many :])

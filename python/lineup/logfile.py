@@ -11,6 +11,10 @@ class Log:
         self.firings, self.nodes = list(firings), list(nodes)
         self.where = {}
 
+    def told(self):
+        """Whether the text says anything: a log without firings says so by its name, and an empty file is none."""
+        return bool(self.firings or self.name is not None)
+
 
 def read(path, text, net, sheet):
     """The log of a text, over a net and a sheet."""
@@ -33,8 +37,9 @@ def read(path, text, net, sheet):
 
 
 def write(net, sheet, log):
-    """The log as text."""
-    lines = [f"log {written(log.name)}"] if log.name else []
+    """The log as text, which has to say something."""
+    name = log.name or (None if log.firings else "empty")
+    lines = [f"log {written(name)}"] if name else []
     names = [written(net.transitions[t]) for t in log.firings]
     wide = max(map(len, names), default=0)
     lines += [f"{name:{wide}} -> {written(sheet.nodes[n])}" for name, n in zip(names, log.nodes)]

@@ -299,10 +299,27 @@ def word_logs(tally, folder, net, sheet):
         found = lineup(folder, "replay", "logged", "logged/log.txt")
         tally.same(f"log {log!r}: status", (found[0], found[2]), (status, ""))
         tally.holds(f"log {log!r}", found[1], *parts)
+    empty_logs(tally, folder)
     save(folder, "logged/log.bin", struct.pack("<3I", 1, 0, 1))
     tally.holds("a log of bytes", lineup(folder, "replay", "logged", "logged")[1], "logged/log.bin: 1 firing from node n0 to node n1")
     save(folder, "long.bin", struct.pack("<9000I", 4500, *[0] * 8999))
     tally.holds("a log that is too long", lineup(folder, "replay", "logged", "long.bin")[1], "the log has 4500 firings, and may have 4,096")
+
+
+def empty_logs(tally, folder):
+    """A file that says nothing is no log, in whatever form: it may have been cut short before its first line."""
+    cases = {"x.log": "there is no firing, and no line 'log NAME'", "nothing": "there is no firing, and no line 'log NAME'", "log.txt": "there is no word", "log.bin": "there is no word"}
+    for name, part in cases.items():
+        for text in ("", "\n  \n") + (("# of May\n",) if not name.endswith(".bin") else ()):
+            save(folder, f"empty/{name}", text if not name.endswith(".bin") else "")
+            found = lineup(folder, "replay", "x.net", "x.sheet", f"empty/{name}")
+            tally.same(f"an empty {name} {text!r}: status", (found[0], found[2]), (1, ""))
+            tally.holds(f"an empty {name} {text!r}", found[1], f"empty/{name}: refused, 23 no record", part, "core: answer 23 none 0 taken 0 put 0 entry 0")
+    for text in ("log may\n", "# of May\nlog may"):
+        save(folder, "empty/x.log", text)
+        found = lineup(folder, "replay", "x.net", "x.sheet", "empty/x.log")
+        tally.same(f"a log without firings, {text!r}: status", (found[0], found[2]), (0, ""))
+        tally.holds(f"a log without firings, {text!r}", found[1], "empty/x.log: 0 firings from node n to node n", "core: answer 0 none 0 taken 0 put 0 entry 0")
 
 
 def turned(data):

@@ -36,7 +36,7 @@ def logs(tally):
             continue
         if i % 2:
             rename(net.model, sheet.model)
-        log.model.name = random.choice([None, "may", "a log"])
+        log.model.name = random.choice([None, "may", "a log"] if log.model.firings else ["may", "a log"])
         text = logfile.write(net.model, sheet.model, log.model)
         again = logfile.read("again.log", text, net.model, sheet.model)
         tally.same(f"log {i}: text to words", (words.log_words(again), again.name), (log.words, log.model.name))
