@@ -2,7 +2,7 @@
 import argparse
 import importlib
 
-from lineup import commands, files, streams
+from lineup import commands, outputs, streams
 from lineup.explain import Disagreement
 from lineup.report import ACCEPTED, TROUBLE
 from lineup.trouble import Trouble, suggestion
@@ -34,6 +34,7 @@ def parser():
         part = parts.add_parser(name, help=module.SUMMARY, description=about[0].upper() + about[1:], epilog=epilog, **plain)
         module.arguments(part)
         part.add_argument("-o", dest="output", metavar="FILE", help=getattr(module, "OUTPUT", "write to FILE instead of standard output"))
+        part.add_argument("--force", action="store_true", help="with -o: write over a file that is there and that lineup did not write, or somebody has changed since")
         part.add_argument("--json", action="store_true", help="write the result as JSON")
     return top, modules
 
@@ -52,10 +53,11 @@ def run(argv):
     if not args.command:
         top.print_help()
         return TROUBLE
+    outputs.begin(args.force)
     report = modules[args.command].main(args)
     text = as_json(report.data) if args.json else "".join(f"{line}\n" for line in report.lines)
     if args.output and not getattr(modules[args.command], "OUTPUT", None):
-        files.write(args.output, visible(text))
+        outputs.write(args.output, visible(text))
     elif text:
         streams.write(text)
     return report.status

@@ -5,12 +5,14 @@ import tempfile
 from lineup.trouble import Trouble, suggestion
 
 LARGEST = 8_000_000  # far above the largest net or sheet in any form
+seen = set()  # the files that the command has read
 
 
 def read(path):
     """The bytes of a file."""
     try:
         with open(path, "rb") as file:
+            seen.add(identity(os.fstat(file.fileno())))
             data = file.read(LARGEST + 1)
     except FileNotFoundError:
         raise Trouble("no such file" + neighbour(path), path) from None
@@ -19,6 +21,11 @@ def read(path):
     if len(data) > LARGEST:
         raise Trouble(f"longer than {LARGEST:,} bytes: this is no net and no sheet", path)
     return data
+
+
+def identity(status):
+    """The same for every name of a file."""
+    return status.st_dev, status.st_ino
 
 
 def reason(error):

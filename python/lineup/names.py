@@ -17,10 +17,10 @@ class Names:
         self.path, self.lines = None, {}
 
     def read(self, path):
-        """Takes in a file of lines `place NUMBER NAME`, `transition NUMBER NAME` and `node NUMBER NAME`."""
+        """Takes in a file of lines `place NUMBER NAME`, `transition NUMBER NAME` and `node NUMBER NAME`; a line with # in front is a remark."""
         self.path = path
         for at, line in enumerate(files.text(path, files.read(path)).split("\n"), 1):
-            if line.strip():
+            if line.strip() and not line.lstrip().startswith("#"):
                 self.line(at, line)
         return self
 

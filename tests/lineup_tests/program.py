@@ -35,6 +35,7 @@ BACKS = "n:\n  s -> m\nm:\n  b -> m\n  u -> n\n"
 FULL = "n:\n  s -> m\nm: a\n  b -> m\n  u -> n\n"
 SHUT = "pl a <= 0\npl b <= 0\ntr s -> b\ntr u b ->\ntr v b -> b a*0\n"
 OVER = "pl a (2) <= 1\ntr s -> a\ntr u a ->\n"
+SHORT = "n:\n  s -> m\nm:  a\n  u -> n\n# written by lineup, fda111e3\n"
 FILES = {
     "x.net": NET, "x.sheet": SHEET, "longer.sheet": LONGER, "greedy.sheet": GREEDY, "torn.sheet": TORN, "shared.net": SHARED, "both.sheet": BOTH, "x.log": LOG,
     "arrows.sheet": ARROWS, "stale.sheet": STALE, "hoard.sheet": HOARD, "starved.sheet": STARVED,
@@ -152,14 +153,14 @@ def outputs(tally, folder):
     tally.same("check -o", lineup(folder, "check", "x.net", "x.sheet", "-o", "report.txt"), (0, "", ""))
     tally.same("check -o, the file", read(folder, "report.txt"), shown[1])
     lineup(folder, "short", "x.net", "longer.sheet", "-o", "short.sheet")
-    tally.same("short -o", read(folder, "short.sheet"), "n:\n  s -> m\nm:  a\n  u -> n\n")
+    tally.same("short -o", read(folder, "short.sheet"), SHORT)
     tally.holds("mend -o, what is told", lineup(folder, "mend", "x.net", "arrows.sheet", "-o", "mended.sheet")[1], "  arrows.sheet:3:1: node m holds a\n", "written: mended.sheet\n")
-    tally.same("mend -o", read(folder, "mended.sheet"), "n:\n  s -> m\nm:  a\n  u -> n\n")
+    tally.same("mend -o", read(folder, "mended.sheet"), SHORT)
     tally.same("mend -o, a refused one", (lineup(folder, "mend", "x.net", "hoard.sheet", "-o", "none.sheet")[0], os.path.exists(os.path.join(folder, "none.sheet"))), (1, False))
     tally.holds("compose -o, what is told", lineup(folder, "compose", "two.net", "x.sheet", "other.sheet", "-o", "composed.sheet")[1], "  for s: x.sheet, 2 nodes\n", "written: composed.sheet\n")
     tally.holds("compose -o", lineup(folder, "check", "two.net", "composed.sheet")[1], "composed.sheet: accepted", "answer 0 none 0 nodes 3 arcs 4 awaits 1")
     tally.holds("trim -o, what is told", lineup(folder, "trim", "x.net", "left.sheet", "-o", "trimmed.sheet")[1], "  left.sheet:3:1: node o is dropped\n", "written: trimmed.sheet\n")
-    tally.same("trim -o", read(folder, "trimmed.sheet"), "n:\n  s -> m\nm:  a\n  u -> n\n")
+    tally.same("trim -o", read(folder, "trimmed.sheet"), SHORT)
     tally.same("words -o", lineup(folder, "words", "x.net", "x.sheet", "-o", "w/x")[0], 0)
     tally.same("words -o, the files", sorted(os.listdir(os.path.join(folder, "w", "x"))), ["names.txt", "net.txt", "sheet.txt"])
     tally.same("words -o, read again", lineup(folder, "words", "w/x")[1], lineup(folder, "words", "x.net", "x.sheet")[1])
@@ -168,7 +169,7 @@ def outputs(tally, folder):
     tally.same("words --binary, read again", lineup(folder, "check", "b")[1].replace("b/sheet.bin", "x.sheet"), shown[1])
     forms(tally, folder)
     lineup(folder, "names", "b", "-o", "again.net")
-    tally.same("names -o", (read(folder, "again.net"), read(folder, "again.sheet")), ("pl a\ntr s    -> a\ntr u  a ->\n", "n:\n  s -> m\nm:  a\n  u -> n\n"))
+    tally.same("names -o", (read(folder, "again.net"), read(folder, "again.sheet")), ("pl a\ntr s    -> a\ntr u  a ->\n# written by lineup, 2cfbf3ce\n", SHORT))
     lineup(folder, "names", "x.net", "--pnml", "-o", "again")
     tally.same("PNML, read again", lineup(folder, "words", "again.pnml")[1], lineup(folder, "words", "x.net")[1])
     for name, first in (("a.svg", "<svg "), ("a.dot", "digraph")) + ((("a.png", "\x89PNG"), ("a.pdf", "%PDF")) if shutil.which("dot") else ()):
@@ -433,6 +434,8 @@ def disagreements(tally, folder):
 
 def usage(tally, folder):
     """Help with an example that works, for each command; the manual page has every command and option."""
+    folder = os.path.join(folder, "usage")  # the examples have files of their own
+    os.makedirs(folder)
     os.symlink(os.path.join(HOME, "samples"), os.path.join(folder, "samples"))
     with open(os.path.join(HOME, "docs", "lineup.1"), encoding="utf-8") as file:
         page = file.read().replace("\\-", "-")

@@ -1,5 +1,5 @@
 """lineup compose: one sheet of a net from a sheet for each of its sources, each written as if the others were not there."""
-from lineup import composing, core, explain_composing, faults, files, inputs, pair, sheetfile, words
+from lineup import composing, core, explain_composing, faults, inputs, outputs, pair, sheetfile, words
 from lineup.explain import Disagreement, Explanation
 from lineup.report import Report, plural, refused
 from lineup.visible import inline
@@ -71,7 +71,7 @@ def made(net, tasks, answer, output):
     remarks += [f"for {net.transitions[task.source]}: {inline(task.sheet.path)}, {plural(len(task.sheet.model.nodes), 'node')}" for task in tasks]
     report.quote(answer)
     if output:
-        files.write(output, sheetfile.write(net, sheet))
+        outputs.write(output, outputs.marked(sheetfile.write(net, sheet)))
         report.lines = [remarks[0], *(f"  {line}" for line in remarks[1:]), *report.lines, f"written: {inline(output)}"]
     else:
         report.lines = sheetfile.write(net, sheet, [*remarks, *(line.strip() for line in report.lines)]).splitlines()

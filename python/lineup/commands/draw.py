@@ -4,7 +4,7 @@ import shutil
 import subprocess
 from textwrap import wrap
 
-from lineup import core, dot, files, picture, svg
+from lineup import core, dot, outputs, picture, svg
 from lineup.explain import explain
 from lineup.pair import readable
 from lineup.report import REFUSED, Report
@@ -67,11 +67,11 @@ def write(path, drawn, text, graphviz):
     """By the suffix. SVG is laid out here, so that it is the same everywhere, unless graphviz is asked for."""
     kind = os.path.splitext(path)[1].lower()
     if kind in (".dot", ".gv"):
-        files.write(path, text)
+        outputs.write(path, text)
     elif kind == ".svg" and not graphviz:
-        files.write(path, svg.write(drawn))
+        outputs.write(path, svg.write(drawn))
     elif kind in (".svg", ".png", ".pdf"):
-        files.write(path, laid_out(text, kind[1:]))
+        outputs.write(path, laid_out(text, kind[1:]))
     else:
         raise Trouble("the suffix tells the form, and has to be .dot, .svg, .png or .pdf", path)
 

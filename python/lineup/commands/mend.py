@@ -1,5 +1,5 @@
 """lineup mend: works out the counts of a sheet from its arrows, by firing from the first node, and tells what changed."""
-from lineup import core, explain, files, mending, pair, sheetfile, words
+from lineup import core, explain, mending, outputs, pair, sheetfile, words
 from lineup.explain import Disagreement
 from lineup.explain_schedule import at_node
 from lineup.report import Report, plural
@@ -30,7 +30,7 @@ def main(args):
     remarks = [f"{inline(both.sheet.path)}: {summary(sheet, changes)}", *told(both, mended, changes), *zeros(net, sheet, mended)]
     report.quote(answer)
     if args.output:
-        files.write(args.output, sheetfile.write(net, mended))
+        outputs.write(args.output, outputs.marked(sheetfile.write(net, mended)))
         report.lines = [remarks[0], *(f"  {line}" for line in remarks[1:]), *report.lines, f"written: {inline(args.output)}"]
     else:
         text = sheetfile.write(net, mended, [*remarks, *(line.strip() for line in report.lines)])

@@ -1,5 +1,5 @@
 """lineup names: nets and sheets, from words or any other form, as text with names."""
-from lineup import files, netfile, pnml, sheetfile
+from lineup import netfile, outputs, pnml, sheetfile
 from lineup.pair import readable
 from lineup.report import Report
 from lineup.visible import inline
@@ -31,7 +31,10 @@ def main(args):
         return report.say(*"\n".join(texts.values()).splitlines())
     stem = next((args.output[: -len(suffix)] for suffix in SUFFIXES if args.output.endswith(suffix)), args.output)
     report.data["written"] = [stem + suffix for suffix in texts]
-    for suffix, text in texts.items():
-        files.write(stem + suffix, text)
-        report.say(f"written: {inline(stem + suffix)}")
+    texts = {stem + suffix: outputs.marked(text, "<!-- {} -->" if args.pnml else "# {}") for suffix, text in texts.items()}
+    for path in texts:
+        outputs.allowed(path, "marked")
+    for path, text in texts.items():
+        outputs.write(path, text)
+        report.say(f"written: {inline(path)}")
     return report

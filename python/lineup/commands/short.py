@@ -1,5 +1,5 @@
 """lineup short: the short form of a sheet, in which nodes that hold the same and allow the same firings are one, as a sheet again."""
-from lineup import core, explain, files, names, pair, sheetfile, words
+from lineup import core, explain, names, outputs, pair, sheetfile, words
 from lineup.compare import merged
 from lineup.explain import Disagreement
 from lineup.report import Report, plural
@@ -30,7 +30,7 @@ def main(args):
     report.data.update(words=answer.written[0], sheet=sheetfile.write(net, form))
     report.quote(answer)
     if args.output:
-        files.write(args.output, sheetfile.write(net, form))
+        outputs.write(args.output, outputs.marked(sheetfile.write(net, form)))
         report.lines = [*remarks, *report.lines, f"written: {inline(args.output)}"]
     else:
         text = sheetfile.write(net, form, [*remarks, *(line.strip() for line in report.lines)])

@@ -1,7 +1,7 @@
 """lineup times: tells how long it takes from each node that waits, and each source there, to the next node that waits, at best and at worst."""
 import os
 
-from lineup import bars, core, explain, files, inputs, pair
+from lineup import bars, core, explain, inputs, outputs, pair
 from lineup.explain import Disagreement
 from lineup.reacting import Reactions
 from lineup.report import Report, plural
@@ -59,7 +59,7 @@ def told(both, times, answer, output):
 def draw(path, net, sheet, found, answer, times):
     rows = [(f"{sheet.nodes[n]}, {net.transitions[t]}", best.seconds, worst.seconds) for n, t, best, worst in found]
     caption = ["dark: at best; light: at worst; seconds from the source to the next node that waits", f"core: {answer.line}"]
-    files.write(path, bars.write(rows, times.model.name or os.path.basename(times.path), caption))
+    outputs.write(path, bars.write(rows, times.model.name or os.path.basename(times.path), caption))
 
 
 def table(rows):

@@ -1,5 +1,5 @@
 """lineup trim: drops the nodes of a sheet that no arrows reach from the first one, and hands their numbers on."""
-from lineup import core, explain, files, pair, sheetfile, words
+from lineup import core, explain, outputs, pair, sheetfile, words
 from lineup.explain import Disagreement
 from lineup.explain_schedule import at_node
 from lineup.faults import words_fault
@@ -33,7 +33,7 @@ def main(args):
     remarks += [f"{place(both.sheet.path, *(at_node(both.sheet, n) or ()))}node {sheet.nodes[n]} is dropped" for n in dropped]
     report.quote(answer)
     if args.output:
-        files.write(args.output, sheetfile.write(net, trimmed))
+        outputs.write(args.output, outputs.marked(sheetfile.write(net, trimmed)))
         report.lines = [remarks[0], *(f"  {line}" for line in remarks[1:]), *report.lines, f"written: {inline(args.output)}"]
     else:
         text = sheetfile.write(net, trimmed, [*remarks, *(line.strip() for line in report.lines)])

@@ -1,7 +1,7 @@
 """lineup words: nets and sheets as the words that the core reads."""
 import os
 
-from lineup import files, names, wordtext
+from lineup import files, names, outputs, wordtext
 from lineup.pair import readable
 from lineup.report import Report
 from lineup.trouble import Trouble
@@ -31,12 +31,13 @@ def main(args):
         return report.say(*(f"{name} {' '.join(map(str, words))}" for name, words in found.items()))
     written = file_contents(both, args.binary)
     folder(args.output)
-    for name, data in written.items():
-        path = os.path.join(args.output, name)
-        files.write(path, data)
-        report.say(f"written: {inline(path)}")
     report.data["written"] = [os.path.join(args.output, name) for name in written]
     report.data["removed"] = older(args.output, written)
+    for path in report.data["written"] + report.data["removed"]:
+        outputs.allowed(path, "words")
+    for path, data in zip(report.data["written"], written.values()):
+        outputs.write(path, data)
+        report.say(f"written: {inline(path)}")
     for path in report.data["removed"]:
         files.remove(path)
         report.say(f"removed: {inline(path)}")
@@ -56,9 +57,9 @@ def file_contents(both, binary):
         found = {"net.bin": packed(both.net.words)}
         found.update({"sheet.bin": packed(both.sheet.words)} if sheet else {})
     else:
-        found = {"net.txt": wordtext.net_text(net)}
-        found.update({"sheet.txt": wordtext.sheet_text(net, sheet)} if sheet else {})
-    return {**found, "names.txt": names.text(net, sheet)}
+        found = {"net.txt": outputs.marked(wordtext.net_text(net))}
+        found.update({"sheet.txt": outputs.marked(wordtext.sheet_text(net, sheet))} if sheet else {})
+    return {**found, "names.txt": outputs.marked(names.text(net, sheet))}
 
 
 def folder(path):
