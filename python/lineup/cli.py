@@ -35,6 +35,7 @@ def parser():
         module.arguments(part)
         part.add_argument("-o", dest="output", metavar="FILE", help=getattr(module, "OUTPUT", "write to FILE instead of standard output"))
         part.add_argument("--force", action="store_true", help="with -o: write over a file that is there and that lineup did not write, or somebody has changed since")
+        part.add_argument("--strict", action="store_true", help="end with 2 where a remark on what is read would be made, as on a place that has no line of its own though others have")
         part.add_argument("--json", action="store_true", help="write the result as JSON")
     return top, modules
 
@@ -54,6 +55,7 @@ def run(argv):
         top.print_help()
         return TROUBLE
     outputs.begin(args.force)
+    streams.begin(args.strict)
     report = modules[args.command].main(args)
     text = as_json(report.data) if args.json else "".join(f"{line}\n" for line in report.lines)
     if args.output and not getattr(modules[args.command], "OUTPUT", None):

@@ -4,7 +4,7 @@ import re
 
 from lineup import faults, files, logfile, names, netfile, reacting, sheetfile, streams, timesfile, wordfile, words
 from lineup.match import mapped
-from lineup.trouble import Trouble
+from lineup.trouble import Trouble, suggestion
 from lineup.visible import inline, quoted
 
 FORMS = {".bin": "bytes", ".txt": "decimal words", ".pnml": "PNML", ".net": "text", ".sheet": "text", ".log": "text", ".times": "text"}
@@ -55,7 +55,7 @@ def in_folder(folder, name):
     """A folder's binary words, or else its decimal ones. Where both are there, one may be older, so that it is told which is used."""
     found = [path for path in (os.path.join(folder, name + suffix) for suffix in (".bin", ".txt")) if os.path.exists(path)]
     if len(found) == 2:
-        streams.note(f"{inline(folder)} has both {name}.bin and {name}.txt: {name}.bin is used")
+        streams.note(Trouble(f"{inline(folder)} has both {name}.bin and {name}.txt: {name}.bin is used"))
     if found:
         return found[0]
     texts = sorted(other for other in os.listdir(folder) if other.endswith(f".{name}"))
@@ -93,6 +93,7 @@ def net(path):
     source = opened(path, "net", words.NET_WORDS)
     if source.form == "text":
         source.model = netfile.read(source.path, files.text(source.path, source.data))
+        undeclared(source)
     elif source.form == "PNML":
         from lineup import pnml
 
@@ -104,6 +105,15 @@ def net(path):
     if source.model and not source.words:
         source.words = words.net_words(source.model)
     return source
+
+
+def undeclared(source):
+    """A place without a line may be a slip of the pen where others have one."""
+    net = source.model
+    told = [name for p, name in enumerate(net.places) if p not in net.implied]
+    for p in net.implied if told else ():
+        remark = f"place {quoted(net.places[p])} has no 'pl' line, though others have one, and is taken for a new place"
+        streams.note(Trouble(remark + suggestion(net.places[p], told), source.path, *net.where["place", p]))
 
 
 def word_locations(source, head, about):

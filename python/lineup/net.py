@@ -12,6 +12,7 @@ class Net:
         self.places, self.transitions = [], []
         self.taken, self.put, self.start, self.capacity = [], [], {}, {}
         self.where, self.removed = {}, frozenset()
+        self.implied = []  # the places of a text that have no line of their own
 
     def only(self, source):
         """The net for a sheet of one source: the others are removed, but for their numbers. They are no sources and in no choice set."""

@@ -14,7 +14,7 @@ def read(path, text):
     reader = Reader()
     for line in tokens.lines(path, text):
         reader.line(line)
-    return reader.net
+    return reader.finished()
 
 
 class Reader:
@@ -36,6 +36,10 @@ class Reader:
         elif word not in REMARKS:
             line.at = 0
             self.refuse(line, word)
+
+    def finished(self):
+        self.net.implied = [p for p, name in enumerate(self.net.places) if name not in self.told]
+        return self.net
 
     def refuse(self, line, word):
         if word == "sheet" or line.kind(1) in (":", "->"):

@@ -6,12 +6,11 @@ from lineup.trouble import Trouble
 from lineup.visible import visible
 
 NAMES = {"stdout": "standard output", "stderr": "standard error"}
-noted = set()  # what this command has remarked on
+noted, strict = set(), False  # what this command has remarked on, and whether that is trouble
 
 
 def prepare():
     """What is closed is held by a folder, which nobody can write to: a file that is opened later must not be taken for a stream."""
-    noted.clear()
     for number in range(3):
         try:
             os.fstat(number)
@@ -38,11 +37,20 @@ def write(text, name="stdout"):
         raise Trouble(f"{NAMES[name]} cannot be written: {(error.strerror or str(error)).lower()}") from None
 
 
-def note(text):
-    """A remark on what is read, a line of standard error, once: without it the verdict may be about something else than was meant, so that it has to be told."""
-    if text not in noted:
-        noted.add(text)
-        write(f"lineup: {text}\n", "stderr")
+def begin(is_strict):
+    """A command begins: it has remarked on nothing yet."""
+    global strict
+    strict = is_strict
+    noted.clear()
+
+
+def note(remark):
+    """A remark on what is read, a line of standard error, once: the verdict may be about something else than was meant, so that it has to be told."""
+    if strict:
+        raise remark
+    if str(remark) not in noted:
+        noted.add(str(remark))
+        write(f"lineup: {remark}\n", "stderr")
 
 
 def tell(text):

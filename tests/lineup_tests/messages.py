@@ -4,13 +4,13 @@ import os
 import sys
 import tempfile
 
-from lineup import files, inputs, logfile, netfile, pnml, sheetfile, timesfile, trouble, wordfile
+from lineup import files, inputs, logfile, netfile, pnml, sheetfile, streams, timesfile, trouble, wordfile
 from lineup.home import HOME
 from lineup.trouble import Trouble
 
 READERS = ["tokens", "netfile", "sheetfile", "logfile", "timesfile", "wordfile", "names", "xml", "pnml", "files", "inputs", "match"]
 
-NET = "net jetty\npl header (1)\ntr berth -> jetty\ntr line-up jetty header -> line\n"
+NET = "net jetty\npl header (1)\ntr berth -> jetty\ntr line-up jetty header -> line\npl jetty\npl line\n"
 
 # text, line:column, parts of the message
 NETS = [
@@ -208,6 +208,12 @@ def in_files(tally, folder):
         path(f"names{i}/names.txt", text)
         expect(tally, f"names {text!r}", lambda i=i: inputs.net(path(f"names{i}")), where, parts)
     mappings(tally, path)
+    streams.begin(True)
+    path("both/net.txt", "1 1 0")
+    path("both/net.bin", b"")
+    expect(tally, "both forms", lambda: inputs.net(path("both")), "", ["has both net.bin and net.txt: net.bin is used"])
+    expect(tally, "a place without a line", lambda: inputs.net(path("slip.net", "pl tank1\ntr s -> tnak1\n")), "2:9", ["place 'tnak1' has no 'pl' line", "(did you mean 'tank1'?)"])
+    streams.begin(False)
 
 
 def mappings(tally, path):

@@ -53,6 +53,7 @@ def run(tally):
         as_json(tally, folder)
         word_files(tally, folder)
         trouble(tally, folder)
+        slips(tally, folder)
         disagreements(tally, folder)
         usage(tally, folder)
         largest(tally, folder)
@@ -376,6 +377,26 @@ def trouble(tally, folder):
     tally.same("a list that is too long", (long[0], "40,000 together" in long[2]), (2, True))
     hundreds = lineup(folder, "run", "x.net", "x.sheet", *["s", "u"] * 3_000)
     tally.holds("a long list", hundreds[1], "fired 6000 node 0 entry 2")
+
+
+def slips(tally, folder):
+    """A place that only a transition's line names, where others have a line of their own, is remarked on, and trouble with --strict."""
+    said = "has no 'pl' line, though others have one, and is taken for a new place"
+    save(folder, "slip.net", "pl tank1\ntr s -> tnak1\ntr u tank1 ->\ntr v tnak1 -> other\n")
+    save(folder, "late.net", "tr s -> a\ntr u a ->\npl a\n")
+    lines = [f"lineup: slip.net:2:9: place 'tnak1' {said} (did you mean 'tank1'?)\n", f"lineup: slip.net:4:15: place 'other' {said}\n"]
+    found = lineup(folder, "check", "slip.net")
+    tally.same("a slip of the pen", (found[0], found[2]), (0, "".join(lines)))
+    tally.holds("a slip of the pen, as a place", found[1], "3 places: tank1, tnak1, other")
+    tally.same("a slip of the pen, strictly", lineup(folder, "check", "slip.net", "--strict"), (2, "", lines[0]))
+    tally.holds("a slip of the pen, strictly, in JSON", lineup(folder, "check", "slip.net", "--strict", "--json")[1], '"file": "slip.net",\n    "line": 2,\n    "column": 9')
+    for name in ("shared.net", "late.net", "x.net"):
+        for more in ([], ["--strict"]):
+            found = lineup(folder, "check", name, *more)
+            tally.same(f"no slip in {name} {more}", (found[0], found[2]), (0, ""))
+    save(folder, "two forms/net.bin", struct.pack("<7I", 1, 2, 2, 1, 2, 1, 1))
+    save(folder, "two forms/net.txt", "1 2 2 1 2 1 1")
+    tally.same("both forms, strictly", lineup(folder, "check", "two forms", "--strict"), (2, "", "lineup: two forms has both net.bin and net.txt: net.bin is used\n"))
 
 
 def disagreements(tally, folder):
