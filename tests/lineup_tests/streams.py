@@ -1,6 +1,7 @@
 """Streams that are closed, full or broken: what cannot be written is status 2, told in one line where a line can be written, and never a verdict."""
 import os
 import shlex
+import struct
 import subprocess
 import tempfile
 
@@ -17,6 +18,10 @@ def run(tally):
         for name, text in (("x.net", NET), ("x.sheet", SHEET), ("torn.sheet", "n:\n  s -> m\nm: a\n")):
             with open(os.path.join(folder, name), "w", encoding="utf-8") as file:
                 file.write(text)
+        for suffix in ("txt", "bin"):  # of which a remark has to be made
+            os.makedirs(os.path.join(folder, "w"), exist_ok=True)
+            with open(os.path.join(folder, "w", f"net.{suffix}"), "wb") as file:
+                file.write(struct.pack("<7I", 1, 2, 2, 1, 2, 1, 1) if suffix == "bin" else b"1 2 2 1 2 1 1")
         accepted = called(folder, CHECK, "")
         refused = called(folder, REFUSED, "")
         missing = called(folder, MISSING, "")
@@ -27,10 +32,10 @@ def run(tally):
             (CHECK, "<&- >&- 2>&-", (2, "", "")), (REFUSED, ">&-", (2, "", CLOSED)), (REFUSED, "> /dev/full", (2, "", FULL)),
             (MISSING, ">&-", missing), (MISSING, "2>&-", (2, "", "")), (MISSING, "2> /dev/full", (2, "", "")), (f"{MISSING} --json", ">&-", missing), (f"{MISSING} --json", "> /dev/full", missing),
             ("--help", ">&-", (2, "", CLOSED)), ("--help", "> /dev/full", (2, "", FULL)), ("check --help", "> /dev/full", (2, "", FULL)), ("--version", "> /dev/full", (2, "", FULL)),
-            (f"{CHECK} -o report", ">&-", (0, "", "")), (f"{CHECK} -o report", ">&- 2>&-", (0, "", "")), ("words x.net x.sheet -o w", ">&-", (2, "", CLOSED)),
+            (f"{CHECK} -o report", ">&-", (0, "", "")), (f"{CHECK} -o report", ">&- 2>&-", (0, "", "")), ("words x.net x.sheet -o v", ">&-", (2, "", CLOSED)),
             (f"{CHECK} -o /dev/full", "", (2, "", "lineup: /dev/full: cannot be written: no space left on device\n")),
             (f"{CHECK} -o /dev/stdout", ">&-", (2, "", "lineup: /dev/stdout: cannot be written: is a directory\n")),
-            (CHECK, "| true", (2, "", "")), (MISSING, "2>&1 | true", (2, "", "")), (f"{MISSING} --json", "2>&1 | true", (2, "", "")),
+            ("check w", "2>&-", (2, "", "")), ("check w", "2> /dev/full", (2, "", "")), (CHECK, "| true", (2, "", "")), (MISSING, "2>&1 | true", (2, "", "")), (f"{MISSING} --json", "2>&1 | true", (2, "", "")),
         ]
         for command, redirected, should in cases:
             tally.same(f"{command} {redirected}", called(folder, command, redirected), should)
