@@ -35,7 +35,7 @@ apartB = 2 ∷ 3 ∷ 1 ∷ 7 ∷ 11 ∷ 1 ∷ 0 ∷ 1 ∷ []
 abbrev pub apartBoth : List ℕ
 apartBoth = 3 ∷ 6 ∷ 0 ∷ 1 ∷ 6 ∷ 11 ∷ 14 ∷ 17 ∷ 1 ∷ 2 ∷ 0 ∷ 0 ∷ 1 ∷ 1 ∷ []
 
--- document 01's net with the flag F: x takes A and F and puts Q, y takes A, z takes B and F, w takes B
+-- the net of §14.5, whose one flag either task takes for good
 abbrev pub flag : List ℕ
 flag = 4 ∷ 6 ∷ 10 ∷ 8 ∷ 10 ∷ 12 ∷ 17 ∷ 18 ∷ 21 ∷ 24 ∷ 29 ∷ 35 ∷ 50 ∷ 1 ∷ 1 ∷ 1 ∷ 1 ∷ 1 ∷ 1 ∷ 1 ∷ 1 ∷ 1 ∷ 1 ∷ []
 
