@@ -2,7 +2,7 @@
 use Rattle.scan.proofs.Basics.{ℕ, _+_, _-_, _*_, _≤_, _<_, arith, _≡_, refl, sym, ap, _∙_, ⊎-elim, inl, inr, ltb, Option·map, List, [], _∷_, _++_, length, getD}
 use mathlib.Core.Path.{subst, fun-ext}
 use mathlib.Core.Logic.{Iff·rfl}
-use Rattle.scan.proofs.Tests.{byTest, ltb-true}
+use Rattle.scan.proofs.Tests.{byTest, true-false, ltb-true}
 use Rattle.scan.specs.Scan.{first}
 use Rattle.scan.proofs.First.{none-some}
 use Rattle.scan.proofs.Tabulate.{tabulate-length}
@@ -33,7 +33,7 @@ use Rattle.call.proofs.Judged.{accepted-refused, words-judged}
 use Rattle.call.proofs.Done.{by-checks, done-zero}
 use Rattle.call.proofs.Demands.{every-call-one}
 use Rattle.composed.specs.Product.{Tasks, OnePerSource, heldAt, heldByAll, product}
-use Rattle.composed.specs.Composed.{ReachedPart, trimmedNumber, Independent, Composable, OwnSources}
+use Rattle.composed.specs.Composed.{ReachedPart, trimmedNumber, Dependent, Independent, isDependent, Composable, OwnSources}
 use Rattle.composed.specs.Sheet.{fourSheets, givenSheets, readSheets, sourceOf, netOf, composedSheet}
 use Rattle.composed.specs.Fault.{sheetFault}
 use Rattle.composed.specs.Checks.{NumberPasses, FewPass, eachSheet, lastChecks, composeChecks, Composes}
@@ -44,7 +44,7 @@ use Rattle.composed.proofs.Chain.{sheet↔, sheets↔, sheets-tell, one-per-sou
 use Rattle.composed.proofs.Commute.{commutes}
 use Rattle.composed.proofs.Composed.{await-sources, sources-await}
 use Rattle.composed.proofs.Counts.{held as counts-held, reached-balanced}
-use Rattle.composed.proofs.Dependent.{independent↔composable}
+use Rattle.composed.proofs.Dependent.{dependent↔, independent↔, dependent-early, independent↔composable}
 use Rattle.composed.proofs.Done.{compose-law, compose-judged}
 use Rattle.composed.proofs.Named.{named}
 use Rattle.composed.proofs.OneSource.{renumbered}
@@ -54,7 +54,7 @@ use Rattle.composed.proofs.Sheet.{written-words, written-schedule, written-part
 use Rattle.composed.proofs.States.{reached↔one-busy}
 use Rattle.composed.proofs.Trimmed.{part-follow}
 use Rattle.demands.specs.Terms.{said}
-use Rattle.demands.specs.Compose.{tasks, Composing, composedBy, composedSize, allComposeChecks, Written, ComposeDemand}
+use Rattle.demands.specs.Compose.{tasks, Composing, composedBy, composedSize, allComposeChecks, Written, SheetsPass, DependentAnswer, ComposeDemand}
 use Rattle.demands.proofs.Calls.{unread-one, own-size, own-front, own-rest, own-fits}
 use Rattle.demands.proofs.Checked.{always-accepted}
 
@@ -170,17 +170,15 @@ module _ (net : List ℕ) (k : ℕ) (a b c d : List ℕ) where
 
   -- ---- 30
 
-  module _ {out s out′ s′ : List ℕ} {r : ComposeAnswer} (done : ComposeDone net k a b c d out s r out′ s′) (enough : scratchLimit ≤ length s) (is-net : IsNet net)
-      (count : NumberPasses (petriNet net) k (givenSheets k a b c d))
-      (each : (i : ℕ) → i < k → AllPass (sheetChecks (netOf (petriNet net) i) (givenSheets k a b c d i))) (few : FewPass (petriNet net) k (givenSheets k a b c d)) where
+  module _ {out s out′ s′ : List ℕ} {r : ComposeAnswer} (done : ComposeDone net k a b c d out s r out′ s′) (before : SheetsPass net k a b c d s) where
     h : netReply net ≡ verdict.Accepted
-    h = net-judged net .accepts .1 is-net
+    h = net-judged net .accepts .1 (before .net-passes)
 
     all-sheets : AllPass (eachSheet (petriNet net) k (givenSheets k a b c d) k)
-    all-sheets = sheets↔ N (T h) (S h) k sheet k .1 (λ i l. sheet↔ N (T h) (S h) k sheet i .0 (each i l))
+    all-sheets = sheets↔ N (T h) (S h) k sheet k .1 (λ i l. sheet↔ N (T h) (S h) k sheet i .0 (before .each-passes i l))
 
     tasks-pass : OnePerSource (petriNet net) (tasks net k a b c d)
-    tasks-pass = one-per-source N (T h) (S h) k sheet count (λ i l. sheet↔ N (T h) (S h) k sheet i .0 (each i l))
+    tasks-pass = one-per-source N (T h) (S h) k sheet (before .number-passes) (λ i l. sheet↔ N (T h) (S h) k sheet i .0 (before .each-passes i l))
 
     told : ByChecks (allComposeChecks net k a b c d (Room (composeCore net k (givenSheets k a b c d) .results) (out ∷ [])) s) (withoutSheet r) 1
     told = by-checks (compose-law net k sheet) done (words-judged (composeCore net k sheet) (out ∷ []) (compose-judged net k sheet) (λ p. Iff·rfl))
@@ -188,9 +186,9 @@ module _ (net : List ℕ) (k : ℕ) (a b c d : List ℕ) where
     -- what fails where all of these pass
     first-left : {f : Refusal} → FirstFails (composeChecks (petriNet net) k (givenSheets k a b c d)) f → f .number ≡ 30 → Independent (petriNet net) (tasks net k a b c d) → ⊥
     first-left {f} g e I =
-        ⊎-elim (λ (n, q). n count)
+        ⊎-elim (λ (n, q). n (before .number-passes))
         (λ (p, g₁). ⊎-elim (λ z. none-some (first (sheetFault N k sheet) k) f (sheets-tell N (T h) (S h) k sheet k .passes .1 all-sheets) (sheets-tell N (T h) (S h) k sheet k .fails f .1 z))
-        (λ (z, g₂). ⊎-elim (λ (n, q). n few)
+        (λ (z, g₂). ⊎-elim (λ (n, q). n (before .few))
         (λ (u, g₃). ⊎-elim (λ (n, q). n I)
         (λ (v, g₄). ⊎-elim (λ (n, q). other 29 f q e (λ w. omega arith)) (λ (w, y). y) g₄) g₃) g₂) (fail-append (eachSheet N k sheet k) (lastChecks N k sheet) f .0 g₁)) g
       where
@@ -203,7 +201,7 @@ module _ (net : List ℕ) (k : ℕ) (a b c d : List ℕ) where
         let n = sym (same-number r) ∙ e in
         let (f, g, q) = told .named (λ z. let w : _≡_ {A = ℕ} 0 30 = sym z ∙ n in omega arith) in
         let m : f .number ≡ 30 = sym (ap number q) ∙ n in
-        ⊎-elim (λ (z, y). z enough)
+        ⊎-elim (λ (z, y). z (before .scratch-holds))
         (λ (z, g₁). ⊎-elim
         (λ g₂. ⊎-elim (λ y. accepted-refused (netReply net) f h (net-judged net .refuses f .1 y)) (λ (y, g₃). first-left g₃ m I) (fail-append (netChecks net) (composeChecks N k sheet) f .0 g₂))
         (λ (y, g₂). ⊎-elim (λ (v, w). let t : _≡_ {A = ℕ} 22 30 = sym (ap (λ (x : Refusal). x .number) w) ∙ m in omega arith) (λ (v, w). w) g₂)
@@ -212,10 +210,25 @@ module _ (net : List ℕ) (k : ℕ) (a b c d : List ℕ) where
     from : (Composable (petriNet net) (tasks net k a b c d) → ⊥) → number (plainCompose r) ≡ 30
     from n =
         let last = fail-append (eachSheet N k sheet k) (lastChecks N k sheet) (refusal 30 Nothing) .1
-        (inr (all-sheets, inr (few, inl (λ I. n (independent↔composable N X tasks-pass .0 I), refl)))) in
+        (inr (all-sheets, inr (before .few, inl (λ I. n (independent↔composable N X tasks-pass .0 I), refl)))) in
         let f = fail-append (netChecks net ++ composeChecks N k sheet) _ (refusal 30 Nothing) .1
-        (inl (fail-append (netChecks net) (composeChecks N k sheet) (refusal 30 Nothing) .1 (inr (is-net, inr (count, last))))) in
-        same-number r ∙ ap number (told .this (refusal 30 Nothing) (inr (enough, f)))
+        (inl (fail-append (netChecks net) (composeChecks N k sheet) (refusal 30 Nothing) .1 (inr (before .net-passes, inr (before .number-passes, last))))) in
+        same-number r ∙ ap number (told .this (refusal 30 Nothing) (inr (before .scratch-holds, f)))
+
+    -- whether some state is starved is decided
+    starved : number (plainCompose r) ≡ 30 → Dependent (petriNet net) (tasks net k a b c d)
+    starved e = byTest (isDependent N X) (λ q. dependent↔ N X tasks-pass .0 q) (λ q. absurd (to e (independent↔composable N X tasks-pass .0 (independent↔ N X tasks-pass .0 q))))
+
+    given : Dependent (petriNet net) (tasks net k a b c d) → number (plainCompose r) ≡ 30
+    given D = from (λ C. true-false (isDependent N X) (dependent↔ N X tasks-pass .1 D) (independent↔ N X tasks-pass .1 (independent↔composable N X tasks-pass .1 C)))
+
+    pub is-dependent : DependentAnswer net k a b c d r
+    is-dependent = record {
+      each-source = tasks-pass;
+      uncountable = (to, from);
+      reached = (starved, given);
+      reached-enabled = (λ e. dependent-early N X tasks-pass (starved e), λ (s, t, q, D). given (s, t, D));
+    }
 
 -- ---- one source alone
 
@@ -250,7 +263,7 @@ compose-demand = record {
   named = λ net k a b c d out s out′ s′ r done. named net k (givenSheets k a b c d) done;
   unread = λ net k a b c d. unread-one (compose-law net k (givenSheets k a b c d)) _ refl;
   past-unread = past-unread;
-  dependent = λ net k a b c d out s out′ s′ r done e n m g f. (to net k a b c d done e n m g f, from net k a b c d done e n m g f);
+  dependent = λ net k a b c d out s out′ s′ r done before. is-dependent net k a b c d done before;
   written = is-written;
   reached = λ net k a b c d x s. reached↔one-busy (petriNet net) (tasks net k a b c d) (one-each net k a b c d x) s;
   services = lists;

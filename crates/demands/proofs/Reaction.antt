@@ -36,7 +36,7 @@ module _ (net sheet words : List ℕ) where
   base = netChecks net ++ sheetChecks (petriNet net) sheet
 
   -- so many words are needed
-  fits : (out : List ℕ) → AllPass (base ++ reactionChecks (petriNet net) sheet words) → (pairWords net sheet ≤ length out) ↔ (length (reportWords net sheet words) ≤ length out)
+  pub fits : (out : List ℕ) → AllPass (base ++ reactionChecks (petriNet net) sheet words) → (pairWords net sheet ≤ length out) ↔ (length (reportWords net sheet words) ≤ length out)
   fits out p = rw (report-long net sheet words (passed net sheet words (reaction-judged net sheet words .accepts .1 p)) .pairs) Iff·rfl
 
   every : (out : List ℕ) → EveryReaction net sheet words out
@@ -75,6 +75,7 @@ reaction-demand = record {
   every = every;
   unread = λ net sheet words. unread-one (reaction-law net sheet words) _ refl;
   answers = answers;
+  awaits = λ net sheet. await↔ (petriNet net) (said net sheet);
   nodes = λ net sheet words c. node-times net sheet words (known net sheet words c);
   best-alone = λ net sheet words c v h. let k = known net sheet words c in
       solution-unique (sheetGraph net sheet) (sheetAwait net sheet) (closed net sheet (k .accepted)) (k .ending) (way net sheet words k) min (early words) AtMost picks-min v

@@ -35,8 +35,14 @@ use Rattle.compare.proofs.Done.{compare-law}
 use Rattle.mended.specs.Mend.{mendedWords}
 use Rattle.mended.specs.Changes.{changes}
 use Rattle.mended.proofs.Done.{mend-law}
+use Rattle.composed.specs.Sheet.{givenSheets, composedSheet}
+use Rattle.composed.proofs.Done.{compose-law}
+use Rattle.trimmed.specs.Trim.{trimmedWords, keptList}
+use Rattle.trimmed.proofs.Done.{trim-law}
+use Rattle.reaction.proofs.Judged.{reaction-law}
 use Rattle.demands.specs.Reading.{EveryVerdict, plainForms, readChecks, ReadingDemand}
 use Rattle.demands.proofs.Replay.{rows-fit}
+use Rattle.demands.proofs.Reaction.{fits}
 
 -- ---- a check that stands alone
 
@@ -98,4 +104,10 @@ reading-demand = record {
   forms = λ net x y. (length (minimalForm net x), length (minimalForm net y), λ one two. reads-two (every-call-two (forms-law net x y) refl (λ p. Iff·rfl)));
   mend = λ net sheet. (length (mendedWords net sheet), length (changes net sheet), λ out list. reads-two (every-call-two (mend-law net sheet) refl (λ p. Iff·rfl)));
   compare = λ net x y. (length (minimalForm net x), length (minimalForm net y), λ one two. reads-two (every-call-two (compare-law net x y) refl (λ p. Iff·rfl)));
+  compose = λ net k a b c d. (
+    length (composedSheet (petriNet net) k (givenSheets k a b c d)),
+    λ out. reads-one (every-call-one (compose-law net k (givenSheets k a b c d)) refl (λ p. Iff·rfl)),
+  );
+  trim = λ net sheet. (length (trimmedWords net sheet), length (keptList net sheet), λ out list. reads-two (every-call-two (trim-law net sheet) refl (λ p. Iff·rfl)));
+  reaction = λ net sheet durations out. reads-one (every-call-one (reaction-law net sheet durations) refl (fits net sheet durations out));
 }

@@ -1,8 +1,9 @@
 -- The slow engine: what it spreads, and that it answers what the check answers.
-use Rattle.scan.proofs.Basics.{ℕ, _+_, _*_, _/_, _%_, _-_, _≤_, _<_, arith, _≡_, refl, sym, ap, _∙_, _⊎_, inl, inr, Option, none, some, Option·map, List, [], _∷_, _++_, getD}
+use Rattle.scan.proofs.Basics.{ℕ, _+_, _*_, _/_, _%_, _-_, _≤_, _<_, arith, _≡_, refl, sym, ap, _∙_, _⊎_, inl, inr, Option, none, some, Option·map, ltb, List, [], _∷_, _++_, getD}
+use mathlib.Core.Bool.{and-false}
 use lib.IntN.{pos, _-ℤ_}
 use Rattle.scan.specs.Scan.{orElse, foundOr}
-use Rattle.scan.proofs.Tests.{lt-ltb}
+use Rattle.scan.proofs.Tests.{lt-ltb, le-ltb}
 use Rattle.refusal.specs.Verdict.{verdictOf}
 use Rattle.refusal.specs.declared.Refusal.{Refusal}
 use Rattle.refusal.specs.declared.Verdict.{Verdict}
@@ -13,7 +14,7 @@ use Rattle.call.proofs.Demands.{every-call-none}
 use Rattle.net.specs.Net.{placeCount, transitionCount, taken, put}
 use Rattle.net.specs.Check.{netReply}
 use Rattle.net.specs.Checks.{netChecks}
-use Rattle.net.proofs.Laws.{taken-no-transition, taken-no-place, put-no-transition, put-no-place}
+use Rattle.net.proofs.Laws.{taken-no-transition, taken-no-place, put-no-transition, put-no-place, start-no-place, capacity-no-place}
 use Rattle.sequential.specs.Petri.{petriNet}
 use Rattle.sequential.specs.Words.{nodeCount, entryValue, entryWithKey, arcKeys, arcEntry, arc, countAt}
 use Rattle.sequential.specs.Checks.{sheetChecks}
@@ -61,6 +62,7 @@ module _ (net : List ℕ) where
       capacities = λ p k. h .capacities-are p (omega arith);
       taken = λ t p l k. taken-cell t p (omega arith) (omega arith);
       change = λ t p l k. change-cell t p (omega arith) (omega arith);
+      past = λ p l k. (h .starts-are p k ∙ start-no-place net p l, h .capacities-are p k ∙ rw (capacity-no-place net p l));
       others = λ t p l k o. let (a, b) = nothing t p o in (taken-cell t p l k ∙ a, change-cell t p l k ∙ rw (a, b));
     }
 
@@ -81,19 +83,31 @@ module _ (net sheet grid : List ℕ) (few-places : placeCount net ≤ 32) (few-t
   unfolding countAt arcKeys
   count-key n p l k = rw (lt-ltb n (nodeCount sheet) l, lt-ltb p (placeCount net) k)
 
+  arc-none : (n t : ℕ) → (nodeCount sheet ≤ n) ⊎ (transitionCount net ≤ t) → arcCode (arc (petriNet net) sheet n t) ≡ 0
+  unfolding arc arcEntry
+  arc-none n t (inl l) = rw (le-ltb n (nodeCount sheet) l)
+  arc-none n t (inr l) = rw (le-ltb t (transitionCount net) l, and-false (ltb n (nodeCount sheet)))
+
+  count-none : (n p : ℕ) → (nodeCount sheet ≤ n) ⊎ (placeCount net ≤ p) → countAt (petriNet net) sheet n p ≡ 0
+  unfolding countAt
+  count-none n p (inl l) = rw (le-ltb n (nodeCount sheet) l)
+  count-none n p (inr l) = rw (le-ltb p (placeCount net) l, and-false (ltb n (nodeCount sheet)))
+
   grid-right : GridRight net sheet grid
   grid-right = record {
-    arcs = λ n t l k. arc-cell n t l k ∙ arc-key n t l k;
-    counts = λ n p l k. count-cell n p l k ∙ count-key n p l k;
+    arcs = λ n t l k. arc-cell n t (omega arith) (omega arith) ∙ arc-key n t l k;
+    counts = λ n p l k. count-cell n p (omega arith) (omega arith) ∙ count-key n p l k;
+    no-arcs = λ n t l k o. arc-cell n t l k ∙ arc-none n t o;
+    no-counts = λ n p l k o. count-cell n p l k ∙ count-none n p o;
   }
     where
-      arc-cell : (n t : ℕ) → n < nodeCount sheet → t < transitionCount net → getD grid (n * 64 + t) 0 ≡ arcCode (arc (petriNet net) sheet n t)
+      arc-cell : (n t : ℕ) → n < 128 → t < 32 → getD grid (n * 64 + t) 0 ≡ arcCode (arc (petriNet net) sheet n t)
       arc-cell n t l k =
           let a : (n * 64 + t) / 64 ≡ n = row-div n 64 t (omega arith) in
           let b : (n * 64 + t) % 64 ≡ t = row-mod n 64 t (omega arith) in
           g .cells (n * 64 + t) (omega arith) ∙ sym (cell-arc (petriNet net) sheet (n * 64 + t) (rw b (omega arith))) ∙ rw (a, b)
 
-      count-cell : (n p : ℕ) → n < nodeCount sheet → p < placeCount net → getD grid (n * 64 + 32 + p) 0 ≡ countAt (petriNet net) sheet n p
+      count-cell : (n p : ℕ) → n < 128 → p < 32 → getD grid (n * 64 + 32 + p) 0 ≡ countAt (petriNet net) sheet n p
       count-cell n p l k =
           let e : n * 64 + 32 + p ≡ n * 64 + (32 + p) = omega arith in
           let a : (n * 64 + (32 + p)) / 64 ≡ n = row-div n 64 (32 + p) (omega arith) in

@@ -19,8 +19,8 @@ use Rattle.sequential.specs.Schedule.{Await}
 use Rattle.sequential.specs.Checks.{sheetChecks}
 use Rattle.call.specs.Demands.{number, own, EveryCall}
 use Rattle.composed.specs.Tuples.{tuples}
-use Rattle.composed.specs.Product.{Tasks, sizeOf, nodeOf, allAwait, heldByAll, product}
-use Rattle.composed.specs.Composed.{ReachedPart, OneBusy, Composable, Serves, OwnSources}
+use Rattle.composed.specs.Product.{Tasks, OnePerSource, sizeOf, nodeOf, allAwait, heldByAll, product}
+use Rattle.composed.specs.Composed.{ReachedPart, Starved, Dependent, ReachedEnabled, OneBusy, Composable, Serves, OwnSources}
 use Rattle.composed.specs.Sheet.{fourSheets, givenSheets, sourceOf, netOf, tasksOf}
 use Rattle.composed.specs.Checks.{NumberPasses, FewPass, composeChecks}
 use Rattle.composed.specs.Call.{ComposeDone, plainCompose, withoutSheet}
@@ -86,12 +86,21 @@ module _ (net : List ℕ) (k : ℕ) (a b c d : List ℕ) where
     pub fits : composedSize x ≤ length (x .out)
     pub within : x .out′ ≡ composedBy x ++ drop (composedSize x) (x .out)
 
-  -- 30 where the checks before it pass: exactly when no counts whatever make the composed graph a schedule (source document 001, Definition 8)
-  abbrev pub DependentAnswer : Type 0
-  DependentAnswer = (out s out′ s′ : List ℕ) (r : ComposeAnswer) → ComposeDone net k a b c d out s r out′ s′ → scratchLimit ≤ length s → IsNet net
-      → NumberPasses (petriNet net) k (givenSheets k a b c d)
-      → ((i : ℕ) → i < k → AllPass (sheetChecks (netOf (petriNet net) i) (givenSheets k a b c d i))) → FewPass (petriNet net) k (givenSheets k a b c d)
-      → (number (plainCompose r) ≡ 30) ↔ (Composable (petriNet net) (tasks net k a b c d) → ⊥)
+  -- all that is asked before 30
+  pub record SheetsPass (scratch : List ℕ) : Type 0 where
+    pub scratch-holds : scratchLimit ≤ length scratch
+    pub net-passes : IsNet net
+    pub number-passes : NumberPasses (petriNet net) k (givenSheets k a b c d)
+    pub each-passes : (i : ℕ) → i < k → AllPass (sheetChecks (netOf (petriNet net) i) (givenSheets k a b c d i))
+    pub few : FewPass (petriNet net) k (givenSheets k a b c d)
+
+  -- then the tasks are one for each source, and 30 is given exactly when no counts whatever make the composed graph a schedule (source document 001, Definition 8)
+  pub record DependentAnswer (r : ComposeAnswer) : Type 0 where
+    pub each-source : OnePerSource (petriNet net) (tasks net k a b c d)
+    pub uncountable : (number (plainCompose r) ≡ 30) ↔ (Composable (petriNet net) (tasks net k a b c d) → ⊥)
+    -- which is when a state fires a transition that is not enabled there; whether that state is reached by any firings or by enabled ones alone makes no difference
+    pub reached : (number (plainCompose r) ≡ 30) ↔ Dependent (petriNet net) (tasks net k a b c d)
+    pub reached-enabled : (number (plainCompose r) ≡ 30) ↔ ((s : ℕ) × (t : ℕ) × ReachedEnabled (petriNet net) (tasks net k a b c d) s × Starved (petriNet net) (tasks net k a b c d) s t)
 
 pub record ComposeDemand : Type 0 where
   pub every : (net : List ℕ) (k : ℕ) (a b c d : List ℕ) → EveryComposition net k a b c d
@@ -103,7 +112,8 @@ pub record ComposeDemand : Type 0 where
   pub past-unread : (net : List ℕ) (k : ℕ) (a b c d a₁ b₁ c₁ d₁ out s out′ s′ : List ℕ) (r : ComposeAnswer)
       → ((i : ℕ) → i < k → fourSheets a b c d i ≡ fourSheets a₁ b₁ c₁ d₁ i)
       → ComposeDone net k a b c d out s r out′ s′ → ComposeDone net k a₁ b₁ c₁ d₁ out s r out′ s′
-  pub dependent : (net : List ℕ) (k : ℕ) (a b c d : List ℕ) → DependentAnswer net k a b c d
+  pub dependent : (net : List ℕ) (k : ℕ) (a b c d out s out′ s′ : List ℕ) (r : ComposeAnswer) → ComposeDone net k a b c d out s r out′ s′
+      → SheetsPass net k a b c d s → DependentAnswer net k a b c d r
   pub written : (net : List ℕ) (k : ℕ) (a b c d : List ℕ) (x : Composing net k a b c d) → Written net k a b c d x
   -- the reached states are the tuples of nodes in which at most one task is busy
   pub reached : (net : List ℕ) (k : ℕ) (a b c d : List ℕ) → Composing net k a b c d → (s : ℕ)

@@ -79,6 +79,8 @@ pub record ReactionDemand : Type 0 where
   -- answered exactly when all that is asked holds
   pub answers : (net sheet durations out s out′ s′ : List ℕ) (a : ReactionAnswer) → ReactionDone net sheet durations out s a out′ s′
       → (number (plainReaction a) ≡ 0) ↔ Reportable net sheet durations out s
+  -- the nodes that the times go by are the await nodes: §5.4
+  pub awaits : (net sheet : List ℕ) (n : ℕ) → (sheetAwait net sheet n ≡ true) ↔ Await (petriNet net) (said net sheet) n
   -- best and worst of every node: they solve their equations, bound every run to the next await node, and are attained
   pub nodes : (net sheet durations : List ℕ) (c : Reporting net sheet durations) (n : ℕ) → n < nodeCount sheet → NodeTimes net sheet durations n
   -- and nothing else solves them

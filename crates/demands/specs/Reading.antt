@@ -30,6 +30,13 @@ use Rattle.minimize.specs.declared.FormsAnswer.the-variants.{Written, Refused}
 use Rattle.compare.specs.Compare.{plainCompared, CompareWritten}
 use Rattle.mended.specs.Checks.{mendChecks}
 use Rattle.mended.specs.Call.{plainMend, MendWritten}
+use Rattle.composed.specs.Sheet.{givenSheets}
+use Rattle.composed.specs.Checks.{composeChecks}
+use Rattle.composed.specs.Call.{ComposeWritten, withoutSheet}
+use Rattle.trimmed.specs.Call.{plainTrim, TrimWritten}
+use Rattle.reaction.specs.Checks.{reactionChecks}
+use Rattle.reaction.specs.Call.{plainReaction, ReactionWritten}
+use Rattle.demands.specs.Reaction.{pairWords}
 
 -- a check that stands alone: it changes nothing
 abbrev pub EveryVerdict : List Check → Verdict → Type 0
@@ -55,8 +62,8 @@ pub record ReadingDemand : Type 0 where
   pub task : (net : List ℕ) (s : ℕ) (sheet : List ℕ) → EveryVerdict (netChecks net ++ sheetChecks (only (petriNet net) s) sheet) (taskReply net s sheet)
   pub check : (net sheet : List ℕ)
       → EveryReading {Left = Unit} plainCheck 3 (wholeChecks net sheet) tt (λ (a : CheckAnswer) left. a ≡ checkAnswer (scheduleReply net sheet) (countsOf net sheet))
-  -- ---- the cores of the calls: `bounds_into`, `Walker::step`, `run_into`, `replay_into`, `form_into`, `mend_into`, `compare_into`; and `form_of`, `forms_of`, which ask
-  -- for the words alone
+  -- ---- the cores of the calls: `bounds_into`, `Walker::step`, `run_into`, `replay_into`, `form_into`, `mend_into`, `compare_into`, `compose_into`, `trim_into`,
+  -- `reaction_into`; and `form_of`, `forms_of`, which ask for the words alone
   pub bounds : (net sheet out : List ℕ)
       → EveryReading plainOf 0 (wholeChecks net sheet ++ (once (petriNet net .places ≤ length out) 22 ∷ [])) out (BoundsWritten net sheet out)
   pub step : (net sheet : List ℕ) (w : Walker) (t : ℕ)
@@ -80,8 +87,18 @@ pub record ReadingDemand : Type 0 where
       × ((out list : List ℕ) → EveryReading {Left = List ℕ × List ℕ} plainMend 2
       ((netChecks net ++ mendChecks (petriNet net) sheet) ++ (once ((forSheet ≤ length out) × (forList ≤ length list)) 22 ∷ []))
       (out, list) (λ a left. MendWritten net sheet out list a (left .0) (left .1)))
-  -- its last number, which a refusal can have, apart
+  -- of these two the last number, which a refusal can have, apart
   pub compare : (net x y : List ℕ) → (first : ℕ) × (second : ℕ)
       × ((one two : List ℕ) → EveryReading {Left = List ℕ × List ℕ} plainCompared 3
       ((wholeChecks net x ++ sheetChecks (petriNet net) y) ++ (once ((first ≤ length one) × (second ≤ length two)) 22 ∷ []))
       (one, two) (λ a left. CompareWritten net x y one two a (left .0) (left .1)))
+  pub compose : (net : List ℕ) (k : ℕ) (a b c d : List ℕ) → (needed : ℕ)
+      × ((out : List ℕ) → EveryReading withoutSheet 1 ((netChecks net ++ composeChecks (petriNet net) k (givenSheets k a b c d)) ++ (once (needed ≤ length out) 22 ∷ [])) out
+      (ComposeWritten net k a b c d out))
+  pub trim : (net sheet : List ℕ) → (forSheet : ℕ) × (forList : ℕ)
+      × ((out list : List ℕ) → EveryReading {Left = List ℕ × List ℕ} plainTrim 2
+      (readChecks net sheet ++ (once ((forSheet ≤ length out) × (forList ≤ length list)) 22 ∷ []))
+      (out, list) (λ a left. TrimWritten net sheet out list a (left .0) (left .1)))
+  pub reaction : (net sheet durations out : List ℕ)
+      → EveryReading plainReaction 1 ((wholeChecks net sheet ++ reactionChecks (petriNet net) sheet durations) ++ (once (pairWords net sheet ≤ length out) 22 ∷ [])) out
+      (ReactionWritten net sheet durations out)

@@ -39,7 +39,8 @@ module _ (net : List ℕ) where
     -- what a transition takes (§2.5); and what it puts (§2.6) less what it takes, a number with a sign
     pub taken : (t p : ℕ) → t < T → p < P → getD (s .taken) (t * 32 + p) 0 ≡ words.taken net t p
     pub change : (t p : ℕ) → t < T → p < P → getD (s .change) (t * 32 + p) (pos 0) ≡ pos (put net t p) -ℤ pos (words.taken net t p)
-    -- all other cells of both tables are 0
+    -- all other cells are 0
+    pub past : (p : ℕ) → P ≤ p → p < 32 → (getD (s .starts) p 0 ≡ 0) × (getD (s .capacities) p 0 ≡ 0)
     pub others : (t p : ℕ) → t < 32 → p < 32 → (T ≤ t) ⊎ (P ≤ p) → (getD (s .taken) (t * 32 + p) 0 ≡ 0) × (getD (s .change) (t * 32 + p) (pos 0) ≡ pos 0)
 
   -- ---- the grid: each cell is a value of the schedule by its key
@@ -50,6 +51,9 @@ module _ (net : List ℕ) where
     -- the count, 0 where it is absent: §3.6, §3.8
     pub counts : (n p : ℕ) → n < nodeCount sheet → p < P
         → getD grid (n * 64 + 32 + p) 0 ≡ foundOr 0 (entryValue sheet) (entryWithKey sheet (nodeCount sheet * T + n * P + p))
+    -- all other cells of its 128 rows are 0
+    pub no-arcs : (n t : ℕ) → n < 128 → t < 32 → (nodeCount sheet ≤ n) ⊎ (T ≤ t) → getD grid (n * 64 + t) 0 ≡ 0
+    pub no-counts : (n p : ℕ) → n < 128 → p < 32 → (nodeCount sheet ≤ n) ⊎ (P ≤ p) → getD grid (n * 64 + 32 + p) 0 ≡ 0
 
 -- ---- the answer
 

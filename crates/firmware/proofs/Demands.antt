@@ -13,8 +13,8 @@ use Rattle.minimal.specs.Minimal.{minimalForm}
 use Rattle.octets.specs.Words.{allWords}
 use Rattle.firmware.specs.Calls.{runBytes}
 use Rattle.firmware.specs.Demands.{Whole, decodedChecks, BytesDemand}
-use Rattle.firmware.proofs.Judged.{bytes-law, every-bytes, as-words}
-use Rattle.firmware.proofs.Fires.{fires-by-number}
+use Rattle.firmware.proofs.Judged.{bytes-law, every-bytes, as-words, unread}
+use Rattle.firmware.proofs.Fires.{fires-by-number, every-firing, fires-as-words}
 use Rattle.firmware.proofs.Forms.{room-bytes, form-six-law, form-judged, check-judged, made-accepted, made-lists, forms-same, form-there}
 
 run-judged : (net sheet firings out : List ℕ) → Judges (wordsVerdict (runBytes net sheet firings) (allWords out ∷ []))
@@ -36,6 +36,10 @@ bytes-demand = record {
   check-as-words = λ net sheet. as-words (length net) (length sheet) 0 (check-law (allWords net) (allWords sheet));
   run-as-words = λ net sheet firings. as-words (length net) (length sheet) (length firings) (run-law (allWords net) (allWords sheet) (allWords firings));
   form-as-words = λ net sheet. as-words (length net) (length sheet) 0 (form-six-law (allWords net) (allWords sheet));
+  run-unread = λ net sheet firings. unread (length net) (length sheet) (length firings) (run-law (allWords net) (allWords sheet) (allWords firings));
+  form-unread = λ net sheet. unread (length net) (length sheet) 0 (form-six-law (allWords net) (allWords sheet));
+  every-fire = every-firing;
+  fire-as-words = fires-as-words;
   fire = λ net sheet n t scratch r scratch′ d. fires-by-number net sheet n t scratch r scratch′ d;
   equal = λ net x y hx hy a b. forms-same net x y a b;
   accepted = λ net sheet h c. made-accepted net sheet c;

@@ -1,7 +1,10 @@
--- The number of a single firing, both ways: below 2,147,483,648 the target of the arc, from there on the first check that fails; and never 19.
-use Rattle.scan.proofs.Basics.{ℕ, _+_, _≤_, _<_, arith, _≡_, refl, ap, _∙_, inl, inr, ⊎-elim, some, List, [], _∷_, _++_, length, getD}
+-- The number of a single firing, both ways: below 2,147,483,648 the target of the arc, from there on the first check that fails; and never 19. As every
+-- call, and as the word call with the node's own counts.
+use Rattle.scan.proofs.Basics.{ℕ, _+_, _≤_, _<_, arith, _≡_, refl, sym, ap, _∙_, inl, inr, ⊎-elim, some, List, [], _∷_, _++_, length, getD}
 use Rattle.scan.proofs.Tests.{byLess}
 use Rattle.scan.proofs.Tabulate.{tabulate-at}
+use Rattle.scan.proofs.Front.{cleared-whole}
+use Rattle.refusal.specs.Limits.{scratchLimit}
 use Rattle.refusal.specs.Refusal.{refusal}
 use Rattle.refusal.specs.declared.Position.the-variants.{Nothing}
 use Rattle.refusal.specs.Checks.{Check, once, FirstFails}
@@ -21,14 +24,21 @@ use Rattle.graph.specs.Rows.{markingRow}
 use Rattle.graph.proofs.Rows.{marking-right}
 use Rattle.graph.proofs.Readable.{known}
 use Rattle.judge.proofs.Judged.{accepted-readable}
+use Rattle.call.specs.Call.{Core, outputFault, wordsVerdict, callVerdict, answerOf}
+use Rattle.call.proofs.Lent.{scratch-kept, scratch-cleared}
+use Rattle.call.proofs.Laws.{call-enough}
 use Rattle.call.proofs.Judged.{accepted-refused, words-judged-none, call-judged}
 use Rattle.schedule.specs.Firing.{stepFault, follows}
+use Rattle.schedule.specs.declared.FireAnswer.{FireAnswer}
+use Rattle.schedule.specs.declared.Walker.{Walker}
 use Rattle.schedule.proofs.Walkers.{step-tells}
 use Rattle.octets.specs.Words.{allWords}
-use Rattle.firmware.specs.Bytes.{scratchBytes, brokenFault, bytesVerdict}
-use Rattle.firmware.specs.Calls.{ownWalker, ownCore, fireBytes, BytesFired}
-use Rattle.firmware.specs.Demands.{Whole, decodedChecks, firingChecks, FiresByNumber}
-use Rattle.firmware.proofs.Judged.{broken-judged}
+use Rattle.firmware.specs.Bytes.{scratchBytes, brokenFault, bytesVerdict, bytesAnswer}
+use Rattle.firmware.specs.Calls.{ownWalker, ownCore, fireBytes, oneNumber, BytesFired}
+use Rattle.firmware.specs.Demands.{Whole, decodedChecks, firingChecks, FiresByNumber, EveryFiring, FiresAsWords}
+use Rattle.firmware.proofs.Early.{answer-same}
+use Rattle.firmware.proofs.Judged.{broken-judged, words-verdict}
+use Rattle.firmware.proofs.Forms.{accepted-passes}
 
 -- ---- of words: with the node's own counts 19 has nothing to find
 
@@ -136,3 +146,33 @@ module _ (net sheet : List ℕ) (n t : ℕ) (scratch : List ℕ) where
             broken = (λ k. by-31 x f (omega arith), λ (k, cut). this x e q (refusal 31 Nothing) (inr (k, inl (cut, refl))));
             never-19 = λ k. spared-never 19 (firingChecks net sheet n t scratch) x (without-spared 19 (firingChecks net sheet n t scratch) refl) f (omega arith);
           }
+
+-- ---- as every call
+
+pub every-firing : (net sheet : List ℕ) (n t : ℕ) → EveryFiring net sheet n t
+every-firing net sheet n t = record {
+  replies = λ s. (_, _, record { returned = refl; scratch-after = refl });
+  one = λ s₁ s₂ r₁ r₂ s₁′ s₂′ e c d. c .returned ∙ ap (λ (lent : ℕ). oneNumber (bytesAnswer (fireBytes net sheet n t) [] lent)) e ∙ sym (d .returned);
+  kept = λ s r s′ d l. d .scratch-after ∙ scratch-kept scratchBytes s l;
+  cleared = λ s r s′ d l. d .scratch-after ∙ scratch-cleared scratchBytes s l ∙ cleared-whole scratchBytes s l;
+}
+
+-- ---- as the word call
+
+module _ (net sheet : List ℕ) (n t : ℕ) where
+  abbrev core : Core (FireAnswer × Walker)
+  core = ownCore (allWords net) (allWords sheet) n t
+
+  same-answer : (lent lentWords : ℕ) → Whole (length net) (length sheet) 0 → scratchBytes ≤ lent → scratchLimit ≤ lentWords
+      → bytesAnswer (fireBytes net sheet n t) [] lent ≡ answerOf core (callVerdict scratchLimit core [] lentWords)
+  unfolding wordsVerdict outputFault
+  same-answer lent lentWords w l m =
+      ap (answerOf (fireBytes net sheet n t)) (words-verdict core (length net) (length sheet) 0 [] lent w l) ∙ answer-same core (brokenFault (length net) (length sheet) 0) (wordsVerdict core (allWords [] ∷ []))
+      ∙ ap (answerOf core) (sym (call-enough core [] scratchLimit lentWords m))
+
+  pub fires-as-words : FiresAsWords net sheet n t
+  fires-as-words = record {
+    same = λ s scratch s′ scratch′ r answer next w ls lw d c. d .returned ∙ ap oneNumber (same-answer (length s) (length scratch) w ls lw ∙ sym (c .reply));
+    node = refl;
+    counts = λ a low p l. own-counts (allWords net) (allWords sheet) n t (accepted-passes net sheet a .1) low p l;
+  }

@@ -81,7 +81,7 @@ module _ (net sheet : List ℕ) where
 
 -- ---- a check that returned 0
 
-accepted-passes : (net sheet : List ℕ) → BytesAccepted net sheet → Whole (length net) (length sheet) 0 × (scheduleReply (allWords net) (allWords sheet) ≡ Accepted)
+pub accepted-passes : (net sheet : List ℕ) → BytesAccepted net sheet → Whole (length net) (length sheet) 0 × (scheduleReply (allWords net) (allWords sheet) ≡ Accepted)
 accepted-passes net sheet a =
     let (l, (s, (w, d))) = zero-passes (length net) (length sheet) 0 [] (check-law (allWords net) (allWords sheet)) (check-judged net sheet) refl _ _ _ _ _ (a .done) in
     (w, schedule-judged (allWords net) (allWords sheet) .accepts .1 d)

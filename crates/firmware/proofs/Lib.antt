@@ -6,8 +6,8 @@ pub mod Results
 -- the single firing
 pub mod Numbers
 pub mod Firing
--- what is promised: by checks, the firing both ways, demand 3
+-- what is promised: by checks, demand 3, the firing both ways
 pub mod Judged
-pub mod Fires
 pub mod Forms
+pub mod Fires
 pub mod Demands

@@ -4,27 +4,29 @@ use mathlib.Core.Path.{_≡_}
 use mathlib.Core.Logic.{_⊎_, _↔_}
 use mathlib.Core.List.{List, [], _∷_, _++_}
 use mathlib.Core.Option.{some}
-use lib.ListN.{length, getD, take}
+use lib.ListN.{length, getD, take, drop, replicate}
 use Rattle.automaton.specs.Automaton.{Automaton, SameLists}
-use Rattle.refusal.specs.Limits.{scratchLimit, mostEntries}
+use Rattle.refusal.specs.Limits.{mostPlaces, scratchLimit, mostEntries}
 use Rattle.refusal.specs.Checks.{Check, once, AllPass, FirstFails}
 use Rattle.refusal.specs.declared.Refusal.{Refusal}
 use Rattle.net.specs.Checks.{netChecks}
 use Rattle.sequential.specs.Petri.{petriNet}
-use Rattle.sequential.specs.Words.{nodeCount, graph}
+use Rattle.sequential.specs.Words.{nodeCount, countAt, graph}
 use Rattle.sequential.specs.Schedule.{Offers}
 use Rattle.sequential.specs.Checks.{sheetChecks}
 use Rattle.judge.specs.Answer.{plainCheck}
 use Rattle.call.specs.Call.{Core, CallDone, buffer}
-use Rattle.call.specs.Demands.{number, callChecks, ByChecks}
+use Rattle.call.specs.Demands.{number, callChecks, ByChecks, ScratchLeft}
 use Rattle.schedule.specs.Walker.{runChecks}
-use Rattle.schedule.specs.Calls.{checkCore, runCore}
+use Rattle.schedule.specs.Calls.{checkCore, runCore, FireDone}
 use Rattle.schedule.specs.Plain.{plainRun}
+use Rattle.schedule.specs.declared.FireAnswer.{FireAnswer}
+use Rattle.schedule.specs.declared.Walker.{Walker}
 use Rattle.minimal.specs.Form.{formCore}
 use Rattle.octets.specs.Words.{allWords}
 use Rattle.octets.specs.Bytes.{bytesOver, numberAt}
 use Rattle.firmware.specs.Bytes.{scratchBytes, replyBytes, BytesDone}
-use Rattle.firmware.specs.Calls.{checkBytes, BytesChecked, runBytes, BytesRan, formBytes, sixForm, BytesFormed, BytesFired}
+use Rattle.firmware.specs.Calls.{checkBytes, BytesChecked, runBytes, BytesRan, formBytes, sixForm, BytesFormed, ownWalker, oneNumber, BytesFired}
 
 -- ---- what is checked: §7.65
 
@@ -52,13 +54,16 @@ module _ (checks : List ℕ → List Check) (Unbroken : Type 0) (out : List ℕ)
         → Done s₁ p₁ r₁ out₁ s₁′ p₁′ → Done s₂ p₂ r₂ out₂ s₂′ p₂′ → (r₁ ≡ r₂) × (out₁ ≡ out₂)
     -- the reply has the six numbers of an answer by its checks, and the first of them is returned
     pub by-numbers : (s p : List ℕ) (r : ℕ) (out′ s′ p′ : List ℕ) → Done s p r out′ s′ p′ → replyBytes ≤ length p
-        → (six : List ℕ) × ByChecks (checks s) six 3 × (r ≡ number six) × (p′ ≡ bytesOver 8 six p)
+        → (six : List ℕ) × (length six ≡ 6) × ByChecks (checks s) six 3 × (r ≡ number six) × (p′ ≡ bytesOver 8 six p)
     -- 21 exactly where reply or scratch is too short; 31 exactly where neither is and some input has a broken word
     pub small : (s p : List ℕ) (r : ℕ) (out′ s′ p′ : List ℕ) → Done s p r out′ s′ p′ → (r ≡ 21) ↔ ((length p < replyBytes) ⊎ (length s < scratchBytes))
     pub broken : (s p : List ℕ) (r : ℕ) (out′ s′ p′ : List ℕ) → Done s p r out′ s′ p′
         → (r ≡ 31) ↔ ((replyBytes ≤ length p) × (scratchBytes ≤ length s) × (Unbroken → ⊥))
     -- a refusal writes no result
     pub keeps : (s p : List ℕ) (r : ℕ) (out′ s′ p′ : List ℕ) → Done s p r out′ s′ p′ → (r ≡ 0 → ⊥) → out′ ≡ out
+    -- scratch is cleared unless it is too short; under 48 bytes of reply nothing is touched (§15.3, §15.4)
+    pub scratch : (s p : List ℕ) (r : ℕ) (out′ s′ p′ : List ℕ) → Done s p r out′ s′ p′ → replyBytes ≤ length p → ScratchLeft scratchBytes r s s′
+    pub untouched : (s p : List ℕ) (r : ℕ) (out′ s′ p′ : List ℕ) → Done s p r out′ s′ p′ → length p < replyBytes → (s′ ≡ s) × (p′ ≡ p)
 
 -- the reply of the word call on the decoded words, the buffer's whole words lent for its output; and its words as bytes
 abbrev pub AsWords : {Answer : Type 0} → Core Answer → Core Answer → (Answer → List ℕ) → Type 0 → Type 0
@@ -67,6 +72,13 @@ AsWords {Answer} bytes core six Unbroken = (out s p out′ s′ p′ scratch scr
     → BytesDone bytes six out s p r out′ s′ p′ → CallDone scratchLimit core (allWords out ∷ []) scratch answer outs′ scratch′
     → (r ≡ number (six answer)) × (p′ ≡ bytesOver 8 (six answer) p)
     × (r ≡ 0 → out′ ≡ bytesOver 4 (take (length (buffer (core .results) 0)) (buffer outs′ 0)) out)
+
+-- what the buffers held is read by nothing (§13.5): for the same lengths the same number, the same six numbers and the same words written
+abbrev pub Unread : {Answer : Type 0} → Core Answer → (Answer → List ℕ) → Type 0
+Unread bytes six = (o₁ o₂ s₁ s₂ p₁ p₂ o₁′ o₂′ s₁′ s₂′ p₁′ p₂′ : List ℕ) (r₁ r₂ : ℕ) → length o₁ ≡ length o₂ → length s₁ ≡ length s₂ → length p₁ ≡ length p₂
+    → BytesDone bytes six o₁ s₁ p₁ r₁ o₁′ s₁′ p₁′ → BytesDone bytes six o₂ s₂ p₂ r₂ o₂′ s₂′ p₂′
+    → (r₁ ≡ r₂) × (replyBytes ≤ length p₁ → (told : List ℕ) × (p₁′ ≡ bytesOver 8 told p₁) × (p₂′ ≡ bytesOver 8 told p₂))
+    × (r₁ ≡ 0 → (words : List ℕ) × (o₁′ ≡ bytesOver 4 words o₁) × (o₂′ ≡ bytesOver 4 words o₂))
 
 -- ---- the single firing
 
@@ -87,6 +99,13 @@ pub record FiresByNumber (net sheet : List ℕ) (n t : ℕ) (scratch : List ℕ)
   pub broken : (r ≡ 2147483679) ↔ ((scratchBytes ≤ length scratch) × (Whole (length net) (length sheet) 0 → ⊥))
   pub never-19 : r ≡ 2147483667 → ⊥
 
+-- as every call: one reply, whatever scratch held, and scratch as agreed
+pub record EveryFiring (net sheet : List ℕ) (n t : ℕ) : Type 0 where
+  pub replies : (s : List ℕ) → (r : ℕ) × (s′ : List ℕ) × BytesFired net sheet n t s r s′
+  pub one : (s₁ s₂ : List ℕ) (r₁ r₂ : ℕ) (s₁′ s₂′ : List ℕ) → length s₁ ≡ length s₂ → BytesFired net sheet n t s₁ r₁ s₁′ → BytesFired net sheet n t s₂ r₂ s₂′ → r₁ ≡ r₂
+  pub kept : (s : List ℕ) (r : ℕ) (s′ : List ℕ) → BytesFired net sheet n t s r s′ → length s < scratchBytes → s′ ≡ s
+  pub cleared : (s : List ℕ) (r : ℕ) (s′ : List ℕ) → BytesFired net sheet n t s r s′ → scratchBytes ≤ length s → s′ ≡ replicate scratchBytes 0 ++ drop scratchBytes s
+
 -- ---- demand 3 over bytes: §11.9
 
 -- the graph that a schedule's bytes say
@@ -105,6 +124,16 @@ pub record BytesAccepted (net sheet : List ℕ) : Type 0 where
 abbrev pub AlwaysAccepted : List ℕ → List ℕ → Type 0
 AlwaysAccepted net sheet = (scratch reply : List ℕ) (r : ℕ) (scratch′ reply′ : List ℕ) → scratchBytes ≤ length scratch → replyBytes ≤ length reply
     → BytesChecked net sheet scratch reply r scratch′ reply′ → r ≡ 0
+
+-- as the word call, handed a walker at node n with that node's own counts
+pub record FiresAsWords (net sheet : List ℕ) (n t : ℕ) : Type 0 where
+  pub same : (s scratch s′ scratch′ : List ℕ) (r : ℕ) (answer : FireAnswer) (next : Walker) → Whole (length net) (length sheet) 0 → scratchBytes ≤ length s → scratchLimit ≤ length scratch
+      → BytesFired net sheet n t s r s′ → FireDone (allWords net) (allWords sheet) scratch (ownWalker (allWords net) (allWords sheet) n) t answer next scratch′
+      → r ≡ oneNumber (answer, next)
+  -- on an accepted schedule the walker's counts are the node's, and 0 from P on
+  pub node : ownWalker (allWords net) (allWords sheet) n .node ≡ n
+  pub counts : BytesAccepted net sheet → n < nodeCount (allWords sheet)
+      → (p : ℕ) → p < mostPlaces → getD (ownWalker (allWords net) (allWords sheet) n .counts) p 0 ≡ countAt (petriNet (allWords net)) (allWords sheet) n p
 
 -- a call of the minimal form that returned 0
 pub record BytesForm (net sheet : List ℕ) : Type 0 where
@@ -147,6 +176,12 @@ pub record BytesDemand : Type 0 where
   pub run-as-words : (net sheet firings : List ℕ)
       → AsWords (runBytes net sheet firings) (runCore (allWords net) (allWords sheet) (allWords firings)) plainRun (Whole (length net) (length sheet) (length firings))
   pub form-as-words : (net sheet : List ℕ) → AsWords (formBytes net sheet) (formCore (allWords net) (allWords sheet)) sixForm (Whole (length net) (length sheet) 0)
+  -- what the buffers held is read by nothing
+  pub run-unread : (net sheet firings : List ℕ) → Unread (runBytes net sheet firings) plainRun
+  pub form-unread : (net sheet : List ℕ) → Unread (formBytes net sheet) sixForm
+  -- the single firing: as every call, by its number, and as the word call
+  pub every-fire : (net sheet : List ℕ) (n t : ℕ) → EveryFiring net sheet n t
+  pub fire-as-words : (net sheet : List ℕ) (n t : ℕ) → FiresAsWords net sheet n t
   pub fire : (net sheet : List ℕ) (n t : ℕ) (scratch : List ℕ) (r : ℕ) (scratch′ : List ℕ) → BytesFired net sheet n t scratch r scratch′ → FiresByNumber net sheet n t scratch r
   -- two minimal forms are equal exactly when every list is allowed from both roots or from neither
   pub equal : (net x y : List ℕ) → BytesAccepted net x → BytesAccepted net y → (a : BytesForm net x) (b : BytesForm net y)
