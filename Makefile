@@ -20,7 +20,7 @@ install-lib: lib
 	install -d $(DESTDIR)$(PREFIX)/include $(DESTDIR)$(PREFIX)/lib/pkgconfig
 	install -m 644 include/wulthrein.h $(DESTDIR)$(PREFIX)/include/wulthrein.h
 	install -m 644 $(archive) $(DESTDIR)$(PREFIX)/lib/libwulthrein.a
-	sed 's|@PREFIX@|$(PREFIX)|' include/wulthrein.pc.in > $(DESTDIR)$(PREFIX)/lib/pkgconfig/wulthrein.pc
+	sed -e 's|@PREFIX@|$(PREFIX)|' -e "s|@VERSION@|$$(cat VERSION)|" include/wulthrein.pc.in > $(DESTDIR)$(PREFIX)/lib/pkgconfig/wulthrein.pc
 
 # an installed copy has no source: the version is written down, and the modules are compiled for those who may not write beside them
 install: build install-lib

@@ -46,6 +46,8 @@
 extern "C" {
 #endif
 
+#define WULTHREIN_VERSION "1.0.0"
+
 /* Limits: a buffer of the size named always suffices. */
 #define WULTHREIN_PLACES 32u
 #define WULTHREIN_TRANSITIONS 32u

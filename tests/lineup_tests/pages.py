@@ -1,4 +1,4 @@
-"""The pages of docs/ that show commands: each is run again, and prints what the page says. The table of refusals is the program's own."""
+"""The README and the pages of docs/ that show commands: each is run again, and prints what the page says. The table of refusals is the program's own."""
 import os
 import re
 import subprocess
@@ -7,7 +7,7 @@ import tempfile
 from lineup.home import HOME
 from lineup.refusals import REFUSALS
 
-PAGES = ["PLANNERS-DAY.md", "CHEMIST.md", "FORMAT.md"]
+PAGES = ["../README.md", "PLANNERS-DAY.md", "CHEMIST.md", "FORMAT.md"]
 ENGINE = os.path.join(HOME, "crates", "plainly", "src")
 
 
@@ -42,9 +42,10 @@ def replayed(page):
     there yet makes the file from what the page shows."""
     with tempfile.TemporaryDirectory() as folder:
         os.symlink(os.path.join(HOME, "samples"), os.path.join(folder, "samples"))
-        with open(os.path.join(folder, "run"), "w", encoding="utf-8") as file:
-            file.write(f'#!/bin/sh\nexec "{HOME}/run" "$@"\n')
-        os.chmod(os.path.join(folder, "run"), 0o755)
+        for name in "run", "lineup":
+            with open(os.path.join(folder, name), "w", encoding="utf-8") as file:
+                file.write(f'#!/bin/sh\nexec "{HOME}/{name}" "$@"\n')
+            os.chmod(os.path.join(folder, name), 0o755)
         shell = Shell(folder)
         return re.sub(r"(?m)^    \$ (.*)\n((?:    (?!\$ ).*\n|\n(?=(?:\n)*    (?!\$ )))*)", shell.command, page)
 
