@@ -16,14 +16,13 @@ use Rattle.refusal.specs.declared.Position.the-variants.{Nothing}
 use Rattle.refusal.specs.declared.Refusal.{Refusal}
 use Rattle.refusal.specs.declared.Verdict.the-variants as verdict
 use Rattle.refusal.proofs.Judges.{pass-append, fail-append}
-use Rattle.net.specs.Checks.{netChecks, IsNet}
+use Rattle.net.specs.Checks.{netChecks}
 use Rattle.net.specs.Check.{netReply}
 use Rattle.net.proofs.Checks.{net-judged}
 use Rattle.net.proofs.Laws.{sizes, some-source}
 use Rattle.sequential.specs.Petri.{PetriNet, petriNet, Source}
 use Rattle.sequential.specs.Words.{countAt}
 use Rattle.sequential.specs.Check.{scheduleReply}
-use Rattle.sequential.specs.Checks.{sheetChecks}
 use Rattle.sequential.proofs.Entries.{marking-node, marking-at}
 use Rattle.sequential.proofs.Accepted.{accepted-exactly}
 use Rattle.call.specs.Call.{CallDone}
@@ -34,9 +33,9 @@ use Rattle.call.proofs.Done.{by-checks, done-zero}
 use Rattle.call.proofs.Demands.{every-call-one}
 use Rattle.composed.specs.Product.{Tasks, OnePerSource, heldAt, heldByAll, product}
 use Rattle.composed.specs.Composed.{ReachedPart, trimmedNumber, Dependent, Independent, isDependent, Composable, OwnSources}
-use Rattle.composed.specs.Sheet.{fourSheets, givenSheets, readSheets, sourceOf, netOf, composedSheet}
+use Rattle.composed.specs.Sheet.{fourSheets, givenSheets, readSheets, sourceOf, composedSheet}
 use Rattle.composed.specs.Fault.{sheetFault}
-use Rattle.composed.specs.Checks.{NumberPasses, FewPass, eachSheet, lastChecks, composeChecks, Composes}
+use Rattle.composed.specs.Checks.{eachSheet, lastChecks, composeChecks, Composes}
 use Rattle.composed.specs.Call.{composeVerdict, composeCore, ComposeDone, plainCompose, withoutSheet}
 use Rattle.composed.specs.declared.ComposeAnswer.{ComposeAnswer}
 use Rattle.composed.specs.declared.ComposeAnswer.the-variants as answer

@@ -167,7 +167,8 @@ module _ (net sheet : List ℕ) (n t : ℕ) where
       → bytesAnswer (fireBytes net sheet n t) [] lent ≡ answerOf core (callVerdict scratchLimit core [] lentWords)
   unfolding wordsVerdict outputFault
   same-answer lent lentWords w l m =
-      ap (answerOf (fireBytes net sheet n t)) (words-verdict core (length net) (length sheet) 0 [] lent w l) ∙ answer-same core (brokenFault (length net) (length sheet) 0) (wordsVerdict core (allWords [] ∷ []))
+      ap (answerOf (fireBytes net sheet n t)) (words-verdict core (length net) (length sheet) 0 [] lent w l)
+      ∙ answer-same core (brokenFault (length net) (length sheet) 0) (wordsVerdict core (allWords [] ∷ []))
       ∙ ap (answerOf core) (sym (call-enough core [] scratchLimit lentWords m))
 
   pub fires-as-words : FiresAsWords net sheet n t

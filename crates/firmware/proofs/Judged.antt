@@ -258,7 +258,8 @@ module _ {Answer : Type 0} {core : Core Answer} {six : Answer → List ℕ} {own
           absurd (omega arith)
 
   pub unread : Unread overAny six
-  unread o₁ o₂ s₁ s₂ p₁ p₂ o₁′ o₂′ s₁′ s₂′ p₁′ p₂′ r₁ r₂ eo es ep c d = (same, replied, λ z. (buffer (core .results) 0, zero-writes o₁ s₁ p₁ r₁ o₁′ s₁′ p₁′ c z, zero-writes o₂ s₂ p₂ r₂ o₂′ s₂′ p₂′ d (sym same ∙ z)))
+  unread o₁ o₂ s₁ s₂ p₁ p₂ o₁′ o₂′ s₁′ s₂′ p₁′ p₂′ r₁ r₂ eo es ep c d =
+      (same, replied, λ z. (buffer (core .results) 0, zero-writes o₁ s₁ p₁ r₁ o₁′ s₁′ p₁′ c z, zero-writes o₂ s₂ p₂ r₂ o₂′ s₂′ p₂′ d (sym same ∙ z)))
     where
       answers : bytesAnswer overAny o₁ (length s₁) ≡ bytesAnswer overAny o₂ (length s₂)
       answers = ap (answerOf overAny) (verdict-alike o₁ o₂ (length s₁) (length s₂) eo es)
