@@ -8,8 +8,11 @@ const ARCHIVE: &str = "libwulthrein.a";
 fn main() {
     println!("cargo:rerun-if-env-changed=WULTHREIN_LIB_DIR");
     println!("cargo:rerun-if-changed=build.rs");
-    println!("cargo:rustc-check-cfg=cfg(core_error)");
-    if minor_version().map_or(false, |minor| minor >= 81) {
+    let minor = minor_version().unwrap_or(0);
+    if minor >= 80 {
+        println!("cargo:rustc-check-cfg=cfg(core_error)"); // earlier ones warn of this line
+    }
+    if minor >= 81 {
         println!("cargo:rustc-cfg=core_error");
     }
     let folder = folder();
@@ -41,7 +44,7 @@ fn folder() -> PathBuf {
     }
 }
 
-/// Of `rustc 1.81.0 (..)` the 81: `core::error::Error` is there from then on.
+/// Of `rustc 1.81.0 (..)` the 81, with which `core::error::Error` came.
 fn minor_version() -> Option<u32> {
     let told = Command::new(std::env::var_os("RUSTC")?).arg("--version").output().ok()?;
     let told = String::from_utf8(told.stdout).ok()?;
