@@ -173,7 +173,7 @@ static void look_at_reply(enum call call, const struct fuzz_case *c, const uint8
     hold(position < positions(c, a->number), "the position is one of those counted");
     for (i = 0; i < 3; i++)
         a->own[i] = wulthrein_number(reply, (enum wulthrein_reply)(3 + i));
-    saw(call, a->number, position, a->own[0]);
+    saw(call, a->number, a->number == 0 ? a->own[1] : position, a->own[0]);
     if (a->number != 0) {
         hold(a->own[0] == 0 && a->own[1] == 0 && a->own[2] == 0, "a refusal has no numbers of its own");
     } else if (call == CHECK) {

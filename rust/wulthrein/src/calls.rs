@@ -5,6 +5,7 @@ use crate::refusal::Refused;
 use crate::{word, PLACES};
 #[cfg(feature = "alloc")]
 use alloc::vec::Vec;
+use core::fmt;
 
 /// What [`check`] tells of a sheet that it accepts.
 #[derive(Clone, Copy, Debug, PartialEq, Eq, Hash)]
@@ -19,7 +20,7 @@ pub struct Checked {
 }
 
 /// What [`run`] tells of a record that could be followed to its end.
-#[derive(Clone, Copy, Debug, PartialEq, Eq, Hash)]
+#[derive(Clone, Copy, PartialEq, Eq, Hash)]
 #[non_exhaustive]
 pub struct Run {
     /// How many transitions were fired: all of the record.
@@ -37,6 +38,15 @@ impl Run {
     #[must_use]
     pub fn counts(&self) -> &[u32] {
         &self.counts[..self.places]
+    }
+}
+
+impl fmt::Debug for Run {
+    fn fmt(&self, f: &mut fmt::Formatter<'_>) -> fmt::Result {
+        let Run { fired, node, entry, .. } = self;
+        let mut told = f.debug_struct("Run");
+        told.field("fired", fired).field("node", node).field("entry", entry);
+        told.field("counts", &self.counts()).finish()
     }
 }
 
@@ -93,8 +103,8 @@ pub fn check(
 /// record.push(0)?.push(1)?.push(0)?;
 ///
 /// let mut scratch = [0; SCRATCH_BYTES];
-/// let run_to_the_end = run(&net, &sheet, &record, &mut scratch)?;
-/// assert_eq!((run_to_the_end.fired, run_to_the_end.node, run_to_the_end.counts()), (3, 1, &[1][..]));
+/// let ran = run(&net, &sheet, &record, &mut scratch)?;
+/// assert_eq!((ran.fired, ran.node, ran.counts()), (3, 1, &[1][..]));
 ///
 /// record.push(0)?; // node 1 drains, it does not fill
 /// let refused = run(&net, &sheet, &record, &mut scratch).unwrap_err();

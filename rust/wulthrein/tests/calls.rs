@@ -145,6 +145,7 @@ fn runs_tell_node_entry_and_counts() {
     let (net, sheet) = (bytes(&FILL_DRAIN), bytes(&TWICE));
     let ran = run(&net, &sheet, bytes(&[0, 1, 0]), &mut scratch()).unwrap();
     assert_eq!((ran.fired, ran.node, ran.entry, ran.counts()), (3, 3, Some(2), &[1][..]));
+    assert_eq!(format!("{ran:?}"), "Run { fired: 3, node: 3, entry: Some(2), counts: [1] }");
     let (net, sheet) = sample("jetty");
     let ran = run(&net, &sheet, bytes(&[0, 1, 2, 0, 1, 3, 5, 2, 4]), &mut scratch()).unwrap();
     assert_eq!((ran.fired, ran.node, ran.counts()), (9, 0, &[0, 1, 0, 0, 0][..]));

@@ -1,9 +1,9 @@
 //! What the builders write, beside entries that are sorted and laid out here.
 
-use std::collections::BTreeMap;
+use std::collections::{BTreeMap, BTreeSet};
 use wulthrein::{
-    Buffer, Misfit, Net, Record, Sheet, COUNT, ENTRIES, NET_BYTES, NODES, PLACES, SHEET_BYTES,
-    TRANSITIONS,
+    check, Buffer, Misfit, Net, Record, Sheet, COUNT, ENTRIES, NET_BYTES, NODES, PLACES,
+    SCRATCH_BYTES, SHEET_BYTES, TRANSITIONS,
 };
 
 /// Numbers by chance, the same ones each time.
@@ -117,6 +117,33 @@ fn sheets_are_laid_out() {
         }
         assert_eq!(sheet.nodes(), nodes);
     }
+}
+
+/// The words are in form: of those checks that are about form none fails, and those behind them are met.
+#[test]
+fn what_is_built_is_in_form() {
+    let (mut chance, mut scratch, mut met) = (Chance(3), vec![0; SCRATCH_BYTES], BTreeSet::new());
+    for _ in 0..500 {
+        let (places, transitions, nodes) =
+            (1 + chance.below(3), 1 + chance.below(4), 1 + chance.below(3));
+        let times = chance.below(5);
+        let (net, _) =
+            write_net(Net::within([0; 500], places, transitions).unwrap(), &mut chance, times);
+        let mut sheet = Sheet::within([0; 500], &net, nodes).unwrap();
+        for _ in 0..chance.below(12) {
+            sheet.arc(chance.below(nodes), chance.below(transitions), chance.below(nodes)).unwrap();
+            sheet.count(chance.below(nodes), chance.below(places), chance.below(9)).unwrap();
+        }
+        met.insert(
+            check(&net, &sheet, &mut scratch)
+                .map_or_else(|refused| refused.refusal().number(), |_| 0),
+        );
+    }
+    assert!(
+        met.iter().all(|number| !(1..=4).contains(number) && !(6..=9).contains(number)),
+        "{met:?}"
+    );
+    assert!([5, 10, 11, 12].iter().all(|number| met.contains(number)), "{met:?}");
 }
 
 #[test]
