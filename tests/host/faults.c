@@ -94,6 +94,8 @@ uint32_t __wrap_wulthrein_short_form(input net, size_t n, input sheet, size_t s,
     spoil(net, n, sheet, s, scratch, k);
     if (planted("form of wrong words") && number == 0)
         out[0]++;
+    if (planted("form that is the sheet") && number == 0 && o >= s && s < 1024)
+        memcpy(out, sheet, s), reply[24] = (uint8_t)(s / 4);
     if (planted("form of a form") && number == 0 && s == 4 * (size_t)reply[24]) /* of a sheet that is its own form */
         out[s - 4] ^= 3;
     return number;

@@ -4,6 +4,7 @@
  */
 #include <string.h>
 #include "fuzz.h"
+#include "split.h"
 #include "wulthrein.h"
 
 size_t LLVMFuzzerMutate(uint8_t *data, size_t size, size_t max_size);
@@ -111,33 +112,18 @@ static void change_net(void)
         set(&net, 3, below((2 * transitions + 2) * places), 1 + some_number(), 1);
 }
 
-/* A node gets a twin, with its arcs and counts, and one of the arcs to it leads to the twin: what was accepted is accepted still. */
+/* A node that an arc leads to is split: what was accepted mostly is so still. */
 static void split_node(uint32_t transitions, uint32_t places)
 {
     static struct words old;
-    uint32_t nodes = sheet.at[0], node = below(nodes), chosen = 0, arcs_here = 0, i, k;
-    if (nodes >= 128 || sheet.count > WORDS / 2)
+    uint32_t nodes = sheet.at[0], k = sheet.at[1], entry;
+    if (nodes >= 128 || k == 0 || k > 2048)
+        return;
+    entry = below(k);
+    if (sheet.at[2 + entry] >= nodes * transitions || sheet.at[2 + k + entry] >= nodes)
         return;
     old = sheet;
-    k = old.at[1];
-    sheet.at[0] = nodes + 1;
-    sheet.at[1] = 0;
-    sheet.count = 2;
-    for (i = 0; i < k; i++)
-        if (old.at[2 + i] < nodes * transitions && old.at[2 + k + i] == node && below(++arcs_here) == 0)
-            chosen = i + 1;
-    for (i = 0; i < k; i++) {
-        uint32_t key = old.at[2 + i], value = old.at[2 + k + i], width = transitions, first = 0, own;
-        if (key >= nodes * transitions) {
-            key -= nodes * transitions;
-            first = (nodes + 1) * transitions;
-            width = places;
-        }
-        own = key / width == node;
-        set(&sheet, 2, first + key, chosen == i + 1 ? nodes : value, 1);
-        if (own)
-            set(&sheet, 2, first + nodes * width + key % width, value, 1);
-    }
+    sheet.count = split(sheet.at, old.at, transitions, places, old.at[2 + k + entry], entry);
 }
 
 static void change_sheet(void)
