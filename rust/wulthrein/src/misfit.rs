@@ -21,6 +21,8 @@ pub enum Misfit {
     NoSuchNode(u32),
     /// No weight and no count is so large.
     TooLarge(u32),
+    /// No capacity is 0.
+    NoCapacity,
     /// The sheet has as many entries already as any may have.
     TooManyEntries,
     /// The buffer is full.
@@ -45,6 +47,7 @@ impl fmt::Display for Misfit {
             }
             Misfit::NoSuchNode(node) => write!(f, "the sheet has no node {node}"),
             Misfit::TooLarge(number) => write!(f, "{number} is more than {}", crate::COUNT),
+            Misfit::NoCapacity => write!(f, "a capacity is never 0"),
             Misfit::TooManyEntries => write!(f, "a sheet has at most {} entries", crate::ENTRIES),
             Misfit::NoRoom => write!(f, "the buffer has no room for it"),
         }

@@ -7,8 +7,8 @@ use alloc::vec::Vec;
 
 /// A net as bytes: what each transition takes from each place and puts there, what the places start with and what they can hold.
 ///
-/// Entries come in any order. One that is written again takes the place of the earlier, and 0 takes it out, for what is not written
-/// is 0. The bytes are those of a net after each entry; [`as_ref`](AsRef::as_ref) lends them.
+/// Entries come in any order. One that is written again takes the place of the earlier, and 0 takes it out: what is not written is 0.
+/// The bytes are those of a net after each entry; [`as_ref`](AsRef::as_ref) lends them.
 ///
 /// ```
 /// # fn main() -> Result<(), wulthrein::Misfit> {
@@ -70,7 +70,7 @@ impl<B: Buffer> Net<B> {
     ///
     /// # Errors
     ///
-    /// See [`Misfit`]; the same holds of the others.
+    /// See [`Misfit`].
     pub fn takes(&mut self, transition: u32, place: u32, weight: u32) -> Result<&mut Self, Misfit> {
         let row = self.known(transition)?;
         self.write(row, place, weight)
@@ -95,13 +95,25 @@ impl<B: Buffer> Net<B> {
         self.write(2 * self.transitions, place, count)
     }
 
-    /// The most that a place can hold. A place of which this is not said can hold any number; so does one with 0 here.
+    /// The most that a place can hold. Where this is not said, it can hold any number.
+    ///
+    /// # Errors
+    ///
+    /// See [`Misfit`]. No capacity is 0: without its entry the place could hold any number.
+    pub fn capacity(&mut self, place: u32, most: u32) -> Result<&mut Self, Misfit> {
+        if most == 0 {
+            return Err(Misfit::NoCapacity);
+        }
+        self.write(2 * self.transitions + 1, place, most)
+    }
+
+    /// Takes out what was said of a place's capacity, so that it can hold any number.
     ///
     /// # Errors
     ///
     /// See [`Misfit`].
-    pub fn capacity(&mut self, place: u32, most: u32) -> Result<&mut Self, Misfit> {
-        self.write(2 * self.transitions + 1, place, most)
+    pub fn unbounded(&mut self, place: u32) -> Result<&mut Self, Misfit> {
+        self.write(2 * self.transitions + 1, place, 0)
     }
 
     fn known(&self, transition: u32) -> Result<u32, Misfit> {

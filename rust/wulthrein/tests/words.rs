@@ -2,7 +2,7 @@
 
 use std::collections::{BTreeMap, BTreeSet};
 use wulthrein::{
-    check, Buffer, Misfit, Net, Record, Sheet, COUNT, ENTRIES, NET_BYTES, NODES, PLACES,
+    check, Buffer, Error, Misfit, Net, Record, Sheet, COUNT, ENTRIES, NET_BYTES, NODES, PLACES,
     SCRATCH_BYTES, SHEET_BYTES, TRANSITIONS,
 };
 
@@ -38,6 +38,7 @@ fn write_net<B: Buffer>(
             0 => (transition, net.takes(transition, place, weight).map(drop)),
             1 => (transitions + transition, net.puts(transition, place, weight).map(drop)),
             2 => (2 * transitions, net.starts(place, weight).map(drop)),
+            _ if weight == 0 => (2 * transitions + 1, net.unbounded(place).map(drop)),
             _ => (2 * transitions + 1, net.capacity(place, weight).map(drop)),
         };
         let key = row * places + place;
@@ -172,6 +173,7 @@ fn what_does_not_fit_is_told_and_changes_nothing() {
     assert_eq!(net.takes(0, 2, 1).unwrap_err(), Misfit::NoSuchPlace(2));
     assert_eq!(net.starts(2, 1).unwrap_err(), Misfit::NoSuchPlace(2));
     assert_eq!(net.capacity(0, COUNT + 1).unwrap_err(), Misfit::TooLarge(COUNT + 1));
+    assert_eq!(net.capacity(0, 0).unwrap_err(), Misfit::NoCapacity);
     net.starts(1, 4).unwrap();
     let before = net.as_ref().to_vec();
     assert_eq!(net.puts(0, 0, 1).unwrap_err(), Misfit::NoRoom);
@@ -187,11 +189,24 @@ fn what_does_not_fit_is_told_and_changes_nothing() {
     assert_eq!(sheet.count(0, 2, 1).unwrap_err(), Misfit::NoSuchPlace(2));
     assert_eq!(sheet.count(0, 0, COUNT + 1).unwrap_err(), Misfit::TooLarge(COUNT + 1));
     assert_eq!(sheet.count(0, 1, 1).unwrap().arc(0, 0, 1).unwrap_err(), Misfit::NoRoom);
+}
+
+#[test]
+fn misfits_are_told_in_words() {
     for (misfit, words) in [
         (Misfit::Places(33), "a net has 1 to 32 places, not 33"),
+        (Misfit::Transitions(0), "a net has 1 to 32 transitions, not 0"),
+        (Misfit::Nodes(129), "a sheet has 1 to 128 nodes, not 129"),
+        (Misfit::NoSuchPlace(2), "the net has no place 2"),
+        (Misfit::NoSuchTransition(3), "the net has no transition 3"),
+        (Misfit::NoSuchNode(4), "the sheet has no node 4"),
         (Misfit::TooLarge(COUNT + 1), "1000000001 is more than 1000000000"),
+        (Misfit::NoCapacity, "a capacity is never 0"),
+        (Misfit::TooManyEntries, "a sheet has at most 4096 entries"),
+        (Misfit::NoRoom, "the buffer has no room for it"),
     ] {
         assert_eq!(misfit.to_string(), words);
+        assert_eq!(Error::from(misfit).to_string(), words);
     }
 }
 
