@@ -1,118 +1,133 @@
-"""Asks the proved core. Its program `calls` plays calls from a text, and every verdict is one of its lines."""
+"""Asks the proved core. Its program `calls` plays calls from a text, and every verdict is one of its lines; some calls the library has too."""
+import functools
 import os
-import re
 import subprocess
 import tempfile
 
-from lineup import home
+from lineup import home, library
+from lineup.answers import Answer, Bounds, Checked, Compared, Composed, Fired, Mended, NetChecked, Replayed, Run, ShortForm, Times, Trimmed
 from lineup.trouble import Trouble
-from lineup.visible import quoted
-from lineup.words import KEPT_WORDS, LIST_WORDS, LOG_WORDS, NET_WORDS, REPORT_WORDS, SHEET_WORDS, TASKS, TIMES_WORDS
+from lineup.words import KEPT_WORDS, LIST_WORDS, LOG_WORDS, NET_WORDS, REPORT_WORDS, SHEET_WORDS, TASKS, TIMES_WORDS, held
 
-SCRATCH, OUT_BLANK = 8_192, 9  # the words of scratch lent, and what an output buffer holds before a call
-KINDS = ("none", "entry", "place", "node", "record")
-ANSWER = re.compile(
-    rf"answer (?P<number>\d+) (?P<kind>{'|'.join(KINDS)}) (?P<index>\d+)(?P<own>(?: (?:nodes|arcs|awaits|fired|node|length|taken|put|entry|list|same|sheet) \d+)*)"
-    r"(?P<outs>(?: out(?: \d+)* rest \d+)*)(?: scratch [\d ]+)?"
-)
-OUT = re.compile(r" out((?: \d+)*) rest (\d+)")
+SCRATCH = 8_192  # the words of scratch lent
 
 
-class Answer:
-    """A line of the core: number, kind and index of the position, the call's own numbers by name, and what each output buffer holds, of which
-    `out` is the first; `written` are the words that a call wrote there, by the lengths that it answers. `line` and, with the buffers, `whole` are
-    what is quoted of it."""
+class Call:
+    """A call of the core: its number among the program's operations, the class of its answer, and what it is handed, by name: words, a number, or numbers as text."""
 
-    def __init__(self, line):
-        found = ANSWER.fullmatch(line)
-        if not found:
-            raise Trouble(f"the core's answer cannot be read: {quoted(line)}")
-        self.number, self.kind, self.index = int(found["number"]), found["kind"], int(found["index"])
-        own = found["own"].split()
-        own = list(zip(own[::2], map(int, own[1::2])))
-        self.own = dict(own)
-        self.outs = [[int(word) for word in out.split()] + [OUT_BLANK] * int(rest) for out, rest in OUT.findall(found["outs"])]
-        self.out = self.outs[0] if self.outs else []
-        self.written = [out[:length] for out, length in zip(self.outs, (length for name, length in own if name in ("length", "list")))]
-        self.whole = line.split(" scratch ")[0]
-        self.line = self.whole.split(" out ")[0]
+    def __init__(self, operation, answer, *parts):
+        self.operation, self.answer, self.parts = operation, answer, parts
 
-    def fault(self):
-        return self.number, self.kind, self.index
+    def text(self):
+        return f"{self.operation} " + " | ".join(f"{name} {told(given) if isinstance(given, list) else given}" for name, given in self.parts)
 
-
-# ---- calls as text
+    def read(self, line):
+        """The answer of a line."""
+        answer = self.answer(line)
+        answer.places = (self.parts[0][1] or [1])[0]
+        return answer
 
 
 def told(words):
     return f"{len(words)}: {' '.join(map(str, words))}"
 
 
+# ---- calls
+
+
 def pair(net, *sheets):
     """Of longer words only the first are handed on, which changes no answer."""
-    return f"net {told(net[:NET_WORDS])}" + "".join(f" | sheet {told(sheet[:SHEET_WORDS])}" for sheet in sheets)
+    return ("net", net[:NET_WORDS]), *(("sheet", sheet[:SHEET_WORDS]) for sheet in sheets)
+
+
+def lent(*rooms):
+    """The buffers that a call writes, by their lengths, and scratch."""
+    return *(("out", room) for room in rooms), ("scratch", SCRATCH)
+
+
+def for_places(net):
+    return min(net[0], 32) if net else 0
 
 
 def net_check(net):
-    return f"1 net {told(net[:NET_WORDS])}"
+    return Call(1, NetChecked, *pair(net))
 
 
 def check(net, sheet):
-    return f"2 {pair(net, sheet)} | scratch {SCRATCH}"
+    return Call(2, Checked, *pair(net, sheet), *lent())
 
 
 def bounds(net, sheet):
-    return f"3 {pair(net, sheet)} | out {min(net[0], 32) if net else 0} | scratch {SCRATCH}"
+    return Call(3, Bounds, *pair(net, sheet), *lent(for_places(net)))
+
+
+def fire(net, sheet, node, transition):
+    """A single firing, from the counts that the sheet gives the node."""
+    walker = ("node", node), ("counts", " ".join(map(str, held(net, sheet, node)))), ("fires", transition)
+    return Call(5, Fired, *pair(net, sheet), *walker, *lent())
 
 
 def run(net, sheet, record):
-    return f"6 {pair(net, sheet)} | record {told(record)} | out {min(net[0], 32) if net else 0} | scratch {SCRATCH}"
+    return Call(6, Run, *pair(net, sheet), ("record", record), *lent(for_places(net)))
 
 
 def replay(net, sheet, log):
-    room = min(net[0], 32) if net else 0
-    return f"9 {pair(net, sheet)} | log {told(log[:LOG_WORDS])} | taken {room} | put {room} | scratch {SCRATCH}"
+    return Call(9, Replayed, *pair(net, sheet), ("log", log[:LOG_WORDS]), *lent(for_places(net), for_places(net)))
 
 
 def short(net, sheet):
-    return f"7 {pair(net, sheet)} | out {SHEET_WORDS - 1} | scratch {SCRATCH}"
+    return Call(7, ShortForm, *pair(net, sheet), *lent(SHEET_WORDS - 1))
 
 
 def mend(net, sheet):
-    return f"10 {pair(net, sheet)} | out {SHEET_WORDS - 1} | list {LIST_WORDS} | scratch {SCRATCH}"
+    return Call(10, Mended, *pair(net, sheet), *lent(SHEET_WORDS - 1, LIST_WORDS))
 
 
 def trim(net, sheet):
-    return f"12 {pair(net, sheet)} | out {SHEET_WORDS - 1} | list {KEPT_WORDS} | scratch {SCRATCH}"
+    return Call(12, Trimmed, *pair(net, sheet), *lent(SHEET_WORDS - 1, KEPT_WORDS))
 
 
 def compose(net, *sheets):
     """How many sheets there are, and four of them, of which those past the number are empty."""
-    four = [*sheets, [], [], [], []][:TASKS]
-    net, _, rest = pair(net, *four).partition(" | ")
-    return f"11 {net} | number {len(sheets)} | {rest} | out {SHEET_WORDS - 1} | scratch {SCRATCH}"
+    net, *four = pair(net, *[*sheets, [], [], [], []][:TASKS])
+    return Call(11, Composed, net, ("number", len(sheets)), *four, *lent(SHEET_WORDS - 1))
 
 
 def compare(net, one, other):
-    return f"14 {pair(net, one, other)} | out {SHEET_WORDS - 1} | out {SHEET_WORDS - 1} | scratch {SCRATCH}"
+    return Call(14, Compared, *pair(net, one, other), *lent(SHEET_WORDS - 1, SHEET_WORDS - 1))
 
 
 def times(net, sheet, durations):
-    return f"13 {pair(net, sheet)} | durations {told(durations[:TIMES_WORDS])} | out {REPORT_WORDS} | scratch {SCRATCH}"
+    return Call(13, Times, *pair(net, sheet), ("durations", durations[:TIMES_WORDS]), *lent(REPORT_WORDS))
 
 
 # ---- asking
 
 
 def ask(*calls):
-    """The core's answers to calls, all played by one run of its program."""
-    text = "\n".join(calls) + "\n0\n"
-    lines = played(home.program("calls"), text, None).splitlines()
+    """The core's answers to calls: of the library, where it is built and has them all, or else of one run of the program."""
+    by = by_library if library.has(calls) else by_program
+    return [call.read(line) for call, line in zip(calls, by(calls))]
+
+
+def by_library(calls):
+    return [library.line(call) for call in calls]
+
+
+def by_program(calls):
+    text = "".join(f"{call.text()}\n" for call in calls) + "0\n"
+    lines = played(program("calls"), text, None).splitlines()
     if lines and lines[-1] == "too long":
         raise Trouble("more words than the core's program takes in one call: net, sheets and firings may have 40,000 together")
     if len(lines) != len(calls):
         raise Trouble(f"the core gave {len(lines)} answers to {len(calls)} calls")
-    return [Answer(line) for line in lines]
+    return lines
+
+
+@functools.lru_cache(None)
+def program(name):
+    """Looked for once: that takes as long as a call."""
+    return home.program(name)
 
 
 def files(net, sheet):
@@ -121,7 +136,7 @@ def files(net, sheet):
         for name, data in (("net.bin", net), ("sheet.bin", sheet)):
             with open(os.path.join(folder, name), "wb") as file:
                 file.write(data)
-        lines = played(home.program("checker"), "", folder).splitlines()
+        lines = played(program("checker"), "", folder).splitlines()
     if not lines:
         raise Trouble("the core gave no answer")
     return Answer(lines[0])

@@ -2,6 +2,7 @@
 import os
 import tempfile
 
+from lineup import streams
 from lineup.trouble import Trouble, suggestion
 
 LARGEST = 8_000_000  # far above the largest net or sheet in any form
@@ -9,11 +10,10 @@ seen = set()  # the files that the command has read
 
 
 def read(path):
-    """The bytes of a file."""
+    """The bytes of a file, or of standard input."""
     try:
-        with open(path, "rb") as file:
-            seen.add(identity(os.fstat(file.fileno())))
-            data = file.read(LARGEST + 1)
+        data, status = streams.read(LARGEST + 1) if path == streams.INPUT else opened(path)
+        seen.add(identity(status))
     except FileNotFoundError:
         raise Trouble("no such file" + neighbour(path), path) from None
     except (OSError, ValueError) as error:
@@ -21,6 +21,11 @@ def read(path):
     if len(data) > LARGEST:
         raise Trouble(f"longer than {LARGEST:,} bytes: this is no net and no sheet", path)
     return data
+
+
+def opened(path):
+    with open(path, "rb") as file:
+        return file.read(LARGEST + 1), os.fstat(file.fileno())
 
 
 def identity(status):

@@ -63,16 +63,20 @@ def in_folder(folder, name):
     raise Trouble(f"the folder has no {name}.bin and no {name}.txt{instead}", folder)
 
 
+def is_folder(path):
+    return path != streams.INPUT and os.path.isdir(path)
+
+
 def has_sheet(path):
     """Whether a path is a folder with a sheet of its own."""
-    return os.path.isdir(path) and any(os.path.exists(os.path.join(path, f"sheet{suffix}")) for suffix in (".bin", ".txt"))
+    return is_folder(path) and any(os.path.exists(os.path.join(path, f"sheet{suffix}")) for suffix in (".bin", ".txt"))
 
 
 def opened(path, name, most):
     """A source with its bytes, and with its words if it is a word file."""
     if not path:
         raise Trouble(f"the name of the {name} is empty")
-    if os.path.isdir(path):
+    if is_folder(path):
         path = in_folder(path, name)
     data = files.read(path)
     source = Source(path, form_of(path, data))
@@ -81,7 +85,7 @@ def opened(path, name, most):
         source.words, source.tail = wordfile.binary(data, most)
     elif source.form == "decimal words":
         source.words, source.word_where = wordfile.decimal(path, files.text(path, data))
-    if source.is_words():
+    if source.is_words() and path != streams.INPUT:
         beside = os.path.join(os.path.dirname(path), "names.txt")
         if os.path.exists(beside):
             source.names.read(beside)
@@ -124,7 +128,7 @@ def word_locations(source, head, about):
 
 def sheet(path, net_source):
     """The sheet of a file or a folder, over a net. A folder brings its own net, onto which it is mapped by names."""
-    if os.path.isdir(path) and has_sheet(path):
+    if has_sheet(path):
         own = net(path)
         source = sheet_over(path, own)
         return source if own.path == net_source.path else mapped(source, own, net_source)

@@ -13,7 +13,7 @@ FORMS = {
     "dot": rb"digraph lineup \{",
     "PNG": rb"\x89PNG",
     "PDF": rb"%PDF",
-    "report": rb'(?s)\{\n  ".*\n  "core": \[\n|.*^  core: answer \d',
+    "report": rb'(?s)\{\n  ".*\n  "core": \[\n|.*^  core: answer \d|.* \(core: answer \d',
 }
 forced = False
 

@@ -34,15 +34,15 @@ class Pair:
         likely = causes.likely(self.net, self.sheet) if answer.number in OF_NET | OF_WORDS else []
         return refused(explain.explain(answer, self.net, self.sheet, record, log, judged or self.judged, times), answer, likely)
 
-    def agree(self, checked, bounds):
-        """Holds the numbers of an accepted sheet to what the sheet says."""
+    def agree(self, checked, bounds=None):
+        """Holds the numbers of an accepted sheet, and its bounds where they were asked for, to what the sheet says."""
         explain.agree(checked, self.net, self.sheet)
         net, sheet = self.net.model, self.sheet.model
         seen = {"nodes": len(sheet.nodes), "arcs": sum(map(len, sheet.arcs)), "awaits": len(sheet.awaits(net))}
         if checked.own != seen:
             raise Disagreement(f"the core answers {checked.line!r}, and the sheet shows {seen}")
         greatest = [max(counts.get(p, 0) for counts in sheet.counts) for p in range(len(net.places))]
-        if bounds.out != greatest:
+        if bounds is not None and bounds.out != greatest:
             raise Disagreement(f"the core answers {bounds.whole!r}, and the sheet shows {greatest}")
 
     def last_entry(self, answer, last, report):

@@ -1,4 +1,4 @@
-"""Standard output and standard error, neither of which is taken for granted: one may be closed, full or broken."""
+"""The standard streams, none of which is taken for granted: one may be closed, full or broken, or be read already."""
 import os
 import sys
 
@@ -6,7 +6,9 @@ from lineup.trouble import Trouble
 from lineup.visible import visible
 
 NAMES = {"stdout": "standard output", "stderr": "standard error"}
+INPUT = "-"  # the name of a file that stands for standard input
 noted, strict = set(), False  # what this command has remarked on, and whether that is trouble
+taken = False  # whether this command has read standard input
 
 
 def prepare():
@@ -19,6 +21,17 @@ def prepare():
     for name in NAMES:
         if getattr(sys, name):
             getattr(sys, name).reconfigure(errors="backslashreplace", newline="\n")
+
+
+def read(most):
+    """Standard input up to so many bytes, and the file that it is. It can be read once, and so stand for one file alone."""
+    global taken
+    if taken:
+        raise Trouble("standard input can be read once, and so stand for one file alone", INPUT)
+    taken = True
+    if not sys.stdin:
+        raise Trouble("standard input cannot be read: it is closed", INPUT)
+    return sys.stdin.buffer.read(most), os.fstat(sys.stdin.fileno())
 
 
 def write(text, name="stdout"):
@@ -38,9 +51,9 @@ def write(text, name="stdout"):
 
 
 def begin(is_strict):
-    """A command begins: it has remarked on nothing yet."""
-    global strict
-    strict = is_strict
+    """A command begins: it has remarked on nothing yet, and read nothing."""
+    global strict, taken
+    strict, taken = is_strict, False
     noted.clear()
 
 

@@ -111,6 +111,17 @@ def sheet_of(words, net, nodes):
     return sheet
 
 
+def held(net, words, n):
+    """What 32 places hold at a node by the words of a sheet, in order or not."""
+    counts = [0] * 32
+    if len(net) >= NET_HEAD and len(words) >= SHEET_HEAD:
+        first = sheet_key(net[0], net[1], words[0], ("count", n, 0))
+        for key, value in pairs(words, SHEET_HEAD):
+            if 0 <= key - first < min(net[0], 32):
+                counts[key - first] = value
+    return counts
+
+
 # ---- the log: how many firings, their transitions, the nodes that they reached
 
 

@@ -1,4 +1,4 @@
-"""The commands as they are called: exit statuses, JSON, outputs, help, version, installation, start-up."""
+"""The commands as they are called: exit statuses, JSON, outputs, help, version, start-up."""
 import json
 import os
 import re
@@ -57,7 +57,6 @@ def run(tally):
         disagreements(tally, folder)
         usage(tally, folder)
         largest(tally, folder)
-    installed(tally)
 
 
 def save(folder, name, data):
@@ -352,7 +351,7 @@ def trouble(tally, folder):
         ("", 2, "", "usage: lineup"),
         ("chek x.net", 2, "no command 'chek' (did you mean 'check'?)", ""),
         ("check", 2, "the following arguments are required: NET", ""),
-        ("check x.net x.sheet more", 2, "unrecognized arguments: more", ""),
+        ("bounds x.net x.sheet more", 2, "unrecognized arguments: more", ""),
         ("check --jsn x.net", 2, "--jsn", ""),
         ("spread x.net", 2, "a sheet is missing", ""),
         ("bounds x.net", 2, "a sheet is missing", ""),
@@ -493,19 +492,3 @@ def timed(folder, *arguments):
     start = time.monotonic()
     program(folder, *arguments)
     return time.monotonic() - start
-
-
-def installed(tally):
-    """An installed copy works without the repository."""
-    with tempfile.TemporaryDirectory() as prefix:
-        done = subprocess.run(["make", "-s", "install", f"PREFIX={prefix}"], cwd=HOME, capture_output=True, text=True, check=False)
-        tally.check("make install", done.returncode == 0, done.stdout[-300:] + done.stderr[-300:])
-        lineup_ = os.path.join(prefix, "bin", "lineup")
-        found = subprocess.run([lineup_, "check", os.path.join(HOME, "samples", "jetty")], cwd=prefix, capture_output=True, text=True, check=False)
-        tally.same("installed: check", (found.returncode, found.stderr), (0, ""))
-        found = subprocess.run([lineup_, "--version"], cwd=prefix, capture_output=True, text=True, check=False)
-        tally.holds("installed: version", found.stdout, "commit ", "kit ")
-        tally.check("installed: manual page", os.path.exists(os.path.join(prefix, "share", "man", "man1", "lineup.1")))
-        subprocess.run(["make", "-s", "uninstall", f"PREFIX={prefix}"], cwd=HOME, check=False)
-        left = [name for _, _, names in os.walk(prefix) for name in names]
-        tally.same("uninstalled", left, [])

@@ -4,7 +4,7 @@ from collections import Counter
 import generated
 from lineup import core, explain, faults, words
 from lineup.commands import trim
-from lineup.compare import parting
+from lineup.parting import parting
 
 
 def run(tally):

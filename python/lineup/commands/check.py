@@ -1,5 +1,5 @@
-"""lineup check: the core's verdict on a net and a sheet, told with names."""
-from lineup import core, inputs, pair
+"""lineup check: the core's verdict on a net and a sheet, told with names; or on many sheets, a line for each."""
+from lineup import core, inputs, many, pair
 from lineup.report import Report, plural
 from lineup.visible import inline
 
@@ -10,9 +10,12 @@ EXAMPLE = "lineup check samples/jetty/jetty.net samples/jetty/may.sheet"
 def arguments(parser):
     parser.add_argument("net", metavar="NET", help="a net as text, PNML or words; or a folder with net and sheet as words")
     parser.add_argument("sheet", metavar="SHEET", nargs="?", help="a sheet as text or words")
+    parser.add_argument("more", metavar="SHEET", nargs="*", help="more sheets: then a line for each, and a sum")
 
 
 def main(args):
+    if args.more:
+        return many.checked(args.net, [args.sheet, *args.more])
     if args.sheet is None and not inputs.has_sheet(args.net):
         return net_alone(inputs.net(args.net))
     both = pair.load(args.net, args.sheet)

@@ -1,6 +1,6 @@
 """lineup compare: whether two sheets of a net allow the same firings, by the core's own comparison of them."""
 from lineup import core, explain, inputs, pair
-from lineup.compare import parting
+from lineup.parting import parting
 from lineup.explain import Disagreement
 from lineup.report import ACCEPTED, REFUSED, TROUBLE, Report
 from lineup.visible import inline

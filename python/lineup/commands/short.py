@@ -1,6 +1,6 @@
 """lineup short: the short form of a sheet, in which nodes that hold the same and allow the same firings are one, as a sheet again."""
 from lineup import core, explain, names, outputs, pair, sheetfile, words
-from lineup.compare import merged
+from lineup.parting import merged
 from lineup.explain import Disagreement
 from lineup.report import Report, plural
 from lineup.visible import inline
