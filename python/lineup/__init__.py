@@ -5,7 +5,7 @@ They are loaded when the first of them is used, so that `import lineup` costs no
 
 __all__ = [
     "Net", "Sheet", "Trouble", "bounds", "check", "check_all", "check_net", "compare", "compose", "fire", "mend", "over_library", "parse_net", "parse_sheet", "read_net", "read_sheet", "replay",
-    "run", "sheet_of", "short_form", "text_of", "times", "trim",
+    "run", "sheet_of", "short_form", "text_of", "times", "trim", "why",
 ]
 
 

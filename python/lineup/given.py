@@ -1,13 +1,14 @@
-"""What a Python program hands to the calls: words as lists, nets and sheets of lineup's own, or the names of files; and the words that they say."""
+"""What a Python program hands to the calls: words as lists or bytes, nets and sheets of lineup's own, or the names of files; and the words that they say."""
 import os
 import struct
+import unicodedata
 
 from lineup import faults, inputs, words
 from lineup.logfile import Log
 from lineup.net import Net
 from lineup.sheet import Sheet
 from lineup.timesfile import Durations
-from lineup.wordfile import packed
+from lineup.wordfile import binary, packed
 
 
 def is_path(given):
@@ -24,20 +25,23 @@ def listed(given, what):
     return found
 
 
-def source(given, what, read, kind, said):
-    """A source: of a file, which `read` reads; of an object of `kind`, of which `said` tells the words; or of words."""
+def source(given, what, most, read, kind, said):
+    """A source: of a file, which `read` reads; of an object of `kind`, of which `said` tells the words; or of words, as bytes so many at most."""
     if is_path(given):
         return read(os.fspath(given))
     found = inputs.Source(f"the {what} given", "words")
     if isinstance(given, kind):
         found.model, found.words = given, listed(said(given), what)
+    elif isinstance(given, (bytes, bytearray)):
+        found.data = bytes(given)
+        found.words, found.tail = binary(found.data, most)
     else:
         found.words = listed(given, what)
     return found
 
 
 def net(given):
-    return source(given, "net", inputs.net, Net, words.net_words)
+    return source(given, "net", words.NET_WORDS, inputs.net, Net, words.net_words)
 
 
 def sheet(given, over):
@@ -47,15 +51,15 @@ def sheet(given, over):
         net = named(over).model
         return words.sheet_words(net, sheet) if net else []
 
-    return source(given, "sheet", lambda path: inputs.sheet(path, named(over)), Sheet, said)
+    return source(given, "sheet", words.SHEET_WORDS, lambda path: inputs.sheet(path, named(over)), Sheet, said)
 
 
 def log(given, over, sheet):
-    return source(given, "log", lambda path: inputs.log(path, named(over), named_sheet(sheet, over)), Log, words.log_words).words
+    return inputs.whole(source(given, "log", words.LOG_WORDS, lambda path: inputs.log(path, named(over), named_sheet(sheet, over)), Log, words.log_words)).words
 
 
 def durations(given, over):
-    return source(given, "durations", lambda path: inputs.whole(inputs.durations(path, named(over))), Durations, words.duration_words).words
+    return inputs.whole(source(given, "durations", words.TIMES_WORDS, lambda path: inputs.durations(path, named(over)), Durations, words.duration_words)).words
 
 
 def record(given, over):
@@ -68,10 +72,10 @@ def record(given, over):
 def transition(given, over):
     if not isinstance(given, str):
         return given
-    names = named(over).model.transitions if named(over).model else []
-    if given not in names:
+    names, name = named(over).model.transitions if named(over).model else [], unicodedata.normalize("NFC", given)
+    if name not in names:
         raise ValueError(f"no transition {given!r}: the net has {', '.join(map(repr, names)) or 'none that can be read'}")
-    return names.index(given)
+    return names.index(name)
 
 
 # ---- names for words that can be read: p0, t0, n0 and so on

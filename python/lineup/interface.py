@@ -1,6 +1,6 @@
 """The core's calls for Python programs: `import lineup`, then `lineup.check(net, sheet)` and its like.
 
-A net is the name of a file or a folder, as on the command line, a `Net`, or its words, a list of numbers; a sheet, a log and durations likewise.
+A net is the name of a file or a folder, as on the command line, a `Net`, or its words, a list of numbers or bytes; a sheet, a log and durations likewise.
 Transitions are numbers, or names where the net has names. Every call checks what it is handed anew and answers what the core answers: a class of
 `lineup.answers`, true where the core accepts. Nothing is raised for a refusal. `Trouble` is raised where a file cannot be read or the core cannot be
 asked, ValueError where words are no words."""
@@ -69,6 +69,16 @@ def check_net(net):
 def check(net, sheet):
     """Whether a sheet is accepted, and how many nodes, arcs and nodes that wait it has."""
     return asked(core.check, *pair(net, sheet))
+
+
+def why(net, sheet):
+    """What `lineup check` says of a refused sheet, in lines: where it is refused, why, what to do, and the core's answer. None where it is accepted."""
+    from lineup.pair import Pair
+
+    over, found = pair(net, sheet)
+    both = Pair(given.named(over), given.named_sheet(found, over))
+    answer = both.ask(core.check)[0]
+    return both.refusal(answer).lines if answer.number else []
 
 
 def check_all(net, sheets):

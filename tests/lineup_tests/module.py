@@ -16,6 +16,7 @@ import lineup
 from called import lineup as command
 from lineup import answers, core, home, interface, library, logfile, timesfile, words
 from lineup.home import HOME
+from lineup.wordfile import packed
 
 JETTY, TWO, TIMED = (os.path.join(HOME, "samples", name) for name in ("jetty", "two-jetties", "jetty-times"))
 NET, MAY, JUNE, EXPORT, LOG = (os.path.join(JETTY, name) for name in ("jetty.net", "may.sheet", "june.sheet", "export.sheet", "may.log"))
@@ -148,7 +149,7 @@ def forms(tally):
         def __fspath__(self):
             return NET
 
-    for one, other in ((NET, MAY), (Path(), may), (JETTY, JETTY), (both[0], both[1]), (tuple(both[0]), iter(both[1])), (NET, both[1]), (both[0], may), (lineup.parse_net(lineup.text_of(net)), lineup.parse_sheet(lineup.text_of(net, may), net))):
+    for one, other in ((NET, MAY), (Path(), may), (JETTY, JETTY), (both[0], both[1]), (tuple(both[0]), iter(both[1])), tuple(map(packed, both)), (bytearray(packed(both[0])), may), (NET, both[1]), (both[0], may), (lineup.parse_net(lineup.text_of(net)), lineup.parse_sheet(lineup.text_of(net, may), net))):
         tally.same(f"check of {type(one).__name__} and {type(other).__name__}", repr(lineup.check(one, other)), should)
     mended = lineup.sheet_of(lineup.mend(net, EXPORT).words, net, may.nodes)
     tally.same("a mended sheet as a text", lineup.text_of(net, mended), lineup.text_of(net, may).replace("sheet may\n", ""))
@@ -169,6 +170,8 @@ def forms(tally):
         tally.same("bytes that are no whole words", [lineup.check(*given).number for given in ((folder, folder), (NET, os.path.join(folder, "sheet.bin")))], [1, 6])
         tally.same("in any call", [call(NET, os.path.join(folder, "sheet.bin"), *more).number for call, more in ((lineup.run, [[0]]), (lineup.mend, []), (lineup.short_form, []))], [6, 6, 6])
         tally.same("in a net alone", lineup.check_net(folder).number, 1)
+        tally.same("handed over as they are", (lineup.check(packed(both[0]) + b"\0", may).number, lineup.check(net, packed(both[1]) + b"\0").number), (1, 6))
+        raised(tally, "in a log", lineup.Trouble, "the log given: 5 bytes are no whole words", lambda: lineup.replay(net, may, b"\1\0\0\0\0"))
         tally.same("among many", [answer.number for answer in lineup.check_all(NET, [MAY, os.path.join(folder, "sheet.bin"), JUNE])], [0, 6, 0])
         raised(tally, "bytes that are no whole words, in a comparison", lineup.Trouble, "no whole words", lambda: lineup.compare(NET, MAY, os.path.join(folder, "sheet.bin")))
 
@@ -227,6 +230,12 @@ def refusals(tally):
     tally.holds("a refusal's meaning and remedy", answer.meaning + answer.remedy, "a count is 0 or more", "leave out a count of 0")
     tally.same("an accepted one as text", [str(lineup.check(NET, MAY)), lineup.check(NET, MAY).word], ["accepted", ""])
     tally.same("a comparison as text", [str(lineup.compare(NET, MAY, sheet)) for sheet in (MAY, JUNE, EXPORT)], ["same", "different", "refused, 9 sheet value, at entry 14"])
+    told = lineup.why(NET, EXPORT)
+    tally.same("why, as the command tells it", told, command(JETTY, "check", NET, EXPORT)[1].splitlines())
+    net = lineup.read_net(NET)
+    tally.same("why, of objects", lineup.why(net, lineup.read_sheet(EXPORT, net))[1:], told[1:])
+    tally.same("why, of words", [line.strip() for line in lineup.why([1, 2, 2, 1, 2, 1, 1], [2, 2, 0, 5, 1, 1])][:2], ["the sheet given: refused, 11 dead end", "node n1 has no arrow"])
+    tally.same("why, accepted", lineup.why(NET, MAY), [])
     tally.same("a fault without a position", str(lineup.check([1], [])), "refused, 1 ragged net")
 
 

@@ -27,7 +27,7 @@ def run(tally):
         missing = called(folder, MISSING, "")
         tally.same("statuses with both streams", (accepted[0], refused[0], missing[0]), (0, 1, 2))
         cases = [
-            (CHECK, "2>&-", accepted), (CHECK, "2> /dev/full", accepted), (CHECK, "<&-", accepted), (CHECK, "<&- 2>&-", accepted), (REFUSED, "2>&-", refused), (REFUSED, "<&-", refused),
+            (CHECK, "2>&-", accepted), (CHECK, "2> /dev/full", accepted), (CHECK, "<&-", accepted), (CHECK, "<&- 2>&-", accepted), (CHECK, "< .", accepted), (REFUSED, "< .", refused), (REFUSED, "2>&-", refused), (REFUSED, "<&-", refused),
             (CHECK, ">&-", (2, "", CLOSED)), (CHECK, "<&- >&-", (2, "", CLOSED)), (CHECK, "> /dev/full", (2, "", FULL)), (CHECK, ">&- 2>&-", (2, "", "")), (CHECK, "> /dev/full 2>&1", (2, "", "")),
             (CHECK, "<&- >&- 2>&-", (2, "", "")), (REFUSED, ">&-", (2, "", CLOSED)), (REFUSED, "> /dev/full", (2, "", FULL)),
             (MISSING, ">&-", missing), (MISSING, "2>&-", (2, "", "")), (MISSING, "2> /dev/full", (2, "", "")), (f"{MISSING} --json", ">&-", missing), (f"{MISSING} --json", "> /dev/full", missing),
