@@ -12,6 +12,8 @@ from lineup.visible import inline
 def checked(net_path, paths):
     """The report on sheets, for all of which the core's program is started once. A sheet that cannot be read keeps no other from being judged."""
     net = inputs.net(net_path)
+    if net.tail:
+        return of_net(net, Pair(net, None).ask(core.net_check)[0])
     with Bar(2 * len(paths)) as bar:
         pairs = [bar.after(read, net, path) for path in paths]
         answers = asked(pairs)
@@ -49,7 +51,8 @@ def judged(path, both, answer):
     if answer.number:
         told = refused(explain(answer, both.net, both.sheet), answer)
         report = Report(REFUSED, sheet=path, **told.data)
-        return report.say(f"{told.lines[0]}: {told.lines[1].strip()} (core: {answer.line})")
+        found = answer.line.split(" nodes ")[0]  # what follows are the numbers of a sheet that is accepted
+        return report.say(f"{told.lines[0]}: {told.lines[1].strip()} (core: {found})")
     both.agree(answer)
     report = Report(ACCEPTED, sheet=path, accepted=True, **answer.own, core=[answer.line])
     return report.say(f"{inline(both.sheet.path)}: accepted (core: {answer.line})")

@@ -18,7 +18,7 @@ NET = "pl a\ntr s -> a\ntr u a ->\n"
 SHEET = "n:\n  s -> m\nm: a\n  u -> n\n"
 LONGER = "n:\n  s -> m\nm: a\n  u -> o\no:\n  s -> p\np: a\n  u -> n\n"
 FILES = {"x.net": NET, "x.sheet": SHEET, "longer.sheet": LONGER, "torn.sheet": "n:\n  s -> m\nm: a\n", "bad.sheet": "n: b\n", "over.net": "pl a (2) <= 1\ntr s -> a\n", "x.log": "s -> m\n", "x.times": "s 1 2\nu 3 4\n"}
-OK, TORN = "x.sheet: accepted (core: answer 0 none 0 nodes 2 arcs 2 awaits 1)\n", "torn.sheet:3:1: refused, 11 dead end: node m has no arrow (core: answer 11 node 1 nodes 0 arcs 0 awaits 0)\n"
+OK, TORN = "x.sheet: accepted (core: answer 0 none 0 nodes 2 arcs 2 awaits 1)\n", "torn.sheet:3:1: refused, 11 dead end: node m has no arrow (core: answer 11 node 1)\n"
 ONCE = "lineup: -: standard input can be read once, and so stand for one file alone\n"
 
 
@@ -57,6 +57,8 @@ def lines(tally, folder):
     tally.holds("a refused net, once", refused[1], "over.net:1:13: refused, 26 overfull start\n", "core: answer 26 place 0", "\nno sheet was judged: the net is refused\n")
     tally.same("a refused net, status", (refused[0], refused[1].count("refused, 26"), refused[2]), (1, 1, ""))
     save(folder, "w/sheet.bin", b"\2\0\0\0\1")
+    found = lineup(folder, "check", "w/sheet.bin", "x.sheet", "torn.sheet")
+    tally.same("a net of bytes that are no whole words", (found[0], found[1].splitlines()[0], found[1].splitlines()[-1], found[2]), (1, "w/sheet.bin: refused, 1 ragged net", "no sheet was judged: the net is refused", ""))
     lineup(folder, "words", "x.net", "x.sheet", "-o", "folder")
     found = lineup(folder, "check", "x.net", "folder", "w/sheet.bin", "x.sheet")
     tally.holds("folders, and bytes that are no whole words", found[1], "folder/sheet.txt: accepted (core", "w/sheet.bin: refused, 6 ragged sheet: 5 bytes", "3 sheets: 2 accepted, 1 refused\n")
