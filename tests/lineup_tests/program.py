@@ -1,4 +1,4 @@
-"""The commands as they are called: exit statuses, JSON, outputs, help, version, start-up."""
+"""The commands as they are called: exit statuses, JSON, outputs, help, version, installation, start-up."""
 import json
 import os
 import re
@@ -8,6 +8,7 @@ import subprocess
 import tempfile
 import time
 
+import beside
 import generated
 from called import lineup, program
 from lineup import cli, commands, core
@@ -57,6 +58,7 @@ def run(tally):
         disagreements(tally, folder)
         usage(tally, folder)
         largest(tally, folder)
+    installed(tally)
 
 
 def save(folder, name, data):
@@ -492,3 +494,20 @@ def timed(folder, *arguments):
     start = time.monotonic()
     program(folder, *arguments)
     return time.monotonic() - start
+
+
+def installed(tally):
+    """An installed copy works without the repository."""
+    with tempfile.TemporaryDirectory() as prefix:
+        done = subprocess.run(["make", "-s", "install", f"PREFIX={prefix}"], cwd=HOME, capture_output=True, text=True, check=False)
+        tally.check("make install", done.returncode == 0, done.stdout[-300:] + done.stderr[-300:])
+        lineup_ = os.path.join(prefix, "bin", "lineup")
+        found = subprocess.run([lineup_, "check", os.path.join(HOME, "samples", "jetty")], cwd=prefix, capture_output=True, text=True, check=False)
+        tally.same("installed: check", (found.returncode, found.stderr), (0, ""))
+        found = subprocess.run([lineup_, "--version"], cwd=prefix, capture_output=True, text=True, check=False)
+        tally.holds("installed: version", found.stdout, "commit ", "kit ")
+        tally.check("installed: manual page", os.path.exists(os.path.join(prefix, "share", "man", "man1", "lineup.1")))
+        beside.run(tally, prefix)
+        subprocess.run(["make", "-s", "uninstall", f"PREFIX={prefix}"], cwd=HOME, check=False)
+        left = [name for _, _, names in os.walk(prefix) for name in names]
+        tally.same("uninstalled", left, [])

@@ -1,5 +1,5 @@
-"""lineup check: the core's verdict on a net and a sheet, told with names; or on many sheets, a line for each."""
-from lineup import core, inputs, many, pair
+"""lineup check: the core's verdict on a net and a sheet, told with names."""
+from lineup import core, inputs, pair
 from lineup.report import Report, plural
 from lineup.visible import inline
 
@@ -15,6 +15,8 @@ def arguments(parser):
 
 def main(args):
     if args.more:
+        from lineup import many
+
         return many.checked(args.net, [args.sheet, *args.more])
     if args.sheet is None and not inputs.has_sheet(args.net):
         return net_alone(inputs.net(args.net))

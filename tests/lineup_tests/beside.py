@@ -1,33 +1,15 @@
-"""make install: a copy that works without the repository, with the pages and samples that its manual page names, and that goes away again."""
+"""What is installed beside the commands: the pages and samples that the manual page names, and the package for Python programs."""
 import os
 import re
 import subprocess
 import sys
 import tempfile
 
-from lineup.home import HOME
 
-
-def run(tally):
-    with tempfile.TemporaryDirectory() as prefix:
-        done = subprocess.run(["make", "-s", "install", f"PREFIX={prefix}"], cwd=HOME, capture_output=True, text=True, check=False)
-        tally.check("make install", done.returncode == 0, done.stdout[-300:] + done.stderr[-300:])
-        commands(tally, prefix)
-        named(tally, prefix)
-        module(tally, prefix)
-        subprocess.run(["make", "-s", "uninstall", f"PREFIX={prefix}"], cwd=HOME, check=False)
-        left = [name for _, _, names in os.walk(prefix) for name in names]
-        tally.same("uninstalled", left, [])
-
-
-def called(prefix, *arguments, folder=None):
-    return subprocess.run([os.path.join(prefix, "bin", "lineup"), *arguments], cwd=folder or prefix, capture_output=True, text=True, check=False)
-
-
-def commands(tally, prefix):
-    found = called(prefix, "check", os.path.join(HOME, "samples", "jetty"))
-    tally.same("installed: check", (found.returncode, found.stderr), (0, ""))
-    tally.holds("installed: version", called(prefix, "--version").stdout, "commit ", "kit ")
+def run(tally, prefix):
+    """Looks at what `make install` has left below a prefix."""
+    named(tally, prefix)
+    module(tally, prefix)
 
 
 def named(tally, prefix):
@@ -46,8 +28,8 @@ def named(tally, prefix):
         for name in os.listdir(folder[1]):
             os.symlink(os.path.join(folder[1], name), os.path.join(work, name))
         for example in examples:
-            found = called(prefix, *example.split()[1:], folder=work)
-            tally.same(f"installed: {example}", (found.returncode, found.stderr), (1 if example.startswith("lineup diff") else 0, ""))
+            done = subprocess.run([os.path.join(prefix, "bin", "lineup"), *example.split()[1:]], cwd=work, capture_output=True, text=True, check=False)
+            tally.same(f"installed: {example}", (done.returncode, done.stderr), (1 if example.startswith("lineup diff") else 0, ""))
 
 
 def module(tally, prefix):
