@@ -9,7 +9,7 @@ man = $(DESTDIR)$(PREFIX)/share/man/man1
 doc = $(DESTDIR)$(PREFIX)/share/doc/wulthrein
 archive = target/staticlib/libwulthrein.a
 shared = target/shared/libwulthrein.so
-pages = $(shell sed 's/\\-/-/g' docs/lineup.1 | grep -o '[a-z]*/[A-Za-z-]*\.md' | sort -u)
+pages = $(shell sed 's/\\-/-/g' docs/lineup.1 | grep -oE '(docs|python)/[A-Za-z.-]*[A-Za-z]' | sort -u)
 
 .PHONY: build lib shared install install-lib uninstall
 
@@ -20,7 +20,7 @@ lib:
 	rt staticlib firmware
 	cp target/staticlib/libfirmware.a $(archive)
 
-$(archive): crates.txt $(shell find crates -type f)
+$(archive): crates.txt $(shell find crates/*/src crates/*/specs crates/*/proofs -type f)
 	$(MAKE) lib
 
 shared: $(shared)

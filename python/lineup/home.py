@@ -87,8 +87,8 @@ def is_left(crate):
         stamped = os.stat(os.path.join(HOME, "target", "stamp", crate)).st_mtime_ns
     except FileNotFoundError:
         return True
-    files = [os.path.join(folder, name) for folder, _, names in os.walk(os.path.join(HOME, "crates", crate)) for name in names]
-    return any(os.stat(file).st_mtime_ns > stamped for file in files)
+    walked = (os.walk(os.path.join(HOME, "crates", crate, part)) for part in ("src", "specs", "proofs"))
+    return any(os.stat(os.path.join(folder, name)).st_mtime_ns > stamped for walk in walked for folder, _, names in walk for name in names)
 
 
 def read(name):
