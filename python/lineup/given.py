@@ -11,37 +11,38 @@ from lineup.timesfile import Durations
 from lineup.wordfile import binary, packed
 
 
-def is_path(given):
-    return isinstance(given, (str, os.PathLike))
+# of each what may be handed over as an object, and how many words of bytes are looked at
+TYPES = {"net": (Net, words.NET_WORDS), "sheet": (Sheet, words.SHEET_WORDS), "log": (Log, words.LOG_WORDS), "durations": (Durations, words.TIMES_WORDS)}
 
 
 def listed(given, what):
-    """Words as they are: numbers below 4,294,967,296."""
-    found = list(given)
+    """Words as plain numbers."""
     try:
-        packed(found)
+        data = packed(list(given))
     except struct.error:
         raise ValueError(f"the words of the {what} have to be whole numbers from 0 to 4,294,967,295") from None
-    return found
+    return binary(data, len(data))[0]
 
 
-def source(given, what, most, read, kind, said):
-    """A source: of a file, which `read` reads; of an object of `kind`, of which `said` tells the words; or of words, as bytes so many at most."""
-    if is_path(given):
+def source(given, what, read, said):
+    """A source: of a file, which `read` reads; of an object, of which `said` tells the words; or of words."""
+    if isinstance(given, (str, os.PathLike)):
         return read(os.fspath(given))
-    found = inputs.Source(f"the {what} given", "words")
+    found, (kind, most) = inputs.Source(f"the {what} given", "words"), TYPES[what]
     if isinstance(given, kind):
         found.model, found.words = given, listed(said(given), what)
-    elif isinstance(given, (bytes, bytearray)):
+    elif isinstance(given, (bytes, bytearray, memoryview)):
         found.data = bytes(given)
         found.words, found.tail = binary(found.data, most)
-    else:
+    elif hasattr(given, "__iter__"):
         found.words = listed(given, what)
+    else:
+        raise TypeError(f"the {what} has to be a file's name, a {kind.__name__} or words, not {type(given).__name__}")
     return found
 
 
 def net(given):
-    return source(given, "net", words.NET_WORDS, inputs.net, Net, words.net_words)
+    return source(given, "net", inputs.net, words.net_words)
 
 
 def sheet(given, over):
@@ -51,15 +52,15 @@ def sheet(given, over):
         net = named(over).model
         return words.sheet_words(net, sheet) if net else []
 
-    return source(given, "sheet", words.SHEET_WORDS, lambda path: inputs.sheet(path, named(over)), Sheet, said)
+    return source(given, "sheet", lambda path: inputs.sheet(path, named(over)), said)
 
 
 def log(given, over, sheet):
-    return inputs.whole(source(given, "log", words.LOG_WORDS, lambda path: inputs.log(path, named(over), named_sheet(sheet, over)), Log, words.log_words)).words
+    return inputs.whole(source(given, "log", lambda path: inputs.log(path, named(over), named_sheet(sheet, over)), words.log_words)).words
 
 
 def durations(given, over):
-    return inputs.whole(source(given, "durations", words.TIMES_WORDS, lambda path: inputs.durations(path, named(over)), Durations, words.duration_words)).words
+    return inputs.whole(source(given, "durations", lambda path: inputs.durations(path, named(over)), words.duration_words)).words
 
 
 def record(given, over):

@@ -47,7 +47,9 @@ def built(tally):
     done = subprocess.run(["make", "-s", "shared"], cwd=HOME, capture_output=True, text=True, check=False)
     tally.check("make shared", done.returncode == 0 and home.library(), done.stdout[-300:] + done.stderr[-300:])
     dynamic = subprocess.run(["readelf", "-dW", home.library()], capture_output=True, text=True, check=True).stdout
-    tally.check("position independent", "TEXTREL" not in dynamic and "libc.so" in dynamic, dynamic)
+    tally.check("nothing of its code is filled in at the start", "TEXTREL" not in dynamic and "libc.so" in dynamic, dynamic)
+    moved = subprocess.run(["readelf", "-rW", os.path.join(HOME, "target", "staticlib", "libwulthrein.a")], capture_output=True, text=True, check=True).stdout
+    tally.same("the archive's code is position independent", sorted(set(re.findall(r"R_X86_64_\w+", moved))), ["R_X86_64_PC32", "R_X86_64_PLT32"])
     library.loaded.cache_clear()
 
 
@@ -140,6 +142,16 @@ def calls(tally, how):
     tally.same(f"{how}: compared forms", [len(form) for form in found["compare, the same"][0].forms], [60, 60])
 
 
+class Whole:
+    """A whole number of another kind, as those of arrays are."""
+
+    def __init__(self, value):
+        self.value = value
+
+    def __index__(self):
+        return self.value
+
+
 def forms(tally):
     """What a call may be handed: files, folders, objects, texts of them, words; and back."""
     net, may = lineup.read_net(NET), lineup.read_sheet(MAY, NET)
@@ -149,7 +161,7 @@ def forms(tally):
         def __fspath__(self):
             return NET
 
-    for one, other in ((NET, MAY), (Path(), may), (JETTY, JETTY), (both[0], both[1]), (tuple(both[0]), iter(both[1])), tuple(map(packed, both)), (bytearray(packed(both[0])), may), (NET, both[1]), (both[0], may), (lineup.parse_net(lineup.text_of(net)), lineup.parse_sheet(lineup.text_of(net, may), net))):
+    for one, other in ((NET, MAY), (Path(), may), (JETTY, JETTY), (both[0], both[1]), (tuple(both[0]), iter(both[1])), tuple(map(packed, both)), (bytearray(packed(both[0])), may), (memoryview(packed(both[0])), may), ([True if word == 1 else word for word in both[0]], [Whole(word) for word in both[1]]), (NET, both[1]), (both[0], may), (lineup.parse_net(lineup.text_of(net)), lineup.parse_sheet(lineup.text_of(net, may), net))):
         tally.same(f"check of {type(one).__name__} and {type(other).__name__}", repr(lineup.check(one, other)), should)
     mended = lineup.sheet_of(lineup.mend(net, EXPORT).words, net, may.nodes)
     tally.same("a mended sheet as a text", lineup.text_of(net, mended), lineup.text_of(net, may).replace("sheet may\n", ""))
@@ -241,7 +253,7 @@ def refusals(tally):
 
 def mistakes(tally):
     net = [1, 2, 2, 1, 2, 1, 1]
-    for words_ in ([-1], [2**32], [1.5], ["1"], [None]):
+    for words_ in ([-1], [2**32], [2**70], [1.5], ["1"], [None]):
         raised(tally, f"the words {words_}", ValueError, "whole numbers from 0 to 4,294,967,295", lambda words_=words_: lineup.check(net, words_))
     raised(tally, "a negative node", ValueError, "whole numbers", lambda: lineup.fire(net, [1, 1, 0, 0], -1, 0))
     raised(tally, "a text as a list of firings", TypeError, "a list of transitions", lambda: lineup.run(NET, MAY, "berth"))
@@ -249,7 +261,9 @@ def mistakes(tally):
     raised(tally, "names of a net that cannot be read", ValueError, "none that can be read", lambda: lineup.run([1], [], ["berth"]))
     raised(tally, "no such file", lineup.Trouble, "no such file (did you mean 'jetty.net'?)", lambda: lineup.check(os.path.join(JETTY, "jety.net"), MAY))
     raised(tally, "a text that is wrong", lineup.Trouble, "text:1:1: ", lambda: lineup.parse_net("place a\n"))
-    raised(tally, "no net", TypeError, "", lambda: lineup.check(None, MAY))
+    raised(tally, "no net", TypeError, "the net has to be a file's name, a Net or words, not NoneType", lambda: lineup.check(None, MAY))
+    raised(tally, "net and sheet swapped", TypeError, "the net has to be a file's name, a Net or words, not Sheet", lambda: lineup.check(lineup.read_sheet(MAY, NET), lineup.read_net(NET)))
+    raised(tally, "a number as a log", TypeError, "the log has to be a file's name, a Log or words, not int", lambda: lineup.replay(NET, MAY, 3))
     raised(tally, "words that are no sheet", lineup.Trouble, "cannot be read: a check tells why", lambda: lineup.sheet_of([2, 7], net))
     tally.same("a text sheet over a net that cannot be read", (lineup.check([1], MAY).number, lineup.check([1], lineup.read_sheet(MAY, NET)).number), (1, 1))
 
@@ -269,6 +283,8 @@ def surface(tally):
     tally.same("names that are modules too", sorted(modules & set(lineup.__all__)), [])
     for name in lineup.__all__:
         tally.check(f"help for {name}", inspect.getdoc(getattr(lineup, name)) and (name[0].isupper() or getattr(lineup, name).__module__ == "lineup.interface"))
+    for name in lineup.__all__:
+        tally.check(f"{name} says what it answers", name[0].isupper() or inspect.signature(getattr(lineup, name)).return_annotation is not inspect.Signature.empty)
     defined = {name for name, found in vars(interface).items() if inspect.isfunction(found) and found.__module__ == "lineup.interface"}
     tally.same("functions that are not public", sorted(defined - set(lineup.__all__)), ["asked", "pair", "readable"])
     with open(os.path.join(HOME, "python", "README.md"), encoding="utf-8") as file:
