@@ -9,7 +9,7 @@ from lineup.trouble import Trouble, suggestion
 from lineup.visible import inline, quoted, visible
 
 DESCRIPTION = "Names, explanations, comparison and pictures around the proved checker of line-up schedules."
-STATUS = "A - in place of a file is standard input. Exit status: 0 accepted or the same, 1 refused or different, 2 trouble, which is told on standard error."
+STATUS = "Exit status: 0 accepted or the same, 1 refused or different, 2 trouble, which is told on standard error."
 
 
 class Parser(argparse.ArgumentParser):
@@ -30,7 +30,7 @@ def parser():
     parts = top.add_subparsers(dest="command", metavar="COMMAND")
     for name, module in modules.items():
         about = module.__doc__.split(": ", 1)[1]
-        epilog = f"example:\n  {module.EXAMPLE}\n\n{STATUS}"
+        epilog = f"example:\n  {module.EXAMPLE}\n\nA - in place of a file is standard input. {STATUS}"
         part = parts.add_parser(name, help=module.SUMMARY, description=about[0].upper() + about[1:], epilog=epilog, **plain)
         module.arguments(part)
         part.add_argument("-o", dest="output", metavar="FILE", help=getattr(module, "OUTPUT", "write to FILE instead of standard output"))
