@@ -41,7 +41,7 @@ def stages(tally, folder):
     tally.same("./run tells what is built and what is not", told, [
         "run: proving and building the checker; from nothing this takes some minutes",
         "rt: one line",
-        "run: the checker is built, and ./run needs no more; ./lineup asks another program, which it builds when it is first started, or make build does now",
+        "run: the checker is built; ./lineup asks another program, which its first start proves and builds, or make build does it now",
     ])
     tally.same("./run again", called(tally, folder, "./run samples/jetty", ""), [])
     told = called(tally, folder, "./lineup check samples/jetty", "check calls\n")
