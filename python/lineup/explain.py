@@ -1,5 +1,5 @@
 """A refusal in the words of the planner: what is wrong, where it stands, what to do. The number and the position are the core's."""
-from lineup import explain_log, explain_mending, explain_schedule, explain_times, explain_words, faults, reacting
+from lineup import explain_log, explain_mending, explain_schedule, explain_times, explain_words, fault_keys, faults, reacting
 from lineup.refusals import BAD_DURATION, ENDLESS, NO_COUNTS, OF_LOG, OF_NET, OF_RECORD, OF_WORDS, REFUSALS
 
 
@@ -10,6 +10,7 @@ class Explanation:
         self.number, self.source, self.where = answer.number, source, where
         self.lines, self.marks = lines, marks or {}
         self.word, _, self.remedy = REFUSALS[answer.number]
+        self.keys = dict(fault_keys.NONE)  # the same for programs
 
     def title(self):
         return f"refused, {self.number} {self.word}"
@@ -43,6 +44,17 @@ def agree(answer, net, sheet, record=None, log=None, judged=faults.sheet_fault, 
 def explain(answer, net, sheet, record=None, log=None, judged=faults.sheet_fault, times=None):
     """The explanation of a refusal."""
     agree(answer, net, sheet, record, log, judged, times)
+    return told(answer, net, sheet, record, log, times)
+
+
+def told(answer, net, sheet, record=None, log=None, times=None):
+    """A fault in words, whoever found it."""
+    found = sentences(answer, net, sheet, record, log, times)
+    found.keys.update(fault_keys.of(answer, net, sheet, record, log))
+    return found
+
+
+def sentences(answer, net, sheet, record, log, times):
     if answer.number in OF_NET:
         return Explanation(answer, net, *explain_words.net_fault(answer, net))
     if answer.number in OF_WORDS:

@@ -25,7 +25,7 @@ def torn_choice(n, net, source):
     lines = [f"node {sheet.nodes[n]} offers {net.listed(offered)}"]
     others = [t for t in offered if t in net.removed]
     if others:
-        lines.append(f"{net.listed(others)}: that is for another sheet, which this one does not know of")
+        lines.append(f"{net.listed(others)}: that is for another sheet, which this one does not know of: take the arrow away")
         return at_node(source, n), lines, {"nodes": [n]}
     lacking = [t for t in whole if t not in offered]
     if lacking:
@@ -40,7 +40,21 @@ def torn_choice(n, net, source):
         if t not in alike:
             takes, other = net.held(net.taken[t]), net.held(net.taken[first])
             lines.append(f"{net.transitions[t]} takes {takes}, and {net.transitions[first]} takes {other}: these are not one choice")
+    lines.append("for one whole choice: " + "; or ".join(arrows(net, *way) for way in ways_to_whole(net, offered, n == 0)))
     return at_node(source, n), lines, {"nodes": [n]}
+
+
+def ways_to_whole(net, offered, root, most=3):
+    """The arrows to add and those to take away that make one whole choice of what a node offers: for each choice that it could be, the least change first."""
+    wholes = [net.sources()] if root else [net.choice_set(t) for t in offered]
+    ways = [([t for t in whole if t not in offered], [t for t in offered if t not in whole]) for i, whole in enumerate(wholes) if whole not in wholes[:i]]
+    return sorted(ways, key=lambda way: len(way[0]) + len(way[1]))[:most]
+
+
+def arrows(net, added, dropped):
+    """Arrows to add and to take away, for a sentence."""
+    told = [("add", added), ("take away", dropped)]
+    return " and ".join(f"{verb} the arrow{'' if len(which) == 1 else 's'} for {net.listed(which)}" for verb, which in told if which)
 
 
 def busy_root(n, net, source):
@@ -93,6 +107,8 @@ def wrong_landing(entry, net, source):
             places.append(p)
             sum_ = f"{before} - {taken} + {put} = {before - taken + put}"
             lines.append(f"{arrow(net, sheet, n, t, m)}: {net.places[p]}: {sum_}, but node {sheet.nodes[m]} says {says}")
+    should = ", ".join(f"{net.places[p]} {result.get(p, 0)} and not {sheet.counts[m].get(p, 0)}" for p in places)
+    lines.append(f"by this arrow node {sheet.nodes[m]} should hold {should}")
     fitting = [other for other, counts in enumerate(sheet.counts) if counts == result]
     if fitting:
         lines.append(f"{net.held(result)} is what {'node' if len(fitting) == 1 else 'nodes'} {sheet.listed(fitting)} says")

@@ -126,6 +126,8 @@ def sheet_about(net, sheet, index):
 def net_said(net, index, weight=None):
     """What an entry of the net says."""
     what = net_about(net, index)
+    if what is None:
+        return "nothing of this net"
     place = net.model.places[what[-1]] if net.model else net.names.one("place", what[-1])
     many = "" if weight is None else f" {weight}"
     if what[0] == "start":

@@ -1,5 +1,5 @@
 """A net and a sheet, what the core answers for them, and that this agrees with what can be seen in them."""
-from lineup import causes, core, explain, faults, inputs
+from lineup import causes, core, explain, faults, inputs, mendable
 from lineup.explain import Disagreement
 from lineup.refusals import OF_NET, OF_WORDS
 from lineup.report import refused
@@ -32,7 +32,8 @@ class Pair:
     def refusal(self, answer, record=None, log=None, judged=None, times=None):
         """The report of a refusal by the core."""
         likely = causes.likely(self.net, self.sheet) if answer.number in OF_NET | OF_WORDS else []
-        return refused(explain.explain(answer, self.net, self.sheet, record, log, judged or self.judged, times), answer, likely)
+        found = explain.explain(answer, self.net, self.sheet, record, log, judged or self.judged, times)
+        return refused(found, answer, likely + mendable.advice(self, answer))
 
     def agree(self, checked, bounds=None):
         """Holds the numbers of an accepted sheet, and its bounds where they were asked for, to what the sheet says."""

@@ -23,22 +23,28 @@ class Report:
 
 def refused(explanation, answer, likely=()):
     """The report of a refusal."""
-    where = explanation.where or (None, None)
     report = Report(REFUSED, accepted=False)
-    report.data["refusal"] = {
-        "number": answer.number,
-        "word": explanation.word,
-        "position": {"kind": answer.kind, "index": answer.index},
-        "file": explanation.source.path,
-        "line": where[0],
-        "column": where[1],
-        "why": explanation.lines + list(likely),
-        "remedy": explanation.remedy,
-    }
-    report.say(place(explanation.source.path, *where) + explanation.title())
+    report.data["refusal"] = fault_data(answer, explanation, likely)
+    report.say(place(explanation.source.path, *(explanation.where or ())) + explanation.title())
     report.say(*(f"  {line}" for line in [*explanation.lines, *likely]))
     report.say(f"  to do: {explanation.remedy[0].lower()}{explanation.remedy[1:]}")
     return report.quote(answer)
+
+
+def fault_data(fault, explanation, likely=()):
+    """A fault for programs."""
+    line, column = explanation.where or (None, None)
+    return {
+        "number": fault.number,
+        "word": explanation.word,
+        "position": {"kind": fault.kind, "index": fault.index},
+        **explanation.keys,
+        "file": explanation.source.path,
+        "line": line,
+        "column": column,
+        "why": [*explanation.lines, *likely],
+        "remedy": explanation.remedy,
+    }
 
 
 def plural(count, what):

@@ -85,7 +85,7 @@ def statuses(tally, folder):
         (2, "compare x.net torn.sheet torn.sheet", ["refused, 11 dead end; it cannot be compared", "same 0 sheet 1"]),
         (2, "compare over.net x.sheet torn.sheet", ["over.net:1:13: refused, 26 overfull start; it cannot be compared", "same 0 sheet 0"]),
         (0, "diff x.net x.sheet longer.sheet", ["same: ", "core: answer 0 none 0 length 8 length 8 same 1"]),
-        (1, "diff x.net x.sheet greedy.sheet", ["different: after 1 firing", "only x.sheet allows: s, u", "only greedy.sheet allows: s, s", "answer 20 record 1"]),
+        (1, "diff x.net x.sheet greedy.sheet", ["different: after 1 firing", "only x.sheet allows: s u", "only greedy.sheet allows: s s", "answer 20 record 1"]),
         (1, "check shared.net both.sheet", ["t, u take the same (a), but on a place of theirs draws w (a*2)", "each of them stands alone", "core: answer 12 node 1"]),
         (0, "check shared.net x.sheet", ["accepted", "core: answer 0 none 0 nodes 2 arcs 2 awaits 1"]),
         (2, "diff x.net x.sheet torn.sheet", ["torn.sheet:3:1: refused, 11 dead end; it cannot be compared", "core: answer 11"]),

@@ -1,5 +1,5 @@
 """lineup check: the core's verdict on a net and a sheet, told with names."""
-from lineup import core, inputs, pair
+from lineup import core, every_fault, inputs, pair
 from lineup.report import Report, plural
 from lineup.visible import inline
 
@@ -11,29 +11,37 @@ def arguments(parser):
     parser.add_argument("net", metavar="NET", help="a net as text, PNML or words; or a folder with net and sheet as words")
     parser.add_argument("sheet", metavar="SHEET", nargs="?", help="a sheet as text or words")
     parser.add_argument("more", metavar="SHEET", nargs="*", help="more sheets: then a line for each, and a sum")
+    parser.add_argument("--all", action="store_true", help="of what is refused, tell every fault that stands by itself; the core's verdict is the first")
 
 
 def main(args):
     if args.more:
+        if args.all:
+            raise Trouble("--all tells the faults of one sheet")
         from lineup import many
 
         return many.checked(args.net, [args.sheet, *args.more])
     if args.sheet is None and not inputs.has_sheet(args.net):
-        return net_alone(inputs.net(args.net))
+        return net_alone(inputs.net(args.net), args.all)
     both = pair.load(args.net, args.sheet)
     answers = both.ask(core.check, core.bounds)
     if answers[0].number:
-        return both.refusal(answers[0])
+        return refusal(both, answers[0], args.all)
     both.agree(*answers)
     return accepted(both, *answers)
 
 
-def net_alone(net):
+def refusal(both, answer, every):
+    """The first fault, or every one."""
+    return every_fault.refusal(both, answer) if every else both.refusal(answer)
+
+
+def net_alone(net, every=False):
     """The verdict on a net."""
     both = pair.Pair(net, None)
     answer = both.ask(core.net_check)[0]
     if answer.number:
-        return both.refusal(answer)
+        return refusal(both, answer, every)
     model = net.model
     report = Report(accepted=True, places=model.places, transitions=model.transitions, sources=[model.transitions[t] for t in model.sources()])
     report.data["capacities"] = model.capacities()

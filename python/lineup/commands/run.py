@@ -1,7 +1,7 @@
 """lineup run: fires a list of transitions from the first node, or tells the first that the sheet does not allow."""
 import unicodedata
 
-from lineup import core, explain, inputs, pair
+from lineup import core, explain, inputs, pair, shellwords
 from lineup.explain import Disagreement
 from lineup.report import Report, plural
 from lineup.trouble import Trouble, suggestion
@@ -35,9 +35,7 @@ def numbers(both, firings):
     known = {name: t for t, name in enumerate(both.net.model.transitions)} if both.net.model else {}
     found = []
     for i, name in enumerate(firings, 1):
-        name = unicodedata.normalize("NFC", name)
-        if name not in known and name[:1] + name[-1:] == "{}":
-            name = name[1:-1]  # as a sheet writes it
+        name = shellwords.read(unicodedata.normalize("NFC", name), known)
         if name not in known and known:
             raise Trouble(f"firing {i}: no transition {quoted(name)}" + suggestion(name, known), both.net.path)
         found.append(known.get(name, 0))
