@@ -31,28 +31,29 @@ def marked(text, remark="# {}"):
 
 
 def write(path, data):
-    allowed(path, form(data.encode("utf-8") if isinstance(data, str) else data))
+    data = data.encode("utf-8") if isinstance(data, str) else data
+    allowed(path, form(data), data)
     files.write(path, data)
 
 
-def allowed(path, new):
-    """Trouble, unless the file may give way to one of the form `new`."""
+def allowed(path, new, data=None):
+    """Trouble, unless the file may give way to one of the form `new`, or is just that."""
     if not os.path.isfile(path):
         return
     if files.identity(os.stat(path)) in files.seen:
         raise Trouble("this command reads it, and so does not write over it", path)
-    if not forced and not own(path, new):
+    if not forced and not own(path, new, data):
         raise Trouble("is there already, and is not as lineup wrote it: name another file, or give --force", path)
 
 
-def own(path, new):
+def own(path, new, data):
     try:
         with open(path, "rb") as file:
-            data = file.read(files.LARGEST)
+            there = file.read(files.LARGEST)
     except OSError:
         return False
-    found = form(data)
-    return not data or found == "marked" or found is not None and found == new
+    found = form(there)
+    return not there or there == data or found == "marked" or found is not None and found == new
 
 
 def form(data):

@@ -37,6 +37,7 @@ FULL = "n:\n  s -> m\nm: a\n  b -> m\n  u -> n\n"
 SHUT = "pl a <= 0\npl b <= 0\ntr s -> b\ntr u b ->\ntr v b -> b a*0\n"
 OVER = "pl a (2) <= 1\ntr s -> a\ntr u a ->\n"
 SHORT = "n:\n  s -> m\nm:  a\n  u -> n\n# written by lineup, fda111e3\n"
+KEPT = "n:\n  s -> m\nm: a\n  u -> n\n# written by lineup, 4093f287\n"
 FILES = {
     "x.net": NET, "x.sheet": SHEET, "longer.sheet": LONGER, "greedy.sheet": GREEDY, "torn.sheet": TORN, "shared.net": SHARED, "both.sheet": BOTH, "x.log": LOG,
     "arrows.sheet": ARROWS, "stale.sheet": STALE, "hoard.sheet": HOARD, "starved.sheet": STARVED,
@@ -102,7 +103,7 @@ def statuses(tally, folder):
         (1, "replay x.net greedy.sheet x.log", ["x.log:3:1: refused, 20 not offered", "firing 2 of 3, u: node m offers s", "core: answer 20 record 1 taken 0 put 0 entry 0"]),
         (1, "replay x.net longer.sheet x.log", ["x.log:3:1: refused, 24 logged node differs", "firing 2 of 3, u: leads from node m to node o, and the log says node n", "core: answer 24 record 1"]),
         (1, "replay x.net torn.sheet x.log", ["11 dead end"]),
-        (0, "mend x.net x.sheet", ["# x.sheet: the counts are right, and nothing changed", "# core: answer 0 none 0 length 8 list 1", "m:  a"]),
+        (0, "mend x.net x.sheet", ["# x.sheet: the counts are right, and nothing changed", "# core: answer 0 none 0 length 8 list 1", "m: a"]),
         (0, "mend x.net arrows.sheet", ["# arrows.sheet: no count was given, and 1 count filled in", "# arrows.sheet:3:1: node m holds a", "length 8 list 3", "m:  a"]),
         (0, "mend x.net stale.sheet", ["3 counts changed", "stale.sheet:3:1: node m: a 7 becomes 1", "node o: a 4294967295 becomes 0", "node p: a 0 becomes 1", "written as 0 and left out: a of node n"]),
         (1, "mend x.net torn.sheet", ["torn.sheet:3:1: refused, 11 dead end", "core: answer 11 node 1 length 0 list 0"]),
@@ -113,9 +114,9 @@ def statuses(tally, folder):
         (1, "compose two.net torn.sheet other.sheet", ["torn.sheet:3:1: refused, 11 dead end", "read as one for s alone, without v", "core: answer 11 node 1 length 0 sheet 1"]),
         (1, "compose over.net x.sheet", ["over.net:1:13: refused, 26 overfull start", "core: answer 26 place 0 length 0 sheet 0"]),
         (0, "compose x.net x.sheet", ["# composed: 2 nodes, 2 arcs, 1 await node", "m:  a"]),
-        (0, "trim x.net left.sheet", ["# left.sheet: of 4 nodes 2 are not reached and dropped", "# left.sheet:3:1: node o is dropped", "# left.sheet:7:1: node q is dropped", "# core: answer 0 none 0 length 8 list 2", "m:  a"]),
+        (0, "trim x.net left.sheet", ["# left.sheet: of 4 nodes 2 are not reached and dropped", "# left.sheet:3:1: node o is dropped", "# left.sheet:7:1: node q is dropped", "# core: answer 0 none 0 length 8 list 2", "m: a"]),
         (0, "trim x.net x.sheet", ["# x.sheet: every node is reached, and none is dropped"]),
-        (0, "trim x.net torn.sheet", ["# torn.sheet: every node is reached", "m:  a"]),
+        (0, "trim x.net torn.sheet", ["# torn.sheet: every node is reached", "m: a"]),
         (1, "trim x.net stale.sheet", ["stale.sheet:1:4: refused, 9 sheet value", "core: answer 9 entry 4 length 0 list 0"]),
         (1, "trim over.net x.sheet", ["over.net:1:13: refused, 26 overfull start", "core: answer 26 place 0 length 0 list 0"]),
         (0, "check capped.net", ["accepted, as a net", "capacities: a <= 1"]),
@@ -155,14 +156,14 @@ def outputs(tally, folder):
     tally.same("check -o", lineup(folder, "check", "x.net", "x.sheet", "-o", "report.txt"), (0, "", ""))
     tally.same("check -o, the file", read(folder, "report.txt"), shown[1])
     lineup(folder, "short", "x.net", "longer.sheet", "-o", "short.sheet")
-    tally.same("short -o", read(folder, "short.sheet"), SHORT)
+    tally.same("short -o", read(folder, "short.sheet"), KEPT)
     tally.holds("mend -o, what is told", lineup(folder, "mend", "x.net", "arrows.sheet", "-o", "mended.sheet")[1], "  arrows.sheet:3:1: node m holds a\n", "written: mended.sheet\n")
     tally.same("mend -o", read(folder, "mended.sheet"), SHORT)
     tally.same("mend -o, a refused one", (lineup(folder, "mend", "x.net", "hoard.sheet", "-o", "none.sheet")[0], os.path.exists(os.path.join(folder, "none.sheet"))), (1, False))
     tally.holds("compose -o, what is told", lineup(folder, "compose", "two.net", "x.sheet", "other.sheet", "-o", "composed.sheet")[1], "  for s: x.sheet, 2 nodes\n", "written: composed.sheet\n")
     tally.holds("compose -o", lineup(folder, "check", "two.net", "composed.sheet")[1], "composed.sheet: accepted", "answer 0 none 0 nodes 3 arcs 4 awaits 1")
     tally.holds("trim -o, what is told", lineup(folder, "trim", "x.net", "left.sheet", "-o", "trimmed.sheet")[1], "  left.sheet:3:1: node o is dropped\n", "written: trimmed.sheet\n")
-    tally.same("trim -o", read(folder, "trimmed.sheet"), SHORT)
+    tally.same("trim -o", read(folder, "trimmed.sheet"), KEPT)
     tally.same("words -o", lineup(folder, "words", "x.net", "x.sheet", "-o", "w/x")[0], 0)
     tally.same("words -o, the files", sorted(os.listdir(os.path.join(folder, "w", "x"))), ["names.txt", "net.txt", "sheet.txt"])
     tally.same("words -o, read again", lineup(folder, "words", "w/x")[1], lineup(folder, "words", "x.net", "x.sheet")[1])
@@ -231,7 +232,7 @@ def as_json(tally, folder):
         "mend capped.net greedy.sheet": {"accepted": False},
         "compose two.net other.sheet x.sheet": {"accepted": True, "nodes": 3, "states": [["n", "k"], ["m", "k"], ["n", "l"]], "tasks": [{"source": "s", "sheet": "x.sheet"}, {"source": "v", "sheet": "other.sheet"}]},
         "compose two.net x.sheet": {"accepted": False},
-        "trim x.net left.sheet": {"accepted": True, "nodes": 2, "kept": ["n", "m"], "dropped": ["o", "q"], "words": [2, 3, 0, 3, 5, 1, 0, 1], "list": [0, 2], "sheet": "n:\n  s -> m\nm:  a\n  u -> n\n"},
+        "trim x.net left.sheet": {"accepted": True, "nodes": 2, "kept": ["n", "m"], "dropped": ["o", "q"], "words": [2, 3, 0, 3, 5, 1, 0, 1], "list": [0, 2], "sheet": "n:\n  s -> m\nm: a\n  u -> n\n"},
         "trim x.net stale.sheet": {"accepted": False},
         "words x.net": {"net": [1, 2, 2, 1, 2, 1, 1]},
         "names x.net": {"net": "pl a\ntr s    -> a\ntr u  a ->\n"},

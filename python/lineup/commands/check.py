@@ -1,6 +1,7 @@
 """lineup check: the core's verdict on a net and a sheet, told with names."""
 from lineup import core, every_fault, inputs, pair
 from lineup.report import Report, plural
+from lineup.trouble import Trouble
 from lineup.visible import inline
 
 SUMMARY = "have the core check a sheet against its net, or a net alone, and explain a refusal"

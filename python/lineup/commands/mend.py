@@ -1,5 +1,5 @@
 """lineup mend: works out the counts of a sheet from its arrows, by firing from the first node, and tells what changed."""
-from lineup import core, explain, mending, outputs, pair, sheetfile, words
+from lineup import core, explain, mending, pair, rewritten, words
 from lineup.explain import Disagreement
 from lineup.explain_schedule import at_node
 from lineup.report import Report, plural
@@ -15,6 +15,7 @@ OUTPUT = "write the sheet to FILE, and to standard output what changed"
 def arguments(parser):
     parser.add_argument("net", metavar="NET", help="a net, or a folder with net and sheet as words")
     parser.add_argument("sheet", metavar="SHEET", nargs="?", help="a sheet whose arrows are right; its counts may be stale or left out")
+    rewritten.arguments(parser)
 
 
 def main(args):
@@ -26,16 +27,10 @@ def main(args):
     net, sheet = both.net.model, both.sheet.model
     mended, changes = held_to(net, sheet, answer)
     report = Report(accepted=True, nodes=len(sheet.nodes), changes=[named(net, sheet, change) for change in changes])
-    report.data.update(zip(("words", "list"), answer.written), sheet=sheetfile.write(net, mended))
+    report.data.update(zip(("words", "list"), answer.written))
     remarks = [f"{inline(both.sheet.path)}: {summary(sheet, changes)}", *told(both, mended, changes), *zeros(net, sheet, mended)]
-    report.quote(answer)
-    if args.output:
-        outputs.write(args.output, outputs.marked(sheetfile.write(net, mended)))
-        report.lines = [remarks[0], *(f"  {line}" for line in remarks[1:]), *report.lines, f"written: {inline(args.output)}"]
-    else:
-        text = sheetfile.write(net, mended, [*remarks, *(line.strip() for line in report.lines)])
-        report.lines = text.splitlines()
-    return report
+    found = rewritten.of(both, mended, lambda text: text.hold(mended.counts), answer.written[0])
+    return rewritten.told(report.quote(answer), found, remarks, args, both.sheet.path)
 
 
 def held_to(net, sheet, answer):

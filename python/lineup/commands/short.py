@@ -1,5 +1,5 @@
 """lineup short: the short form of a sheet, in which nodes that hold the same and allow the same firings are one, as a sheet again."""
-from lineup import core, explain, names, outputs, pair, sheetfile, words
+from lineup import core, explain, names, pair, rewritten, words
 from lineup.parting import merged
 from lineup.explain import Disagreement
 from lineup.report import Report, plural
@@ -13,6 +13,7 @@ OUTPUT = "write the sheet to FILE, and to standard output what was merged"
 def arguments(parser):
     parser.add_argument("net", metavar="NET", help="a net, or a folder with net and sheet as words")
     parser.add_argument("sheet", metavar="SHEET", nargs="?", help="a sheet")
+    rewritten.arguments(parser)
 
 
 def main(args):
@@ -27,15 +28,19 @@ def main(args):
     remarks += [f"{', '.join(sheet.nodes[n] for n in nodes)} became {form.nodes[c]}" for c, nodes in enumerate(classes) if len(nodes) > 1]
     remarks.append(f"no accepted sheet that allows the same firings has fewer than {plural(len(form.nodes), 'node')}")
     report = Report(accepted=True, nodes=len(form.nodes), merged=[[sheet.nodes[n] for n in nodes] for nodes in classes])
-    report.data.update(words=answer.written[0], sheet=sheetfile.write(net, form))
-    report.quote(answer)
-    if args.output:
-        outputs.write(args.output, outputs.marked(sheetfile.write(net, form)))
-        report.lines = [*remarks, *report.lines, f"written: {inline(args.output)}"]
-    else:
-        text = sheetfile.write(net, form, [*remarks, *(line.strip() for line in report.lines)])
-        report.lines = text.splitlines()
-    return report
+    report.data["words"] = answer.written[0]
+    found = rewritten.of(both, form, lambda text: merge(text, sheet, classes), answer.written[0], renumbered=True)
+    return rewritten.told(report.quote(answer), found, remarks, args, both.sheet.path, indent="")
+
+
+def merge(text, sheet, classes):
+    """Of each class the first node stays, and arrows to the others lead to it."""
+    stays = {n: nodes[0] for nodes in classes for n in nodes}
+    text.drop([n for n, kept in stays.items() if n != kept])
+    for n in stays.values():
+        for t, m in sheet.arcs[n].items():
+            if stays[m] != m:
+                text.lead(n, t, stays[m])
 
 
 def named(net, sheet, answer):

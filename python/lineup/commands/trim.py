@@ -1,5 +1,5 @@
 """lineup trim: drops the nodes of a sheet that no arrows reach from the first one, and hands their numbers on."""
-from lineup import core, explain, outputs, pair, sheetfile, words
+from lineup import core, explain, pair, rewritten, words
 from lineup.explain import Disagreement
 from lineup.explain_schedule import at_node
 from lineup.faults import words_fault
@@ -16,6 +16,7 @@ OUTPUT = "write the sheet to FILE, and to standard output what was dropped"
 def arguments(parser):
     parser.add_argument("net", metavar="NET", help="a net, or a folder with net and sheet as words")
     parser.add_argument("sheet", metavar="SHEET", nargs="?", help="a sheet; its counts may be stale and its choices torn")
+    rewritten.arguments(parser)
 
 
 def main(args):
@@ -28,17 +29,11 @@ def main(args):
     trimmed, kept = held_to(net, sheet, answer)
     dropped = [n for n in range(len(sheet.nodes)) if n not in kept]
     report = Report(accepted=True, nodes=len(kept), kept=trimmed.nodes, dropped=[sheet.nodes[n] for n in dropped])
-    report.data.update(zip(("words", "list"), answer.written), sheet=sheetfile.write(net, trimmed))
+    report.data.update(zip(("words", "list"), answer.written))
     remarks = [f"{inline(both.sheet.path)}: {summary(sheet, dropped)}"]
     remarks += [f"{place(both.sheet.path, *(at_node(both.sheet, n) or ()))}node {sheet.nodes[n]} is dropped" for n in dropped]
-    report.quote(answer)
-    if args.output:
-        outputs.write(args.output, outputs.marked(sheetfile.write(net, trimmed)))
-        report.lines = [remarks[0], *(f"  {line}" for line in remarks[1:]), *report.lines, f"written: {inline(args.output)}"]
-    else:
-        text = sheetfile.write(net, trimmed, [*remarks, *(line.strip() for line in report.lines)])
-        report.lines = text.splitlines()
-    return report
+    found = rewritten.of(both, trimmed, lambda text: text.drop(dropped), answer.written[0])
+    return rewritten.told(report.quote(answer), found, remarks, args, both.sheet.path)
 
 
 def held_to(net, sheet, answer):
