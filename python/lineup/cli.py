@@ -9,7 +9,7 @@ from lineup.trouble import Trouble, suggestion
 from lineup.visible import inline, quoted, visible
 
 DESCRIPTION = "Names, explanations, comparison and pictures around the proved checker of line-up schedules."
-STATUS = "Exit status: 0 accepted or the same, 1 refused or different, 2 trouble, which is told on standard error."
+STATUS = "Exit status: 0 accepted, the same or found, 1 refused, different or not found, 2 trouble, which is told on standard error."
 
 
 class Parser(argparse.ArgumentParser):

@@ -24,6 +24,7 @@ CASES = {
     "compose": ["compose two/jetties.net two/east.sheet two/west.sheet"],
     "trim": ["trim J/jetty.net samples/edited/edited.sheet", "trim J --diff", "trim J"],
     "times": ["times JT/jetty.net JT/july.sheet JT/july.times", "times JT/jetty.net JT/july.sheet JT/july.times -o july.svg"],
+    "find": ["find J tank1 >= 2", "find J header = 1", "find J tank1 >= 3"],
     "words": ["words J", "words J/jetty.net", "words J/jetty.net J/may.sheet -o w", "words J/jetty.net J/may.sheet --binary -o w"],
     "names": ["names J", "names J/jetty.net", "names J --pnml", "names J --pnml -o j", "names J -o j"],
     "draw": ["draw J", "draw J/jetty.net", "draw samples/15-wrong-landing", "draw J -o j.svg"],
