@@ -8,10 +8,10 @@ from lineup.visible import HIDDEN, escape, quoted
 LARGEST_WORD = 4_294_967_295
 BARE = r"[\w'](?:[\w'.]|-(?!>))*"
 TOKEN = re.compile(
-    rf"""(?P<blank>[ \t\r]+|\#.*) | (?P<arrow>->) | \{{(?P<braced>(?:[^{{}}\\]|\\.)*)\}} | (?P<bare>{BARE}) | (?P<mark>[*:()]|<=|\[0,w\[)""",
+    rf"""(?P<blank>[ \t\r]+|\#.*) | (?P<arrow>->|→) | \{{(?P<braced>(?:[^{{}}\\]|\\.)*)\}} | (?P<bare>{BARE}) | (?P<mark>[*:()]|<=|\[0,w\[)""",
     re.VERBOSE,
 )
-# what nets of other tools have here, by the character that it begins with
+# what nets and logs of other tools have here, by what it begins with
 ELSEWHERE = {
     "?": "test and inhibitor arcs ('?') are not part of a place/transition net",
     "!": "stopwatch arcs ('!') are not part of a place/transition net",
@@ -19,6 +19,7 @@ ELSEWHERE = {
     "]": "intervals are not part of a place/transition net: this net has no clocks",
     "{": "a '{' without its '}'",
     "}": "a '}' without its '{'",
+    **dict.fromkeys(("=>", "--", "⇒", "⟶"), "an arrow is written '->' or '→'"),
 }
 
 
@@ -53,7 +54,7 @@ class Cursor:
         while here < len(text):
             found = TOKEN.match(text, here)
             if not found:
-                self.fail(ELSEWHERE.get(text[here], f"{quoted(text[here])} has no meaning here"), here + 1)
+                self.fail(ELSEWHERE.get(text[here : here + 2]) or ELSEWHERE.get(text[here], f"{quoted(text[here])} has no meaning here"), here + 1)
             kind, column, here = found.lastgroup, here + 1, found.end()
             if kind == "blank":
                 continue
@@ -62,7 +63,7 @@ class Cursor:
                 name = re.sub(r"\\(.)", r"\1", found[kind]) if kind == "braced" else found[kind]
                 yield "name", named(name, lambda what, column=column: self.fail(what, column)), column
             else:
-                yield found.group(), found.group(), column
+                yield "->" if kind == "arrow" else found.group(), found.group(), column
 
     def fail(self, message, column=None):
         """Tells what is wrong at a column, or else at the next token."""
@@ -127,9 +128,10 @@ class Cursor:
         return names[name]
 
 
-def lines(path, text):
-    """A cursor for each line that is not empty."""
+def lines(path, text, before=None):
+    """A cursor for each line that is not empty. What `before` matches at the front of a line is passed over."""
     for number, line in enumerate(unicodedata.normalize("NFC", text).split("\n"), 1):
-        cursor = Cursor(path, number, line)
+        passed = before.match(line) if before else None
+        cursor = Cursor(path, number, " " * passed.end() + line[passed.end() :] if passed else line)
         if cursor.left():
             yield cursor

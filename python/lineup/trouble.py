@@ -21,9 +21,8 @@ def place(path, line=None, column=None):
 
 
 def suggestion(name, names):
-    """A nearly right name's likely meaning, as the end of a message."""
-    from difflib import get_close_matches  # slow to load, and needed in errors alone
+    """What a nearly right name is likely to mean, as the end of a message; nothing where none is near."""
+    from lineup import nearness  # needed in errors alone
 
-    folded = {other.casefold(): other for other in names}
-    close = get_close_matches(name.casefold(), folded, 1, 0.6)
-    return f" (did you mean {quoted(folded[close[0]])}?)" if close else ""
+    found = nearness.near(name, names)
+    return f" (did you mean {' or '.join(map(quoted, found))}?)" if found else ""

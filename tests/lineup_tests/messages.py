@@ -89,6 +89,14 @@ LOGS = [
     ("berth -> b\nberth -> berthd\n", "1:10", ["no node 'b'"]),
     ("berth -> berthd\n", "1:10", ["no node 'berthd' (did you mean 'berthed'?)"]),
     ("berth -> berthed now\n", "1:18", ["'now' after the firing"]),
+    ("08:15 berth -> berthd\n", "1:16", ["no node 'berthd' (did you mean 'berthed'?)"]),
+    ("berth -> berthed 08:15\n", "1:18", ["a time stands in front of its firing: 08:15 TRANSITION -> NODE"]),
+    ("08.15 berth -> berthed\n", "1:1", ["no transition '08.15': a time in front of a firing is written 08:15"]),
+    ("08:15:berth -> berthed\n", "1:1", ["no transition '08': a time in front of a firing"]),
+    ("08:15 -> berthed\n", "1:7", ["'transition -> NODE' is expected, not '->'"]),
+    ("berth => berthed\n", "1:7", ["an arrow is written '->' or '→'"]),
+    ("berth --> berthed\n", "1:7", ["an arrow is written '->' or '→'"]),
+    ("berth ⇒ berthed\n", "1:7", ["an arrow is written '->' or '→'"]),
 ]
 
 HEAD = '<pnml xmlns="http://www.pnml.org/version-2009/grammar/pnml">\n'
@@ -103,16 +111,22 @@ PNMLS = [
     ("<html/>", "1:1", ["one net in a pnml element is expected, not 0"]),
     (HEAD + '<net id="n" type="http://www.pnml.org/version-2009/grammar/symmetricnet"/></pnml>', "2:1", ["symmetricnet", "only place/transition nets ('ptnet')"]),
     (OPEN + '<place id="p"><type><text>colour</text></type></place>' + CLOSE, "3:15", ["'type' ('colour') at a place is not part of a place/transition net"]),
-    (OPEN + '<referencePlace id="r" ref="p"/>' + CLOSE, "3:1", ["'referencePlace' at a page is not part"]),
+    (OPEN + '<inhibitor id="r" ref="p"/>' + CLOSE, "3:1", ["'inhibitor' at a page is not part"]),
+    (OPEN + PLACE + '<arc id="a" source="p" target="t"><type value="reset"/></arc>' + CLOSE, "5:35", ["'type' ('reset') at an arc"]),
+    (OPEN + '<transition id="t"><timed><value>true</value></timed></transition>' + CLOSE, "3:20", ["'timed' ('true') at a transition"]),
+    (OPEN + PLACE + '<referencePlace id="p" ref="t"/>' + CLOSE, "5:1", ["the id 'p' is there already"]),
+    (OPEN + PLACE + '<referencePlace id="r" ref="q"/>\n<arc id="a" source="r" target="t"/>' + CLOSE, "5:1", ["the reference's end 'q' is no place and no transition"]),
+    (OPEN + PLACE + '<referencePlace id="r" ref="t"/>\n<arc id="a" source="r" target="t"/>' + CLOSE, "5:1", ["the 'referencePlace' refers to 't', a transition"]),
+    (OPEN + PLACE + '<referencePlace id="r" ref="s"/><referencePlace id="s" ref="r"/>\n<arc id="a" source="r" target="t"/>' + CLOSE, "5:33", ["the reference 'r' leads back to itself"]),
     (OPEN + '<transition id="t"><condition><text>x = 1</text></condition></transition>' + CLOSE, "3:20", ["'condition' ('x = 1') at a transition"]),
     (OPEN + PLACE + '<arc id="a" source="p" target="t"><type value="inhibitor"/></arc>' + CLOSE, "5:35", ["'type' ('inhibitor') at an arc"]),
     (OPEN + '<place id="p"><name><text>a</text></name><name><text>b</text></name></place>' + CLOSE, "3:42", ["a second 'name' at a place"]),
-    (OPEN + '<place id="p"><capacity><value>2</value></capacity></place>' + CLOSE, "3:15", ["a capacity without a text"]),
+    (OPEN + '<place id="p"><capacity><other>2</other></capacity></place>' + CLOSE, "3:15", ["a capacity without a text"]),
     (OPEN + '<place id="p"><initialMarking><text>two</text></initialMarking></place>' + CLOSE, "3:15", ["'two' is no number from 0 to 4,294,967,295"]),
     (OPEN + '<place id="p"><name><text>a&#x202e;b</text></name></place>' + CLOSE, "3:1", ["a name holds \\u202e"]),
     (OPEN + "<place/>" + CLOSE, "3:1", ["a name is empty"]),
     (OPEN + '<place id="p"/><transition id="p"/>' + CLOSE, "3:16", ["the id 'p' is there already"]),
-    (OPEN + '<place id="p"><name><text>q</text></name></place><place id="q"/>' + CLOSE, "3:50", ["place 'q' is there already"]),
+    (OPEN + '<place id="p"><initialMarking><value>Default,1,Red,2</value></initialMarking></place>' + CLOSE, "3:15", ["'1,Red,2' is no number"]),
     (OPEN + PLACE + '<arc id="a" source="p" target="nowhere"/>' + CLOSE, "5:1", ["the arc's end 'nowhere' is no place and no transition"]),
     (OPEN + "<page>" * 3000 + "<place/>" + "</page>" * 3000 + CLOSE, "3:18001", ["a name is empty"]),
     (OPEN + PLACE + '<arc id="a" source="p" target="p"/>' + CLOSE, "5:1", ["an arc from a place to a place"]),
@@ -213,6 +227,11 @@ def in_files(tally, folder):
     path("both/net.bin", b"")
     expect(tally, "both forms", lambda: inputs.net(path("both")), "", ["has both net.bin and net.txt: net.bin is used"])
     expect(tally, "a place without a line", lambda: inputs.net(path("slip.net", "pl tank1\ntr s -> tnak1\n")), "2:9", ["place 'tnak1' has no 'pl' line", "(did you mean 'tank1'?)"])
+    for type_ in ("P/T net", "PTNet", "pnmlcoremodel", "http://www.informatik.hu-berlin.de/top/pntd/ptNetb", ""):
+        named = OPEN.replace("http://www.pnml.org/version-2009/grammar/ptnet", type_)
+        expect(tally, f"the type {type_!r}", lambda named=named: inputs.net(path("t.pnml", named + PLACE + CLOSE)), "2:1", [f"the net's type is '{type_}', and it is read as a place/transition net ('ptnet')"])
+    alike = OPEN + '<place id="p"><name><text>q</text></name></place><place id="q"/>\n' + CLOSE
+    expect(tally, "equal names", lambda: inputs.net(path("t.pnml", alike)), "3:50", ["2 places are called 'q', and are told apart by their ids: 'q (p)', 'q (q)'"])
     streams.begin(False)
 
 
