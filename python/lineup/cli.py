@@ -2,7 +2,7 @@
 import argparse
 import importlib
 
-from lineup import commands, outputs, streams
+from lineup import colour, commands, outputs, streams
 from lineup.explain import Disagreement
 from lineup.report import ACCEPTED, TROUBLE
 from lineup.trouble import Trouble, suggestion
@@ -26,7 +26,7 @@ def parser():
     plain = {"formatter_class": argparse.RawDescriptionHelpFormatter, "allow_abbrev": False}
     examples = "".join(f"  {module.EXAMPLE}\n" for module in modules.values())
     top = Parser(prog="lineup", description=DESCRIPTION, epilog=f"examples:\n{examples}\n{STATUS}", **plain)
-    top.add_argument("--version", action="store_true", help="tell the commit and the kit, and end")
+    top.add_argument("--version", action="store_true", help="tell the version, the commit and the kit, and end")
     parts = top.add_subparsers(dest="command", metavar="COMMAND")
     for name, module in modules.items():
         about = module.__doc__.split(": ", 1)[1]
@@ -61,14 +61,19 @@ def run(argv):
     if args.output and not getattr(modules[args.command], "OUTPUT", None):
         outputs.write(args.output, visible(text))
     elif text:
-        streams.write(text)
+        streams.write(text, paint=None if args.json else colour.report(args.command, report.status))
     return report.status
+
+
+def command(top, name):
+    """The parser of a command."""
+    return next(action for action in top._actions if isinstance(action, argparse._SubParsersAction)).choices[name]
 
 
 def as_json(data):
     import json
 
-    return json.dumps(data, indent=2) + "\n"
+    return json.dumps(data, indent=2).replace("\x7f", "\\u007f") + "\n"  # the one character that JSON lets through and a terminal obeys
 
 
 def told(trouble, argv):

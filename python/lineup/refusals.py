@@ -6,6 +6,7 @@ Refusal = namedtuple("Refusal", "word meaning remedy")
 # which are about the net, about the words of a sheet, about a list of firings, and about a log; the others are about a sheet that can be read
 OF_NET, OF_WORDS, OF_RECORD, OF_LOG = {1, 2, 3, 4, 5, 26}, {6, 7, 8, 9}, {20}, {20, 23, 24}
 NO_COUNTS, BAD_DURATION, ENDLESS = 25, 32, 33
+OF_PROGRAMS, OF_COMPOSING, OF_TIMES = {18, 19, 21, 22, 31}, {28, 29, 30}, {32, 33}
 
 REFUSALS = {
     1: Refusal(
@@ -157,6 +158,11 @@ REFUSALS = {
         "dependent",
         "A sheet relies on what another one keeps changed while it waits: a transition is planned where a place then holds less than it takes, or has no room for what it puts.",
         "Let the other sheet give back what it took, or clear what it put, before it waits; or plan both sources in one sheet.",
+    ),
+    31: Refusal(
+        "broken word",
+        "A program has handed over bytes of a net, a sheet or a record that are no whole words: their number is no multiple of four.",
+        "Hand over all bytes, four for each word; the file may be cut short. No command of lineup gives this number: it answers 1 or 6 for such a file.",
     ),
     32: Refusal(
         "bad duration",

@@ -2,6 +2,7 @@
 import os
 import sys
 
+from lineup import colour
 from lineup.trouble import Trouble
 from lineup.visible import visible
 
@@ -34,13 +35,14 @@ def read(most):
     return sys.stdin.buffer.read(most), os.fstat(sys.stdin.fileno())
 
 
-def write(text, name="stdout"):
-    """All that lineup prints goes out here. A pipe that nobody reads any more is the caller's to know of."""
+def write(text, name="stdout", paint=None):
+    """All that lineup prints goes out here, painted on a terminal. A pipe that nobody reads any more is the caller's to know of."""
     stream = getattr(sys, name)
     if not stream:
         raise Trouble(f"{NAMES[name]} cannot be written: it is closed")
     try:
-        stream.write(visible(text))
+        shown = visible(text)
+        stream.write(paint(shown) if paint and colour.wanted(stream) else shown)
         stream.flush()
     except BrokenPipeError:
         drop(stream)
@@ -63,13 +65,13 @@ def note(remark):
         raise remark
     if str(remark) not in noted:
         noted.add(str(remark))
-        write(f"lineup: {remark}\n", "stderr")
+        write(f"lineup: {remark}\n", "stderr", colour.trouble)
 
 
 def tell(text):
     """To standard error, where that can be written; for what has nowhere else to go."""
     try:
-        write(text, "stderr")
+        write(text, "stderr", colour.trouble)
     except (Trouble, BrokenPipeError):
         pass
 

@@ -28,6 +28,9 @@ CASES = {
     "words": ["words J", "words J/jetty.net", "words J/jetty.net J/may.sheet -o w", "words J/jetty.net J/may.sheet --binary -o w"],
     "names": ["names J", "names J/jetty.net", "names J --pnml", "names J --pnml -o j", "names J -o j"],
     "draw": ["draw J", "draw J/jetty.net", "draw samples/15-wrong-landing", "draw J -o j.svg"],
+    "explain": ["explain 15", "explain"],
+    "help": ["help 15", "help", "help check"],
+    "completion": ["completion bash", "completion zsh"],
     "trouble": ["check no.net", "check slip.net", "run J nothing", "check", "compose J/jetty.net tail.bin"],
 }
 REFUSED = ["check", "bounds", "short", "mend", "trim", "words", "names"]  # of a folder
