@@ -61,7 +61,7 @@ def run(argv):
     if args.output and not getattr(modules[args.command], "OUTPUT", None):
         outputs.write(args.output, visible(text))
     elif text:
-        streams.write(text, paint=None if args.json else colour.report(args.command, report.status))
+        streams.write(text, paint=None if args.json else colour.report(args.command, report))
     return report.status
 
 

@@ -14,16 +14,15 @@ def wanted(stream):
     return bool(stream.isatty() and not os.environ.get("NO_COLOR") and os.environ.get("TERM", "dumb") != "dumb")
 
 
-def report(command, status):
-    """Paints the lines of a report: its first one is the verdict, unless it is a text that begins with a remark."""
+def report(command, found):
+    """Paints the lines of a report. Its first one is the verdict, unless it is a text that begins with a remark; of many sheets the last one is, which sums up."""
 
     def paint(text):
-        text = FAINT_LINE.sub(rf"{FAINT}\1{PLAIN}", text)
-        text = BOLD_LINE.sub(rf"{BOLD}\1{PLAIN}\2", text)
-        first, end, rest = text.partition("\n")
-        if command in TEXTS or first.startswith(("#", "//", "{")):
-            return text
-        return f"{ {ACCEPTED: GREEN, REFUSED: RED}.get(status, YELLOW)}{first}{PLAIN}{end}{rest}"
+        lines = BOLD_LINE.sub(rf"{BOLD}\1{PLAIN}\2", FAINT_LINE.sub(rf"{FAINT}\1{PLAIN}", text)).split("\n")
+        if command not in TEXTS and not lines[0].startswith(("#", "//")):
+            at = -2 if found.data.get("sheets") else 0
+            lines[at] = {ACCEPTED: GREEN, REFUSED: RED}.get(found.status, YELLOW) + lines[at] + PLAIN
+        return "\n".join(lines)
 
     return paint
 

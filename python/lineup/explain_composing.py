@@ -1,6 +1,7 @@
 """Refusals of composing, 28 to 30: how many sheets, how large together, and which of them is in another's way, at which state and place."""
 import math
 
+from lineup import fault_keys
 from lineup.composing import composed, entries
 from lineup.explain_mending import firings
 from lineup.explain_schedule import no_room
@@ -38,6 +39,21 @@ def clashing(net, tasks):
     i = clash.states.firing(clash.state, clash.transition)
     sheet, n = tasks[i].sheet, clash.states.found[clash.state][i]
     return sheet, sheet.locate(("arc", n, clash.transition)), lines
+
+
+def keys(net, tasks):
+    """30, and 29 of a count, for programs: the arrow of the sheet that cannot fire, and the counts of the state."""
+    clash = composed(net, tasks)[1]
+    if clash.what not in ("dependent", "count"):
+        return {}
+    held = clash.states.counts[clash.state]
+    if clash.what == "count":
+        return fault_keys.of_places([fault_keys.count(net, p, held[p], "<=", WEIGHT) for p in clash.places])
+    t, i = clash.transition, clash.states.firing(clash.state, clash.transition)
+    sheet, n = tasks[i].sheet.model, clash.states.found[clash.state][i]
+    counts = [fault_keys.count(net, p, held.get(p, 0), ">=", net.taken[t][p]) for p in net.starved(held, t)]
+    counts += [fault_keys.count(net, p, held.get(p, 0) + net.put[t][p], "<=", net.capacity[p]) for p in net.overfilled(held, t)]
+    return {**fault_keys.arrow(net, sheet, n, t, sheet.arcs[n][t]), **fault_keys.of_places(counts)}
 
 
 def at(net, clash):

@@ -59,6 +59,8 @@ KEYS = {
     "run J berth rework": {"number": 20, "node": "berthed", "transition": "rework", "target": None, "place": None},
     "replay J/jetty.net J/june.sheet J/may.log": {"number": 20, "node": "off", "transition": "rework"},
     "mend two/jetties.net hoard.sheet": {"number": 25, "node": "n", "transition": "ship", "target": "n", "place": "east", "counts": [{"place": "east", "is": 0, "relation": "=", "needed": 1}]},
+    "compose two/jetties.net two/east.sheet two/hose.sheet": {"number": 30, "node": "berthed", "transition": "line-up", "target": "sampled", "place": "header", "entry": None, "counts": [{"place": "header", "is": 0, "relation": ">=", "needed": 1}]},
+    "compose two/jetties.net two/east.sheet": {"number": 28, "node": None, "counts": []},
     "times J/jetty.net J/may.sheet may.times": {"number": 33, "node": "sampled"},
     "times JT/jetty.net JT/july.sheet late.times": {"number": 32, "transition": "berth"},
 }

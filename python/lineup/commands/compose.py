@@ -31,7 +31,9 @@ def composed(net, sheets, output=None):
     if answer.own["sheet"]:
         return tasks[answer.own["sheet"] - 1].refusal(answer)
     if answer.number:
-        return refused(Explanation(answer, *explain_composing.clashing(net, tasks)), answer)
+        found = Explanation(answer, *explain_composing.clashing(net, tasks))
+        found.keys.update(explain_composing.keys(net.model, tasks))
+        return refused(found, answer)
     return made(net.model, tasks, answer, output)
 
 
