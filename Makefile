@@ -42,6 +42,7 @@ install: build install-lib
 	install -m 755 lineup $(lib)/lineup
 	install -m 755 target/bin/calls target/bin/checker $(lib)/target/bin
 	install -m 644 python/lineup/*.py $(lib)/python/lineup
+	install -m 644 python/lineup/page.css python/lineup/page.js $(lib)/python/lineup
 	install -m 644 python/lineup/commands/*.py $(lib)/python/lineup/commands
 	sed 's|/usr/local|$(PREFIX)|g' docs/lineup.1 > $(man)/lineup.1
 	rm -rf $(doc)

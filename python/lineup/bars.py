@@ -1,8 +1,9 @@
 """A bar chart of times as SVG: for each row a bar up to the best time, and on to the worst."""
 from xml.sax.saxutils import escape
 
+from lineup.looks import BORDER, INK, LINE
 from lineup.shapes import FONT, LEADING, SMALL, cut, width
-from lineup.svg import BORDER, INK, LINE, MARGIN
+from lineup.svg import MARGIN
 
 BAR, ROW, LONG = 14, 26, 420  # how thick a bar is, how far rows are apart, how long the longest bar is
 SURE, PERHAPS = "#2b4a6f", "#c6d8ee"

@@ -36,9 +36,14 @@ def arrange(boxes, arrows, column):
         reverse = column[a] > column[b]
         ways.append(laid(boxes[b] if reverse else boxes[a], boxes[a] if reverse else boxes[b], label, reverse, columns))
     order(columns)
+    place(columns)
+    return columns, ways
+
+
+def place(columns):
+    """Sets x and y of every piece, whose order is known."""
     place_down(columns)
     place_along(columns)
-    return columns, ways
 
 
 def columns_of(count, arrows, roots):

@@ -24,9 +24,10 @@ def run(tally):
     for what, net, sheet in pictures:
         sizes.append(len(sheet.model.nodes))
         for kind, shown in (("net", picture.of_net(net.model)), ("sheet", picture.of_sheet(net.model, sheet.model))):
-            text = svg.write(shown)
-            apart(tally, f"{what}, {kind}", text)
-            complete(tally, f"{what}, {kind}", shown, text)
+            for way, text in (("", svg.write(shown)), (", down", svg.write(shown, down=True))):
+                apart(tally, f"{what}, {kind}{way}", text)
+                complete(tally, f"{what}, {kind}{way}", shown, text)
+            folded(tally, f"{what}, {kind}", shown)
             by_graphviz(tally, f"{what}, {kind}", dot.write(shown))
     tally.check("pictures of some 30 nodes", sum(25 <= size <= 40 for size in sizes) >= 3, sizes)
 
@@ -53,7 +54,7 @@ def sample_pairs():
 def shapes(text):
     """Boxes and labels as (left, top, right, bottom), and lines as lists of points."""
     boxes, labels, lines = [], [], []
-    for element in tree.fromstring(text):
+    for element in tree.fromstring(text).iter():
         kind, at = element.tag.rpartition("}")[2], {key: element.get(key) for key in element.keys()}
         if kind == "rect" and "rx" in at:
             x, y, wide, high = (float(at[key]) for key in ("x", "y", "width", "height"))
@@ -62,11 +63,13 @@ def shapes(text):
             x, y, r = (float(at[key]) for key in ("cx", "cy", "r"))
             boxes.append((x - r, y - r, x + r, y + r, "round"))
         elif kind == "text":
-            said = "".join(part for part in element.itertext())
+            titles = [title.text for title in element.iter() if title.tag.endswith("title")]
+            said = "".join(part for part in element.itertext() if part not in titles)
             size, x, y = float(at["font-size"]), float(at["x"]), float(at["y"])
-            half = width(said, size) / 2
-            labels.append((x - half, y - size * 0.8, x + half, y + size * 0.2))
-        elif kind == "path" and at["fill"] == "none":
+            wide = width(said, size)
+            left = x if at.get("text-anchor") == "start" else x - wide / 2
+            labels.append((left, y - size * 0.8, left + wide, y + size * 0.2))
+        elif kind == "path" and at.get("fill") == "none":
             lines.append(points(at["d"]))
     return boxes, labels, lines
 
@@ -138,11 +141,45 @@ def complete(tally, what, shown, text):
     lines = text.count('fill="none"')
     roots = len(shown.roots) if shown.boxes[0].kind == "node" else 0
     tally.same(f"{what}: arrows", lines, len(shown.arrows) + roots)
-    tally.same(f"{what}: heads", len(re.findall(r'<path d="[^"]*z" fill="#', text)), lines)
+    tally.same(f"{what}: heads", len(re.findall(r'<path class="head" d="[^"]*z" fill="#', text)), lines)
     texts = unescape(re.sub("<[^>]*>", "\n", text))
-    wanted = [box.title for box in shown.boxes] + [label for arrow in shown.arrows for label, _ in arrow.labels]
+    wanted = [box.title for box in shown.boxes] + [label.text() for arrow in shown.arrows for label in arrow.labels]
     missing = [name for name in wanted if name not in texts]
     tally.check(f"{what}: names", not missing, missing[:4])
+
+
+def folded(tally, what, shown):
+    """No wider than it is told to be, unless one box with its arrows is; and each arrow goes on where its number stands again."""
+    wide = svg.write(shown)
+    natural, narrow = size(wide)[0], 260 + max(span_of_a_column(shown), 0)
+    if natural <= narrow:
+        tally.check(f"{what}: narrow enough as it is", svg.write(shown, wide=narrow) == wide, (natural, narrow))
+        return
+    text = svg.write(shown, wide=narrow)
+    tally.check(f"{what}: folded", size(text)[0] <= narrow, (size(text), narrow))
+    apart(tally, f"{what}, folded", text)
+    drawn = tree.fromstring(text)
+    for group in drawn.iter("{http://www.w3.org/2000/svg}g"):
+        if group.get("class", "").startswith("arrow"):
+            lines = sum(path.get("fill") == "none" for path in group)
+            heads = sum(path.get("class") == "head" for path in group)
+            tags = [(part.tail or "") for element in group for part in element if element.get("class") == "cut"]
+            tally.check(f"{what}, folded: an arrow in parts", heads == 1 and len(tags) == 2 * (lines - 1) and len(set(tags)) <= 1, (lines, heads, tags))
+    numbers = [{(part.tail or "") for element in group for part in element if element.get("class") == "cut"} for group in drawn.iter("{http://www.w3.org/2000/svg}g")]
+    used = [number for found in numbers for number in found]
+    tally.same(f"{what}, folded: each its own number", len(used), len(set(used)))
+
+
+def span_of_a_column(shown):
+    """The widest that a column of boxes and one of labels can be."""
+    from lineup.shapes import Shape, label_piece
+
+    boxes = [Shape(box, [], 0).piece.width for box in shown.boxes]
+    return max(boxes) + max([label_piece(arrow).width for arrow in shown.arrows], default=0)
+
+
+def size(text):
+    return tuple(int(number) for number in re.search(r' width="(\d+)" height="(\d+)"', text).groups())
 
 
 def by_graphviz(tally, what, text):

@@ -107,7 +107,7 @@ COMMANDS = [
     "check jetty.net may.sheet", "check w", "check w may.sheet", "check jetty.net w", "check jetty.pnml may.sheet", "diff jetty.net may.sheet june.sheet",
     "diff jetty.net may.sheet w", "compare jetty.net may.sheet june.sheet", "compare w may.sheet w", "spread w", "spread jetty.net may.sheet", "short w", "bounds w", "run w berth line-up", "mend w", "mend jetty.net may.sheet", "compose jetty.net w", "compose w may.sheet", "trim w", "trim jetty.net may.sheet", "words jetty.net may.sheet", "names w", "names jetty.pnml",
     "check --all w", "check --all jetty.net may.sheet", "diff --all jetty.net may.sheet june.sheet", "diff --all w w may.sheet", "mend jetty.net may.sheet --diff", "short jetty.net june.sheet --diff", "trim jetty.net june.sheet --diff --json", "short jetty.net june.sheet",
-    "draw w -o x.svg", "draw --net w -o x.svg", "draw jetty.net may.sheet",
+    "draw w -o x.svg", "draw --net w -o x.svg", "draw jetty.net may.sheet", "draw jetty.net may.sheet --diff june.sheet --down -o x.svg", "draw w --run berth line-up --width 400 --legend -o x.svg", "page w -o x.html", "page jetty.net may.sheet", "play w --random 20", "play jetty.net may.sheet --random 3 --seed 2",
 ]
 
 

@@ -440,6 +440,15 @@ def disagreements(tally, folder):
             ("compare x.net x.sheet torn.sheet", "sheet 2", "sheet 1"),
             ("compare x.net torn.sheet torn.sheet", "sheet 1", "sheet 2"),
             ("compare over.net x.sheet torn.sheet", "sheet 0", "sheet 1"),
+            ("play x.net x.sheet --random 2", "nodes 2", "nodes 3"),
+            ("play x.net x.sheet --random 2", "fired 2 node 0", "fired 2 node 1"),
+            ("draw x.net x.sheet --run s u", "answer 0 none 0 fired", "answer 20 record 1 fired"),
+            ("draw x.net x.sheet --log x.log", "answer 0 none 0 taken", "answer 24 record 1 taken"),
+            ("draw x.net x.sheet --diff longer.sheet", "same 1", "same 0"),
+            ("page x.net x.sheet", "nodes 2", "nodes 3"),
+            ("page x.net x.sheet", "out 1", "out 2"),
+            ("page x.net x.sheet x.log", "taken 1", "taken 2"),
+            ("page x.net torn.sheet", "answer 11 node 1", "answer 11 node 0"),
             ("short x.net torn.sheet", "answer 11 node 1 length 0", "answer 0 none 0 length 0"),
             ("diff x.net x.sheet longer.sheet", "0 3 5 1 0 1", "0 3 5 1 0 2"),
             ("short x.net longer.sheet", "0 3 5 1 0 1 ", "0 3 5 0 1 1 "),
@@ -505,6 +514,8 @@ def installed(tally):
         lineup_ = os.path.join(prefix, "bin", "lineup")
         found = subprocess.run([lineup_, "check", os.path.join(HOME, "samples", "jetty")], cwd=prefix, capture_output=True, text=True, check=False)
         tally.same("installed: check", (found.returncode, found.stderr), (0, ""))
+        found = subprocess.run([lineup_, "page", os.path.join(HOME, "samples", "jetty")], cwd=prefix, capture_output=True, text=True, check=False)
+        tally.same("installed: page", (found.returncode, found.stderr), (0, ""))
         found = subprocess.run([lineup_, "--version"], cwd=prefix, capture_output=True, text=True, check=False)
         tally.holds("installed: version", found.stdout, "commit ", "kit ")
         tally.check("installed: manual page", os.path.exists(os.path.join(prefix, "share", "man", "man1", "lineup.1")))

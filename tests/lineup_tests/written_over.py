@@ -31,6 +31,8 @@ COMMANDS = {
     "names x.net --pnml -o out": ["out.pnml"],
     "draw x.net x.sheet -o out.svg": ["out.svg"],
     "draw x.net x.sheet -o out.dot": ["out.dot"],
+    "page x.net x.sheet x.log -o out.html": ["out.html"],
+    "play x.net x.sheet --random 3 --seed 1 -o out.log": ["out.log"],
 }
 DRAWN = {"draw x.net -o out.png": ["out.png"], "draw x.net -o out.pdf": ["out.pdf"], "draw x.net --graphviz -o out.svg": ["out.svg"]}
 
