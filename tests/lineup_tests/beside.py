@@ -1,6 +1,7 @@
 """What is installed beside the commands: the pages and samples that the manual page names, and the package for Python programs."""
 import os
 import re
+import shlex
 import subprocess
 import sys
 import tempfile
@@ -28,7 +29,7 @@ def named(tally, prefix):
         for name in os.listdir(folder[1]):
             os.symlink(os.path.join(folder[1], name), os.path.join(work, name))
         for example in examples:
-            done = subprocess.run([os.path.join(prefix, "bin", "lineup"), *example.split()[1:]], cwd=work, capture_output=True, text=True, check=False)
+            done = subprocess.run([os.path.join(prefix, "bin", "lineup"), *shlex.split(example)[1:]], cwd=work, capture_output=True, text=True, check=False)
             tally.same(f"installed: {example}", (done.returncode, done.stderr), (1 if example.startswith("lineup diff") else 0, ""))
 
 

@@ -185,7 +185,7 @@ def bars(tally, folder):
     broken.close()
     with contextlib.redirect_stderr(broken), progress.Bar(1, iter([0, 5, 5]).__next__) as bar:
         tally.same("a terminal that is gone", bar.after(lambda: 7), 7)
-    error, slow = on_terminal(folder, 1.3), on_terminal(folder, 0)
+    error, slow = on_terminal(folder, 3), on_terminal(folder, 0)
     tally.check("a slow one on a terminal", "lineup: [" in error and error.rstrip("\n").endswith("\r"), error)
     tally.same("a quick one on a terminal", slow, "")
 

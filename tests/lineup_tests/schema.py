@@ -12,7 +12,7 @@ from lineup.home import HOME
 
 # commands by the definition that their JSON has to fit, in a folder with the samples and a few texts
 CASES = {
-    "check": ["check J", "check J/jetty.net", "check J/jetty.net J/may.sheet", "check --all J"],
+    "check": ["check J", "check J/jetty.net", "check J/jetty.net J/may.sheet", "check --all J", "check J/jetty.net J/may.sheet J/june.sheet J/export.sheet"],
     "spread": ["spread J", "spread samples/15-wrong-landing"],
     "compare": ["compare J/jetty.net J/may.sheet J/june.sheet", "compare J/jetty.net J/may.sheet J"],
     "diff": ["diff J/jetty.net J/may.sheet J/june.sheet", "diff J/jetty.net J/may.sheet J", "diff --all J/jetty.net J/may.sheet J/june.sheet", "diff --all J/jetty.net J/may.sheet J"],
@@ -28,6 +28,8 @@ CASES = {
     "words": ["words J", "words J/jetty.net", "words J/jetty.net J/may.sheet -o w", "words J/jetty.net J/may.sheet --binary -o w"],
     "names": ["names J", "names J/jetty.net", "names J --pnml", "names J --pnml -o j", "names J -o j"],
     "draw": ["draw J", "draw J/jetty.net", "draw samples/15-wrong-landing", "draw J -o j.svg"],
+    "page": ["page J", "page J -o j.html", "page J/jetty.net J/export.sheet", "page J/jetty.net J/may.sheet J/may.log"],
+    "play": ["play J --random 9 --seed 1", "play J --random 0", "play J --random 3 --seed 2 -o j.log"],
     "explain": ["explain 15", "explain"],
     "help": ["help 15", "help", "help check"],
     "completion": ["completion bash", "completion zsh"],
