@@ -48,7 +48,7 @@ def refusals(tally, folder):
     abouts = {5: "about the net", 9: "about the words of a sheet", 15: "about a sheet that can be read", 20: "a list of firings or a log", 23: "about a log", 25: "with mend", 30: "with compose", 33: "with times", 31: "only for programs"}
     for number, part in abouts.items():
         tally.holds(f"explain {number}: what it is about", lineup(folder, "explain", str(number))[1], part)
-    tally.same("explain in JSON", json.loads(lineup(folder, "explain", "15", "--json")[1]), {"refusals": [{"number": 15, **REFUSALS[15]._asdict()}]})
+    tally.same("explain in JSON", json.loads(lineup(folder, "explain", "15", "--json")[1]), {"refusals": [{"number": 15, **REFUSALS[15]._asdict(), "about": "about a sheet that can be read, with check and every command that checks"}]})
     for text, part in (("0", "0 is no refusal: it says accepted"), ("34", "there is no refusal 34: the numbers are 1 to 33"), ("9" * 5000, "there is no refusal 9999"), ("wrong landin", "(did you mean 'wrong landing'?)"), ("³", "there is no refusal '³'"), ("xyzzy", "there is no refusal 'xyzzy' (lineup explain lists them)")):
         found = lineup(folder, "explain", text)
         tally.check(f"explain {text[:20]}", found[0] == 2 and part in found[2] and len(found[2]) < 200, found)

@@ -29,7 +29,7 @@ def main(args):
 
 def told(numbers):
     """The report on some refusals, or the list of all."""
-    report = Report(refusals=[{"number": number, **REFUSALS[number]._asdict()} for number in numbers or sorted(REFUSALS)])
+    report = Report(refusals=[{"number": number, **REFUSALS[number]._asdict(), "about": about(number)} for number in numbers or sorted(REFUSALS)])
     if not numbers:
         wide = len(str(max(REFUSALS)))
         report.say(*(f"{number:{wide}}  {refusal.word}" for number, refusal in sorted(REFUSALS.items())))
