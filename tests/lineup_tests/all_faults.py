@@ -39,6 +39,7 @@ def run(tally):
     with tempfile.TemporaryDirectory() as folder:
         planted(tally, folder)
         told(tally, folder)
+        disagreements(tally, folder)
 
 
 def first(tally, cases):
@@ -156,3 +157,15 @@ def told(tally, folder):
         tally.same(f"{command}: the core", found[1].splitlines()[-1], lineup(folder, "check", *command.split())[1].splitlines()[-1])
     tally.same("a remedy stands once for each number", lineup(folder, "check", "--all", "x.net", "stale.sheet")[1].count("to do: correct the counts of that node"), 1)
     tally.same("an accepted sheet has none", lineup(folder, "check", "--all", JETTY), lineup(folder, "check", JETTY))
+
+
+def disagreements(tally, folder):
+    """A core whose verdict is not the first fault found is not explained away."""
+    played = core.played
+    try:
+        for is_, other in (("answer 15 entry 0", "answer 15 entry 1"), ("answer 15 entry 0", "answer 14 entry 0"), ("answer 15 entry 0", "answer 0 none 0")):
+            core.played = lambda *arguments, is_=is_, other=other: played(*arguments).replace(is_, other, 1)
+            found = lineup(folder, "check", "--all", "x.net", "stale.sheet")
+            tally.check(f"a core that says {other!r}", found[0] == 2 and "DISAGREEMENT" in found[2] and not found[1], found)
+    finally:
+        core.played = played

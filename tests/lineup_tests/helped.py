@@ -66,7 +66,7 @@ def version(tally, folder):
         number = file.read().strip()
     tally.check("the number of the version", re.fullmatch(r"\d+\.\d+\.\d+", number), number)
     found = lineup(folder, "--version")
-    tally.check("--version", found[0] == 0 and found[1].startswith(f"lineup {number} of Wulthrein\ncommit "), found)
+    tally.check("--version", found[0] == 0 and found[1].startswith(f"lineup of Wulthrein {number}\ncommit "), found)
 
 
 # ---- completion

@@ -10,7 +10,7 @@ from collections import Counter
 import generated
 import round_trip
 from called import lineup
-from lineup import core, inputs, netfile, sheetfile, words
+from lineup import core, inputs, netfile, sheet_patch, sheetfile, words
 from lineup.home import HOME
 
 JETTY = os.path.join(HOME, "samples", "jetty")
@@ -39,6 +39,7 @@ def run(tally):
         for what, (command, text, should) in TEXTS.items():
             by_hand(tally, folder, what, command, text, text if should is None else should)
         own_remarks(tally, folder)
+        patched_wrongly(tally, folder)
         samples(tally, folder)
         decorated(tally, folder)
 
@@ -84,6 +85,24 @@ def own_remarks(tally, folder):
     head = "# first.sheet: the counts are right, and nothing changed\n# core: answer 0 none 0 length 12 list 1\n"
     tally.same("remarks of lineup's are replaced", second, head + first[first.index("n:\n") :])
     tally.check("they were there", first.startswith("# x.sheet: no count was given"), first)
+
+
+def patched_wrongly(tally, folder):
+    """A text that does not say what the core wrote is not handed out."""
+    before = sheet_patch.Patch.hold, sheet_patch.Patch.drop, sheet_patch.Patch.lead
+    save(folder, "x.sheet", TEXTS["counts change in place"][1])
+    save(folder, "y.sheet", TEXTS["arrows lead to the one that stays"][1])
+    try:
+        sheet_patch.Patch.hold = sheet_patch.Patch.drop = sheet_patch.Patch.lead = lambda *arguments: None
+        for command, name in (("mend", "x.sheet"), ("trim", "z.sheet")):
+            save(folder, "z.sheet", TEXTS["a node goes with its remarks"][1])
+            found = lineup(folder, command, "x.net", name, "-o", "wrong.sheet")
+            tally.check(f"{command}, patched wrongly", found[0] == 2 and "DISAGREEMENT: the text as it was patched" in found[2] and not os.path.exists(os.path.join(folder, "wrong.sheet")), found)
+        sheet_patch.Patch.drop = lambda self, nodes: before[1](self, [n for n in range(len(self.sheet.nodes)) if self.sheet.nodes[n] == "o"])
+        found = lineup(folder, "short", "x.net", "y.sheet", "-o", "wrong.sheet")
+        tally.check("short, patched wrongly", found[0] == 2 and not os.path.exists(os.path.join(folder, "wrong.sheet")), found)
+    finally:
+        sheet_patch.Patch.hold, sheet_patch.Patch.drop, sheet_patch.Patch.lead = before
 
 
 def samples(tally, folder):

@@ -9,10 +9,10 @@ EXAMPLE = "lineup check samples/jetty/jetty.net samples/jetty/may.sheet"
 
 
 def arguments(parser):
+    parser.add_argument("--all", action="store_true", help="of what is refused, tell every fault that stands by itself; the core's verdict is the first")
     parser.add_argument("net", metavar="NET", help="a net as text, PNML or words; or a folder with net and sheet as words")
     parser.add_argument("sheet", metavar="SHEET", nargs="?", help="a sheet as text or words")
     parser.add_argument("more", metavar="SHEET", nargs="*", help="more sheets: then a line for each, and a sum")
-    parser.add_argument("--all", action="store_true", help="of what is refused, tell every fault that stands by itself; the core's verdict is the first")
 
 
 def main(args):
