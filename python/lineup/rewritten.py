@@ -39,7 +39,7 @@ def of(both, changed, patch, written, renumbered=False):
     patch(text)
     after = text.text()
     said = words.sheet_words(net, sheetfile.read(source.path, after.lstrip("\ufeff"), net))
-    if renumbered:
+    if renumbered and said[0] == written[0]:  # as many nodes
         said = core.ask(core.short(both.net.words, said))[0].written[0]
     if said != written:
         raise Disagreement("the text as it was patched does not say what the core wrote")

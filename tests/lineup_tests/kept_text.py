@@ -94,13 +94,10 @@ def patched_wrongly(tally, folder):
     save(folder, "y.sheet", TEXTS["arrows lead to the one that stays"][1])
     try:
         sheet_patch.Patch.hold = sheet_patch.Patch.drop = sheet_patch.Patch.lead = lambda *arguments: None
-        for command, name in (("mend", "x.sheet"), ("trim", "z.sheet")):
+        for command, name in (("mend", "x.sheet"), ("trim", "z.sheet"), ("short", "y.sheet")):
             save(folder, "z.sheet", TEXTS["a node goes with its remarks"][1])
             found = lineup(folder, command, "x.net", name, "-o", "wrong.sheet")
             tally.check(f"{command}, patched wrongly", found[0] == 2 and "DISAGREEMENT: the text as it was patched" in found[2] and not os.path.exists(os.path.join(folder, "wrong.sheet")), found)
-        sheet_patch.Patch.drop = lambda self, nodes: before[1](self, [n for n in range(len(self.sheet.nodes)) if self.sheet.nodes[n] == "o"])
-        found = lineup(folder, "short", "x.net", "y.sheet", "-o", "wrong.sheet")
-        tally.check("short, patched wrongly", found[0] == 2 and not os.path.exists(os.path.join(folder, "wrong.sheet")), found)
     finally:
         sheet_patch.Patch.hold, sheet_patch.Patch.drop, sheet_patch.Patch.lead = before
 
