@@ -31,11 +31,10 @@ def main(args):
     both = pair.load(args.net, args.sheet)
     told = Told(both, args.log and inputs.log(args.log, both.net, both.sheet), args.times and inputs.durations(args.times, both.net))
     report = Report(REFUSED if told.refused else 0, accepted=not told.refused)
-    report.data["core"] = told.lines
+    report.data.update(core=told.lines, page=told.page())
     if not args.output:
-        report.data["page"] = told.page()
-        return report.say(*told.page().splitlines())
-    outputs.write(args.output, told.page())
+        return report.say(*report.data["page"].splitlines())
+    outputs.write(args.output, report.data["page"])
     report.data["written"] = args.output
     report.say(f"written: {inline(args.output)}", *(f"  {title}: the page explains it" for title in told.refused))
     return report.say(*(f"  core: {line}" for line in told.lines))
