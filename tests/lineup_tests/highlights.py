@@ -8,7 +8,9 @@ import generated
 from called import lineup
 from drawings import apart
 from lineup import highlight, netfile, picture, svg
+from lineup.commands.compare import parting
 from lineup.home import HOME
+from lineup.shapes import short
 
 JETTY = os.path.join(HOME, "samples", "jetty")
 NET, MAY, JUNE, LOG = (os.path.join(JETTY, name) for name in ("jetty.net", "may.sheet", "june.sheet", "may.log"))
@@ -159,8 +161,6 @@ def long_names(tally, folder):
         whole = [title.text for text in cut for title in text.findall(f"{SPACE}title")]
         tally.check(f"{arguments}: the whole in a tooltip", len(whole) == len(cut) > 0 and all(LONG in title for title in whole), (len(cut), whole))
     part = picture.Part("x" * 50, " x 1000000000")
-    from lineup.shapes import short
-
     tally.same("a part", short(part), "x" * 16 + "\u2026 x 1000000000")
     tally.same("a part with much that belongs to it", short(picture.Part("long name", " " + "9" * 40)), "lon\u2026 " + "9" * 40)
 
@@ -231,8 +231,6 @@ def on_generated(tally):
             continue
         both = highlight.of_both(net.model, one.model, other.model)
         marks = {label.mark for arrow in both.arrows for label in arrow.labels}
-        from lineup.compare import parting
-
         tally.same(f"pair {i}: marked exactly where they part", bool(marks - {""}), parting(one.model, other.model) is not None)
         many += bool(marks - {""})
         for sheet, mark in ((one.model, "less"), (other.model, "more")):
