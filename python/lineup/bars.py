@@ -1,5 +1,5 @@
 """A bar chart of times as SVG: for each row a bar up to the best time, and on to the worst."""
-from xml.sax.saxutils import escape
+from html import escape
 
 from lineup.looks import BORDER, INK, LINE
 from lineup.shapes import FONT, LEADING, SMALL, cut, width

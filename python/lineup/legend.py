@@ -1,5 +1,5 @@
 """What the signs of a picture mean, as far as it has them: a row of samples with words, below the picture."""
-from xml.sax.saxutils import escape
+from html import escape
 
 from lineup import looks
 from lineup.looks import END, FAULT, INK, LESS, MORE, RUN, WAITS

@@ -1,6 +1,6 @@
 """Nets as PNML (ISO/IEC 15909-2), place/transition nets alone, with a label of ours for what a place can hold: reading and writing."""
 import re
-from xml.sax.saxutils import escape
+from html import escape
 
 from lineup import streams, xml
 from lineup.names import spare
@@ -195,7 +195,7 @@ def write(net):
     """The net as PNML."""
 
     def label(tag, text):
-        return f"<{tag}><text>{escape(str(text))}</text></{tag}>"
+        return f"<{tag}><text>{escape(str(text), quote=False)}</text></{tag}>"
 
     lines = ['<?xml version="1.0" encoding="UTF-8"?>', f'<pnml xmlns="{SPACE}">', f'  <net id="net" type="{TYPE}">']
     lines += [f"    {label('name', net.name)}"] if net.name else []

@@ -1,6 +1,6 @@
 """A picture as SVG that needs nothing beside it."""
+from html import escape
 from textwrap import wrap
-from xml.sax.saxutils import escape
 
 from lineup import bands, layout, legend, looks
 from lineup.layout import GAP, span
