@@ -14,7 +14,7 @@ JETTY, TIMES = (os.path.join(HOME, "samples", name) for name in ("jetty", "jetty
 MAY = [os.path.join(JETTY, name) for name in ("jetty.net", "may.sheet", "may.log")]
 JULY = [os.path.join(TIMES, name) for name in ("jetty.net", "july.sheet")]
 DURATIONS = os.path.join(TIMES, "july.times")
-EVIL = "</script><script>owned=1</script>"
+EVIL = "</script ><script>owned=1</script >"  # a blank, so that escaping either sign alone would not do
 PICTURE = '\\"><img src=x onerror=owned=1>'
 FILES = {
     "x.net": "pl a\ntr s -> a\ntr u a ->\n",
