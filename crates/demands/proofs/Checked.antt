@@ -13,12 +13,11 @@ use Rattle.judge.specs.Answer.{plainCheck}
 use Rattle.judge.specs.declared.CheckAnswer.{CheckAnswer}
 use Rattle.call.specs.Demands.{number}
 use Rattle.call.proofs.Demands.{every-call-none}
-use Rattle.refusal.specs.Limits.{scratchLimit}
 use Rattle.call.specs.Call.{CallDone}
 use Rattle.schedule.specs.Calls.{checkCore}
 use Rattle.schedule.proofs.Done.{check-law}
-use Rattle.demands.specs.Terms.{said, Accepted}
-use Rattle.demands.specs.Demand3.{AlwaysAccepted}
+use Rattle.demands.specs.Terms.{said, AcceptedWithin}
+use Rattle.demands.specs.Demand3.{AlwaysWithin}
 use Rattle.demands.proofs.Calls.{call-zero}
 
 -- accepted exactly where the net is one, the words pass and the graph that they say is a schedule
@@ -33,22 +32,22 @@ pub check-zero : (net sheet : List ℕ) {limit : ℕ} {s s′ : List ℕ} {a : C
     → (number (plainCheck a) ≡ 0) ↔ ((limit ≤ length s) × (scheduleReply net sheet ≡ verdict.Accepted))
 check-zero net sheet d = let (f, g) = call-zero (check-law net sheet) d in (λ z. let (l, h, m) = f z in (l, h), λ (l, h). g (l, h, λ i. omega arith))
 
-pub accepted-reply : (net sheet : List ℕ) → Accepted net sheet → scheduleReply net sheet ≡ verdict.Accepted
+pub accepted-reply : (net sheet : List ℕ) {limit : ℕ} → AcceptedWithin limit net sheet → scheduleReply net sheet ≡ verdict.Accepted
 accepted-reply net sheet a = check-zero net sheet (a .done) .0 (a .zero) .1
 
-pub always-accepted : (net sheet : List ℕ) → scheduleReply net sheet ≡ verdict.Accepted → AlwaysAccepted net sheet
+pub always-accepted : (net sheet : List ℕ) {limit : ℕ} → scheduleReply net sheet ≡ verdict.Accepted → AlwaysWithin limit net sheet
 always-accepted net sheet h s s′ a l d = check-zero net sheet d .1 (l, h)
 
 -- scratch of no more words than are asked
-unfoldable pub some-scratch : List ℕ
-some-scratch = replicate scratchLimit 0
+unfoldable pub some-scratch : ℕ → List ℕ
+some-scratch limit = replicate limit 0
 
-pub enough-scratch : scratchLimit ≤ length some-scratch
+pub enough-scratch : (limit : ℕ) → limit ≤ length (some-scratch limit)
 unfolding some-scratch
-enough-scratch = omega (arith, length-replicate {A = ℕ} scratchLimit 0)
+enough-scratch limit = omega (arith, length-replicate {A = ℕ} limit 0)
 
 -- there is such a check
-pub reply-accepted : (net sheet : List ℕ) → scheduleReply net sheet ≡ verdict.Accepted → Accepted net sheet
-reply-accepted net sheet h =
-    let (a, u, s′, d) = every-call-none (check-law net sheet) {limit = scratchLimit} refl .replies some-scratch in
-    record { scratch = some-scratch; scratch′ = s′; answer = a; done = d; zero = check-zero net sheet d .1 (enough-scratch, h) }
+pub reply-accepted : (net sheet : List ℕ) {limit : ℕ} → scheduleReply net sheet ≡ verdict.Accepted → AcceptedWithin limit net sheet
+reply-accepted net sheet {limit} h =
+    let (a, u, s′, d) = every-call-none (check-law net sheet) {limit = limit} refl .replies (some-scratch limit) in
+    record { scratch = some-scratch limit; scratch′ = s′; answer = a; done = d; zero = check-zero net sheet d .1 (enough-scratch limit, h) }

@@ -97,12 +97,12 @@ module _ (net sheet : List ℕ) (h : scheduleReply net sheet ≡ verdict.Accepte
 
   -- a call of the single firing for each firing that passes, and the other way round
   fire-call : (w : Walker) (t : ℕ) → stepFault (petriNet net) sheet w t ≡ none
-      → FireDone net sheet some-scratch w t (Done (entryFired (petriNet net) sheet w t)) (follows (petriNet net) sheet w t) (cleared scratchLimit some-scratch)
-  fire-call w t e = served (scratch-enough scratchLimit (length some-scratch) enough-scratch) (answered-none refl (then-next _ _ h ∙ ap verdictOf e) refl) refl
+      → FireDone net sheet (some-scratch scratchLimit) w t (Done (entryFired (petriNet net) sheet w t)) (follows (petriNet net) sheet w t) (cleared scratchLimit (some-scratch scratchLimit))
+  fire-call w t e = served (scratch-enough scratchLimit (length (some-scratch scratchLimit)) (enough-scratch scratchLimit)) (answered-none refl (then-next _ _ h ∙ ap verdictOf e) refl) refl
 
   chain-calls : (w y : Walker) (σ : List ℕ) → Chain (petriNet net) sheet w σ y → Firings net sheet w σ y
   chain-calls w y σ (stays x) = none-fired x
-  chain-calls w y σ (goes x z t τ e c) = one-fired x (follows N sheet x t) z t _ τ some-scratch _ (fire-call x t e) (chain-calls (follows N sheet x t) z τ c)
+  chain-calls w y σ (goes x z t τ e c) = one-fired x (follows N sheet x t) z t _ τ (some-scratch scratchLimit) _ (fire-call x t e) (chain-calls (follows N sheet x t) z τ c)
 
   pub calls-chain : (w y : Walker) (σ : List ℕ) → Firings net sheet w σ y → Chain (petriNet net) sheet w σ y
   calls-chain w y σ (none-fired x) = stays x

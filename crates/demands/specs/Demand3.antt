@@ -12,8 +12,8 @@ use Rattle.judge.specs.Answer.{plainCheck}
 use Rattle.judge.specs.declared.CheckAnswer.{CheckAnswer}
 use Rattle.call.specs.Demands.{number, own}
 use Rattle.refusal.specs.Limits.{scratchLimit, mostEntries}
-use Rattle.schedule.specs.Calls.{CheckDone}
-use Rattle.minimal.specs.Form.{plainForm, FormDone}
+use Rattle.schedule.specs.Calls.{CheckWithinDone}
+use Rattle.minimal.specs.Form.{plainForm, FormWithinDone, FormDone}
 use Rattle.minimal.specs.declared.FormAnswer.{FormAnswer}
 use Rattle.demands.specs.Terms.{said, Accepted}
 
@@ -25,29 +25,35 @@ pub record Merges (net sheet form : List ℕ) : Type 0 where
   pub numbered : BreadthFirst (said net form)
 
 -- every call of the check that is lent scratch enough answers 0: §11.8
-abbrev pub AlwaysAccepted : List ℕ → List ℕ → Type 0
-AlwaysAccepted net sheet = (scratch scratch′ : List ℕ) (answer : CheckAnswer) → scratchLimit ≤ length scratch
-    → CheckDone net sheet scratch answer scratch′ → number (plainCheck answer) ≡ 0
+abbrev pub AlwaysWithin : ℕ → List ℕ → List ℕ → Type 0
+AlwaysWithin limit net sheet = (scratch scratch′ : List ℕ) (answer : CheckAnswer) → limit ≤ length scratch
+    → CheckWithinDone limit net sheet scratch answer scratch′ → number (plainCheck answer) ≡ 0
 
--- a call of the minimal form that answered 0 (§11.7); the buffers lent held anything
-pub record Form (net sheet : List ℕ) : Type 0 where
+abbrev pub AlwaysAccepted : List ℕ → List ℕ → Type 0
+AlwaysAccepted = AlwaysWithin scratchLimit
+
+-- a call of the minimal form under a limit of scratch that answered 0 (§11.7); the buffers lent held anything
+pub record FormWithin (limit : ℕ) (net sheet : List ℕ) : Type 0 where
   pub out : List ℕ
   pub scratch : List ℕ
   pub answer : FormAnswer
   pub out′ : List ℕ
   pub scratch′ : List ℕ
-  pub done : FormDone net sheet out scratch answer out′ scratch′
+  pub done : FormWithinDone limit net sheet out scratch answer out′ scratch′
   pub zero : number (plainForm answer) ≡ 0
 
+abbrev pub Form : List ℕ → List ℕ → Type 0
+Form = FormWithin scratchLimit
+
 -- the length that it answered, and so many words of its buffer: §11.7
-abbrev pub size : {net sheet : List ℕ} → Form net sheet → ℕ
+abbrev pub size : {limit : ℕ} {net sheet : List ℕ} → FormWithin limit net sheet → ℕ
 size c = own (plainForm (c .answer)) 0
 
-abbrev pub made : {net sheet : List ℕ} → Form net sheet → List ℕ
+abbrev pub made : {limit : ℕ} {net sheet : List ℕ} → FormWithin limit net sheet → List ℕ
 made c = take (size c) (c .out′)
 
 -- equal in length and word for word: §11.8
-pub record SameWords {net x y : List ℕ} (a : Form net x) (b : Form net y) : Type 0 where
+pub record SameWords {l m : ℕ} {net x y : List ℕ} (a : FormWithin l net x) (b : FormWithin m net y) : Type 0 where
   pub lengths : size a ≡ size b
   pub words : (i : ℕ) → i < size a → getD (a .out′) i 0 ≡ getD (b .out′) i 0
 

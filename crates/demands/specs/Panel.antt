@@ -1,9 +1,9 @@
 -- What is promised of the calls for the small panel (§13.16): each does what the other call does, from less scratch. proofs/Panel has a term for the record.
-use Prim.Native.Nat.{ℕ, _+_, _*_, _≤_, _<_}
+use Prim.Native.Nat.{ℕ, _+_, _*_, _≤_}
 use mathlib.Core.Path.{_≡_}
-use mathlib.Core.Logic.{_↔_, _⊎_, inl, inr}
+use mathlib.Core.Logic.{_↔_}
 use mathlib.Core.List.{List, [], _∷_, _++_}
-use lib.ListN.{length, getD, take}
+use lib.ListN.{length}
 use Rattle.automaton.specs.Automaton.{SameLists}
 use Rattle.refusal.specs.Limits.{scratchLimit, mostEntries}
 use Rattle.refusal.specs.Refusal.{plainOf}
@@ -12,8 +12,7 @@ use Rattle.net.specs.Checks.{netChecks}
 use Rattle.sequential.specs.Petri.{petriNet}
 use Rattle.sequential.specs.Checks.{sheetChecks}
 use Rattle.judge.specs.Answer.{plainCheck}
-use Rattle.judge.specs.declared.CheckAnswer.{CheckAnswer}
-use Rattle.call.specs.Demands.{number, own, callChecks, EveryCall}
+use Rattle.call.specs.Demands.{callChecks, EveryCall}
 use Rattle.schedule.specs.Calls.{CheckDone, BoundsDone, FireDone, RunDone}
 use Rattle.schedule.specs.Plain.{plainFire, plainRun}
 use Rattle.schedule.specs.Walker.{walkerChecks, runChecks}
@@ -22,12 +21,11 @@ use Rattle.replay.specs.Checks.{replayChecks}
 use Rattle.replay.specs.Calls.{ReplayDone}
 use Rattle.replay.specs.Plain.{plainReplay}
 use Rattle.minimal.specs.Form.{plainForm, FormDone}
-use Rattle.minimal.specs.declared.FormAnswer.{FormAnswer}
 use Rattle.mended.specs.Checks.{mendChecks}
 use Rattle.mended.specs.Call.{plainMend, MendDone}
 use Rattle.panel.specs.Calls.{panelLimit, PanelCheckDone, PanelBoundsDone, PanelFireDone, PanelRunDone, PanelFormDone, PanelReplayDone, PanelMendDone}
-use Rattle.demands.specs.Terms.{said, Accepted}
-use Rattle.demands.specs.Demand3.{Form, size}
+use Rattle.demands.specs.Terms.{said, AcceptedWithin, Accepted}
+use Rattle.demands.specs.Demand3.{AlwaysWithin, FormWithin, Form, made, SameWords}
 
 -- ---- the same from less scratch
 
@@ -49,53 +47,12 @@ panelMendChecks net sheet Room scratch = callChecks panelLimit scratch ((netChec
 
 -- ---- demand 3
 
--- some call of the panel's schedule check answered 0
-pub record PanelAccepted (net sheet : List ℕ) : Type 0 where
-  pub scratch : List ℕ
-  pub scratch′ : List ℕ
-  pub answer : CheckAnswer
-  pub done : PanelCheckDone net sheet scratch answer scratch′
-  pub zero : number (plainCheck answer) ≡ 0
+-- a call of the panel that answered 0: of the schedule check, and of the minimal form
+abbrev pub PanelAccepted : List ℕ → List ℕ → Type 0
+PanelAccepted = AcceptedWithin panelLimit
 
--- every call of the panel's schedule check that is lent scratch enough answers 0
-abbrev pub AlwaysPanelAccepted : List ℕ → List ℕ → Type 0
-AlwaysPanelAccepted net sheet = (scratch scratch′ : List ℕ) (answer : CheckAnswer) → panelLimit ≤ length scratch
-    → PanelCheckDone net sheet scratch answer scratch′ → number (plainCheck answer) ≡ 0
-
--- a call of the panel's minimal form that answered 0
-pub record PanelForm (net sheet : List ℕ) : Type 0 where
-  pub out : List ℕ
-  pub scratch : List ℕ
-  pub answer : FormAnswer
-  pub out′ : List ℕ
-  pub scratch′ : List ℕ
-  pub done : PanelFormDone net sheet out scratch answer out′ scratch′
-  pub zero : number (plainForm answer) ≡ 0
-
--- a call of either kind that answered 0, the panel's or the other: of the check, and of the minimal form
-abbrev pub EitherAccepted : List ℕ → List ℕ → Type 0
-EitherAccepted net sheet = PanelAccepted net sheet ⊎ Accepted net sheet
-
-abbrev pub EitherForm : List ℕ → List ℕ → Type 0
-EitherForm net sheet = PanelForm net sheet ⊎ Form net sheet
-
--- the length that it answered, what its buffer held afterwards, and so many words of that: §11.7
-module _ {net sheet : List ℕ} where
-  abbrev pub eitherSize : EitherForm net sheet → ℕ
-  eitherSize (inl c) = own (plainForm (c .answer)) 0
-  eitherSize (inr c) = size c
-
-  abbrev pub eitherOut : EitherForm net sheet → List ℕ
-  eitherOut (inl c) = c .out′
-  eitherOut (inr c) = c .out′
-
-  abbrev pub eitherMade : EitherForm net sheet → List ℕ
-  eitherMade c = take (eitherSize c) (eitherOut c)
-
--- equal in length and word for word: §11.8
-pub record EitherSameWords {net x y : List ℕ} (a : EitherForm net x) (b : EitherForm net y) : Type 0 where
-  pub lengths : eitherSize a ≡ eitherSize b
-  pub words : (i : ℕ) → i < eitherSize a → getD (eitherOut a) i 0 ≡ getD (eitherOut b) i 0
+abbrev pub PanelForm : List ℕ → List ℕ → Type 0
+PanelForm = FormWithin panelLimit
 
 -- the larger scratch gives this answer and leaves these words in the same buffer, so that what demand 3 says of the one call holds of the other
 pub record AsOther {net sheet : List ℕ} (c : PanelForm net sheet) : Type 0 where
@@ -138,13 +95,13 @@ pub record PanelDemand : Type 0 where
   pub every-mend : (net sheet : List ℕ) → (forSheet : ℕ) × (forList : ℕ)
       × ((out list : List ℕ) → EveryCall {Left = List ℕ × List ℕ} panelLimit plainMend 2 (panelMendChecks net sheet ((forSheet ≤ length out) × (forList ≤ length list)))
       (out, list) (λ s a left s′. PanelMendDone net sheet out list s a (left .0) (left .1) s′))
-  -- demand 3 of two calls of the panel, and of one of each kind: §11.9
+  -- demand 3 of calls under any limits of scratch, two of the panel or one of each kind among them: §11.9
   pub accepted-alike : (net sheet : List ℕ) → PanelAccepted net sheet ↔ Accepted net sheet
-  pub equal : (net x y : List ℕ) → EitherAccepted net x → EitherAccepted net y → (a : EitherForm net x) (b : EitherForm net y)
-      → EitherSameWords a b ↔ SameLists (said net x) (said net y) 0 0
+  pub equal : (j k l m : ℕ) (net x y : List ℕ) → AcceptedWithin j net x → AcceptedWithin k net y → (a : FormWithin l net x) (b : FormWithin m net y)
+      → SameWords a b ↔ SameLists (said net x) (said net y) 0 0
   pub as-other : (net sheet : List ℕ) (c : PanelForm net sheet) → AsOther c
-  pub accepted : (net sheet : List ℕ) → EitherAccepted net sheet → (c : EitherForm net sheet) → AlwaysPanelAccepted net (eitherMade c)
-  pub same-lists : (net sheet : List ℕ) → EitherAccepted net sheet → (c : EitherForm net sheet) → SameLists (said net (eitherMade c)) (said net sheet) 0 0
+  pub accepted : (k l : ℕ) (net sheet : List ℕ) → AcceptedWithin k net sheet → (c : FormWithin l net sheet) → AlwaysWithin panelLimit net (made c)
+  pub same-lists : (k l : ℕ) (net sheet : List ℕ) → AcceptedWithin k net sheet → (c : FormWithin l net sheet) → SameLists (said net (made c)) (said net sheet) 0 0
   -- and the panel's form is to be had: §11.7
-  pub there-is : (net sheet out scratch : List ℕ) → EitherAccepted net sheet → panelLimit ≤ length scratch → 2 + 2 * mostEntries ≤ length out
+  pub there-is : (k : ℕ) (net sheet out scratch : List ℕ) → AcceptedWithin k net sheet → panelLimit ≤ length scratch → 2 + 2 * mostEntries ≤ length out
       → (c : PanelForm net sheet) × (c .out ≡ out) × (c .scratch ≡ scratch)

@@ -6,7 +6,7 @@ mod rows;
 mod search;
 mod writer;
 
-ghost use Rattle.mended.specs.Call.{MendWritten, MendDone};
+ghost use Rattle.mended.specs.Call.{MendWritten, MendWithinDone, MendDone};
 use mended::Lengths;
 use mended::MendAnswer;
 use refusal::Limits;
@@ -41,6 +41,26 @@ pub fn mend_into(net: &[u32], sheet: &[u32], out: &mut [u32], list: &mut [u32]) 
     MendAnswer::Written(lengths)
 }
 
+// Mending under a limit of scratch.
+pub fn mend_within(
+    limit: usize,
+    net: &[u32],
+    sheet: &[u32],
+    out: &mut [u32],
+    list: &mut [u32],
+    scratch: &mut [u32],
+) -> MendAnswer
+    ensures { λ r. ⌜ MendWithinDone limit (now (net .entry)) (now (sheet .entry)) (now (out .entry)) (now (list .entry)) (now (scratch .entry)) r (now (out .exit)) (now (list .exit)) (now (scratch .exit)) ⌝ }
+{
+    let found = call::scratch_fault(limit, scratch.len());
+    if let Verdict::Refused(r) = found {
+        return MendAnswer::Refused(r);
+    }
+    let answer = mend_into(net, sheet, out, list);
+    scan::clear_front(scratch, limit);
+    answer
+}
+
 // The mended schedule and the list of changes: §10.14.
 pub fn mend(
     net: &[u32],
@@ -51,11 +71,5 @@ pub fn mend(
 ) -> MendAnswer
     ensures { λ r. ⌜ MendDone (now (net .entry)) (now (sheet .entry)) (now (out .entry)) (now (list .entry)) (now (scratch .entry)) r (now (out .exit)) (now (list .exit)) (now (scratch .exit)) ⌝ }
 {
-    let found = call::scratch_fault(Limits::SCRATCH, scratch.len());
-    if let Verdict::Refused(r) = found {
-        return MendAnswer::Refused(r);
-    }
-    let answer = mend_into(net, sheet, out, list);
-    scan::clear_front(scratch, Limits::SCRATCH);
-    answer
+    mend_within(Limits::SCRATCH, net, sheet, out, list, scratch)
 }

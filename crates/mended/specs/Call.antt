@@ -27,9 +27,13 @@ mendCore net sheet = record {
 abbrev pub MendWritten : List ℕ → List ℕ → List ℕ → List ℕ → MendAnswer → List ℕ → List ℕ → Type 0
 MendWritten net sheet out list r out′ list′ = WordsDone (mendCore net sheet) (out ∷ list ∷ []) r (out′ ∷ list′ ∷ [])
 
+-- under any limit of scratch
+abbrev pub MendWithinDone : ℕ → List ℕ → List ℕ → List ℕ → List ℕ → List ℕ → MendAnswer → List ℕ → List ℕ → List ℕ → Type 0
+MendWithinDone limit net sheet out list scratch r out′ list′ scratch′ =
+    CallDone limit (mendCore net sheet) (out ∷ list ∷ []) scratch r (out′ ∷ list′ ∷ []) scratch′
+
 abbrev pub MendDone : List ℕ → List ℕ → List ℕ → List ℕ → List ℕ → MendAnswer → List ℕ → List ℕ → List ℕ → Type 0
-MendDone net sheet out list scratch r out′ list′ scratch′ =
-    CallDone scratchLimit (mendCore net sheet) (out ∷ list ∷ []) scratch r (out′ ∷ list′ ∷ []) scratch′
+MendDone = MendWithinDone scratchLimit
 
 -- number, kind, position, both lengths (§8.1), which are 0 where refused (§8.3)
 abbrev pub plainMend : MendAnswer → List ℕ

@@ -35,8 +35,12 @@ FormOf net sheet out r out′ = WordsDone (readCore net sheet) (out ∷ []) r (o
 abbrev pub FormWritten : List ℕ → List ℕ → List ℕ → FormAnswer → List ℕ → Type 0
 FormWritten net sheet out r out′ = WordsDone (formCore net sheet) (out ∷ []) r (out′ ∷ [])
 
+-- under any limit of scratch
+abbrev pub FormWithinDone : ℕ → List ℕ → List ℕ → List ℕ → List ℕ → FormAnswer → List ℕ → List ℕ → Type 0
+FormWithinDone limit net sheet out scratch r out′ scratch′ = CallDone limit (formCore net sheet) (out ∷ []) scratch r (out′ ∷ []) scratch′
+
 abbrev pub FormDone : List ℕ → List ℕ → List ℕ → List ℕ → FormAnswer → List ℕ → List ℕ → Type 0
-FormDone net sheet out scratch r out′ scratch′ = CallDone scratchLimit (formCore net sheet) (out ∷ []) scratch r (out′ ∷ []) scratch′
+FormDone = FormWithinDone scratchLimit
 
 -- number, kind, position, the length (§8.1), which is 0 where refused (§8.3)
 abbrev pub plainForm : FormAnswer → List ℕ

@@ -7,7 +7,7 @@ mod writer;
 ghost use mathlib.Core.Path.{_≡_};
 ghost use Rattle.refusal.specs.declared.Verdict.the-variants.{Accepted};
 ghost use Rattle.graph.specs.Readable.{wordsReply};
-ghost use Rattle.minimal.specs.Form.{FormOf, FormWritten, FormDone};
+ghost use Rattle.minimal.specs.Form.{FormOf, FormWritten, FormWithinDone, FormDone};
 ghost use Rattle.minimize.specs.Both.{FormsOf};
 use minimal::FormAnswer;
 use refusal::Refusal;
@@ -79,15 +79,28 @@ pub fn form_into(net: &[u32], sheet: &[u32], out: &mut [u32]) -> FormAnswer
     form_of(net, sheet, out)
 }
 
-// The minimal form: §10.9.
-pub fn minimal_form(net: &[u32], sheet: &[u32], out: &mut [u32], scratch: &mut [u32]) -> FormAnswer
-    ensures { λ r. ⌜ FormDone (now (net .entry)) (now (sheet .entry)) (now (out .entry)) (now (scratch .entry)) r (now (out .exit)) (now (scratch .exit)) ⌝ }
+// The minimal form under a limit of scratch.
+pub fn minimal_form_within(
+    limit: usize,
+    net: &[u32],
+    sheet: &[u32],
+    out: &mut [u32],
+    scratch: &mut [u32],
+) -> FormAnswer
+    ensures { λ r. ⌜ FormWithinDone limit (now (net .entry)) (now (sheet .entry)) (now (out .entry)) (now (scratch .entry)) r (now (out .exit)) (now (scratch .exit)) ⌝ }
 {
-    let found = call::scratch_fault(Walker::SCRATCH, scratch.len());
+    let found = call::scratch_fault(limit, scratch.len());
     if let Verdict::Refused(r) = found {
         return FormAnswer::Refused(r);
     }
     let answer = form_into(net, sheet, out);
-    scan::clear_front(scratch, Walker::SCRATCH);
+    scan::clear_front(scratch, limit);
     answer
+}
+
+// The minimal form: §10.9.
+pub fn minimal_form(net: &[u32], sheet: &[u32], out: &mut [u32], scratch: &mut [u32]) -> FormAnswer
+    ensures { λ r. ⌜ FormDone (now (net .entry)) (now (sheet .entry)) (now (out .entry)) (now (scratch .entry)) r (now (out .exit)) (now (scratch .exit)) ⌝ }
+{
+    minimal_form_within(Walker::SCRATCH, net, sheet, out, scratch)
 }

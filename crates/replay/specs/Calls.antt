@@ -46,9 +46,13 @@ replayCore net sheet log = record {
 abbrev pub ReplayWritten : List ℕ → List ℕ → List ℕ → List ℕ → List ℕ → ReplayAnswer → List ℕ → List ℕ → Type 0
 ReplayWritten net sheet log taken put r taken′ put′ = WordsDone (replayCore net sheet log) (taken ∷ put ∷ []) r (taken′ ∷ put′ ∷ [])
 
+-- under any limit of scratch
+abbrev pub ReplayWithinDone : ℕ → List ℕ → List ℕ → List ℕ → List ℕ → List ℕ → List ℕ → ReplayAnswer → List ℕ → List ℕ → List ℕ → Type 0
+ReplayWithinDone limit net sheet log taken put scratch r taken′ put′ scratch′ =
+    CallDone limit (replayCore net sheet log) (taken ∷ put ∷ []) scratch r (taken′ ∷ put′ ∷ []) scratch′
+
 abbrev pub ReplayDone : List ℕ → List ℕ → List ℕ → List ℕ → List ℕ → List ℕ → ReplayAnswer → List ℕ → List ℕ → List ℕ → Type 0
-ReplayDone net sheet log taken put scratch r taken′ put′ scratch′ =
-    CallDone scratchLimit (replayCore net sheet log) (taken ∷ put ∷ []) scratch r (taken′ ∷ put′ ∷ []) scratch′
+ReplayDone = ReplayWithinDone scratchLimit
 
 -- ---- what following the firings finds, and all checks: a fault, or the entry of the last arc where there is none
 

@@ -7,7 +7,7 @@ ghost use mathlib.Core.Path.{_≡_};
 ghost use Rattle.refusal.specs.Verdict.{verdictOf};
 ghost use Rattle.replay.specs.Tests.{logFault};
 ghost use Rattle.replay.specs.Plain.{plainReplay};
-ghost use Rattle.replay.specs.Calls.{LogChecked, ReplayWritten, ReplayDone};
+ghost use Rattle.replay.specs.Calls.{LogChecked, ReplayWritten, ReplayWithinDone, ReplayDone};
 use call::Index;
 use follow::Findings;
 use refusal::Limits;
@@ -125,6 +125,27 @@ pub fn replay_into(
     ReplayAnswer::Done(Outcome { totals, entry })
 }
 
+// The replay of a log under a limit of scratch.
+pub fn replay_within(
+    limit: usize,
+    net: &[u32],
+    sheet: &[u32],
+    log: &[u32],
+    taken: &mut [u64],
+    put: &mut [u64],
+    scratch: &mut [u32],
+) -> ReplayAnswer
+    ensures { λ r. ⌜ ReplayWithinDone limit (now (net .entry)) (now (sheet .entry)) (now (log .entry)) (now (taken .entry)) (now (put .entry)) (now (scratch .entry)) r (now (taken .exit)) (now (put .exit)) (now (scratch .exit)) ⌝ }
+{
+    let found = call::scratch_fault(limit, scratch.len());
+    if let Verdict::Refused(r) = found {
+        return ReplayAnswer::Stopped(r);
+    }
+    let answer = replay_into(net, sheet, log, taken, put);
+    scan::clear_front(scratch, limit);
+    answer
+}
+
 // The replay of a log: §10.11.
 pub fn replay(
     net: &[u32],
@@ -136,11 +157,5 @@ pub fn replay(
 ) -> ReplayAnswer
     ensures { λ r. ⌜ ReplayDone (now (net .entry)) (now (sheet .entry)) (now (log .entry)) (now (taken .entry)) (now (put .entry)) (now (scratch .entry)) r (now (taken .exit)) (now (put .exit)) (now (scratch .exit)) ⌝ }
 {
-    let found = call::scratch_fault(Limits::SCRATCH, scratch.len());
-    if let Verdict::Refused(r) = found {
-        return ReplayAnswer::Stopped(r);
-    }
-    let answer = replay_into(net, sheet, log, taken, put);
-    scan::clear_front(scratch, Limits::SCRATCH);
-    answer
+    replay_within(Limits::SCRATCH, net, sheet, log, taken, put, scratch)
 }

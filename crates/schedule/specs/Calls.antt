@@ -27,8 +27,12 @@ use Rattle.schedule.specs.declared.RunAnswer.the-variants.{Done, Stopped
 abbrev pub checkCore : List ℕ → List ℕ → Core CheckAnswer
 checkCore net sheet = record { verdict = scheduleReply net sheet; accepted = Passed (countsOf net sheet); refused = Failed; results = [] }
 
+-- under any limit of scratch
+abbrev pub CheckWithinDone : ℕ → List ℕ → List ℕ → List ℕ → CheckAnswer → List ℕ → Type 0
+CheckWithinDone limit net sheet scratch r scratch′ = CallDone limit (checkCore net sheet) [] scratch r [] scratch′
+
 abbrev pub CheckDone : List ℕ → List ℕ → List ℕ → CheckAnswer → List ℕ → Type 0
-CheckDone net sheet scratch r scratch′ = CallDone scratchLimit (checkCore net sheet) [] scratch r [] scratch′
+CheckDone = CheckWithinDone scratchLimit
 
 -- ---- place bounds: §10.4
 
@@ -39,8 +43,11 @@ boundsCore net sheet = record { verdict = scheduleReply net sheet; accepted = Ac
 abbrev pub BoundsWritten : List ℕ → List ℕ → List ℕ → Verdict → List ℕ → Type 0
 BoundsWritten net sheet out r out′ = WordsDone (boundsCore net sheet) (out ∷ []) r (out′ ∷ [])
 
+abbrev pub BoundsWithinDone : ℕ → List ℕ → List ℕ → List ℕ → List ℕ → Verdict → List ℕ → List ℕ → Type 0
+BoundsWithinDone limit net sheet out scratch r out′ scratch′ = CallDone limit (boundsCore net sheet) (out ∷ []) scratch r (out′ ∷ []) scratch′
+
 abbrev pub BoundsDone : List ℕ → List ℕ → List ℕ → List ℕ → Verdict → List ℕ → List ℕ → Type 0
-BoundsDone net sheet out scratch r out′ scratch′ = CallDone scratchLimit (boundsCore net sheet) (out ∷ []) scratch r (out′ ∷ []) scratch′
+BoundsDone = BoundsWithinDone scratchLimit
 
 -- ---- making a walker: §10.6, without scratch (§9.1)
 
@@ -62,8 +69,11 @@ fireCore net sheet w t = record {
 abbrev pub StepDone : List ℕ → List ℕ → Walker → ℕ → FireAnswer → Walker → Type 0
 StepDone net sheet w t r next = WordsDone (fireCore net sheet w t) [] (r, next) []
 
+abbrev pub FireWithinDone : ℕ → List ℕ → List ℕ → List ℕ → Walker → ℕ → FireAnswer → Walker → List ℕ → Type 0
+FireWithinDone limit net sheet scratch w t r next scratch′ = CallDone limit (fireCore net sheet w t) [] scratch (r, next) [] scratch′
+
 abbrev pub FireDone : List ℕ → List ℕ → List ℕ → Walker → ℕ → FireAnswer → Walker → List ℕ → Type 0
-FireDone net sheet scratch w t r next scratch′ = CallDone scratchLimit (fireCore net sheet w t) [] scratch (r, next) [] scratch′
+FireDone = FireWithinDone scratchLimit
 
 -- ---- a run: §10.8
 
@@ -79,5 +89,8 @@ runCore net sheet firings = record {
 abbrev pub RunWritten : List ℕ → List ℕ → List ℕ → List ℕ → RunAnswer → List ℕ → Type 0
 RunWritten net sheet firings out r out′ = WordsDone (runCore net sheet firings) (out ∷ []) r (out′ ∷ [])
 
+abbrev pub RunWithinDone : ℕ → List ℕ → List ℕ → List ℕ → List ℕ → List ℕ → RunAnswer → List ℕ → List ℕ → Type 0
+RunWithinDone limit net sheet firings out scratch r out′ scratch′ = CallDone limit (runCore net sheet firings) (out ∷ []) scratch r (out′ ∷ []) scratch′
+
 abbrev pub RunDone : List ℕ → List ℕ → List ℕ → List ℕ → List ℕ → RunAnswer → List ℕ → List ℕ → Type 0
-RunDone net sheet firings out scratch r out′ scratch′ = CallDone scratchLimit (runCore net sheet firings) (out ∷ []) scratch r (out′ ∷ []) scratch′
+RunDone = RunWithinDone scratchLimit

@@ -1,9 +1,9 @@
--- `mend::mend` meets its contract.
+-- `mend::mend_within` meets its contract.
 use Rattle.scan.proofs.Basics.{refl, sym, _∙_}
 use Rattle.call.proofs.Laws.{refused-scratch, served}
 use borrow.Author.Needs.{needs}
-use Rattle.mend.proofs.mend.Statement.{statement}
-use Rattle.mend.proofs.mend.Tie as tie
+use Rattle.mend.proofs.mend_within.Statement.{statement}
+use Rattle.mend.proofs.mend_within.Tie as tie
 
 returns : tie.Need-returns
 returns c = refused-scratch (sym (c .before .before .before .scratch-fault .ensures) ∙ c .before .found .given .1) refl
@@ -13,8 +13,8 @@ returns-2 c = served (sym (c .before .before .before .before .before .before .be
     ∙ c .before .before .before .before .before .before .before .before .before .before .before .enum-told .given .1)
     (c .before .before .before .before .before .before .before .before .mend-into .ensures) (c .before .before .clear-front .ensures)
 
-pub mend-spec : {M : Type 1} → statement M
-mend-spec =
+pub mend-within-spec : {M : Type 1} → statement M
+mend-within-spec =
     tie.close
     (tie.spec (λ c κs. search needs) (λ c. search needs) returns (λ c. search needs) (λ c κs. search needs) (λ c κs. search needs) (λ c. search needs)
     (λ c. search needs) (λ c. search needs) returns-2)

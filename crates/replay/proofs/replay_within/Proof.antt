@@ -1,9 +1,9 @@
--- `replay::replay` meets its contract.
+-- `replay::replay_within` meets its contract.
 use Rattle.scan.proofs.Basics.{refl, sym, _∙_}
 use borrow.Author.Needs.{needs}
 use Rattle.call.proofs.Laws.{refused-scratch, served}
-use Rattle.replay.proofs.replay.Statement.{statement}
-use Rattle.replay.proofs.replay.Tie as tie
+use Rattle.replay.proofs.replay_within.Statement.{statement}
+use Rattle.replay.proofs.replay_within.Tie as tie
 
 returns : tie.Need-returns
 returns c = refused-scratch (sym (c .before .before .before .scratch-fault .ensures) ∙ c .before .found .given .1) refl
@@ -14,8 +14,8 @@ returns-2 c =
     served (sym (b .before .before .scratch-fault .ensures) ∙ b .enum-told .given .1) (c .before .before .before .before .before .before .before .before .replay-into .ensures)
     (c .before .before .clear-front .ensures)
 
-pub replay-spec : {M : Type 1} → statement M
-replay-spec =
+pub replay-within-spec : {M : Type 1} → statement M
+replay-within-spec =
     tie.close
     (tie.spec (λ c κs. search needs) (λ c. search needs) returns (λ c. search needs) (λ c κs. search needs) (λ c κs. search needs) (λ c. search needs)
     (λ c. search needs) (λ c. search needs) returns-2)
