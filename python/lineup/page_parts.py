@@ -46,18 +46,19 @@ def refusal(name, title, explanation, answer, likely=()):
 
 
 def drawn(kind, title, picture, about, note):
-    """A picture that goes to the right; for narrow screens one that goes downwards; for paper a folded one, if the first is much too wide for that. Its
-    own size is kept where it is too large to be made smaller."""
-    lines, along = [], 0
+    """A picture that goes to the right; for narrow screens one that goes downwards; for paper and for tablets a folded one, if the first is much too
+    wide for these. Its own size is kept where it is too large to be made smaller."""
+    lines, along, folded = [], 0, ""
     for way, down, most, fold in (("along", False, LARGE, None), ("down", True, NARROW, None), ("printed", False, LARGE, PAPER)):
         if fold and along <= fold * 4 / 3:
             break
         told = svg.write(picture, down, fold)
         wide, high = map(int, re.search(r' width="(\d+)" height="(\d+)"', told).groups())
         along = along or wide
+        folded = ' <span class="folded">An arrow that is cut goes on where its number stands again.</span>' if fold else ""
         large = (" large" if wide > most else "") + (" tall" if high > TALL else "")
         lines.append(told.rstrip("\n").replace(' xmlns="http://www.w3.org/2000/svg"', f' class="{way}{large}" role="img" aria-label="{text(about)}"', 1))
-    return section(kind, title, [f'<figure class="picture {kind}" tabindex="0" role="group" aria-label="{text(title)}">', *lines, "</figure>", f'<p class="note">{text(note)}</p>'])
+    return section(kind, title, [f'<figure class="picture {kind}" tabindex="0" role="group" aria-label="{text(title)}">', *lines, "</figure>", f'<p class="note">{text(note)}{folded}</p>'])
 
 
 def foot(lines, files):
