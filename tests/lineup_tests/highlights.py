@@ -184,6 +184,7 @@ def runs(tally, folder):
     tally.same("as far as it is allowed", arrows(refused, "run"), ["berth [1]"])
     tally.same("where it is not", [name for name, (classes, _) in boxes(refused).items() if "fault" in classes], ["berthed"])
     tally.holds("and why", "|".join(texts(refused)), "refused, 20 not offered|firing 2 of 3, load: node berthed offers line-up")
+    tally.holds("told on the terminal", lineup(folder, "draw", NET, MAY, "--run", "load", "-o", "x.svg")[1], "refused, 20 not offered: the picture tells why", "core: answer 20 record 0")
     tally.holds("by the core", lineup(folder, "draw", NET, MAY, "--run", "berth", "-o", "x.svg")[1], "core: answer 0 none 0 nodes 9 arcs 11 awaits 2", "core: answer 0 none 0 fired 1 node 1 entry 1")
     tally.holds("in dot", lineup(folder, "draw", NET, MAY, "--run", "berth")[1], 'label="berth [1]" color="#0b62b8"')
 

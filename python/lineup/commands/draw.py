@@ -45,28 +45,29 @@ def main(args):
         return refusal
     if not both.sheet and (args.run or args.log or args.diff):
         raise Trouble("a sheet is missing: --run, --log and --diff are about one", args.net)
-    answers = both.ask(core.check, core.bounds) if both.sheet else both.ask(core.net_check)
-    refused = explain.explain(answers[0], both.net, both.sheet) if answers[0].number else None
+    quoted = both.ask(core.check, core.bounds) if both.sheet else both.ask(core.net_check)
+    refused, bounds, shown = explain.explain(quoted[0], both.net, both.sheet) if quoted[0].number else None, None, None
     if both.sheet and not refused:
-        both.agree(*answers)
-    shown = None if refused else marked(args, both)
+        both.agree(*quoted)
+        bounds, shown = quoted[1].out, marked(args, both)
     if shown and shown.trouble:
         return shown.trouble
-    if shown:
-        answers, refused = [answers[0], shown.answer, *answers[1:]], shown.refused
-    drawn = painted(both, args.of_net, answers[-1].out if both.sheet and not answers[0].number else None, refused, shown)
+    quoted[1:] = [shown.answer] if shown else []
+    refused = refused or shown and shown.refused
+    drawn = painted(both, args.of_net, bounds, refused, shown)
     drawn.title = titled(both, args, shown) if args.title is None else inline(args.title)
     report = Report(REFUSED if refused or shown and shown.differs else 0, accepted=not refused)
     text = dot.write(drawn, args.down)
     report.data["dot"] = text
-    quoted = [answers[0], *([shown.answer] if shown else [])]
     if not args.output:
         remarks = [f"// {line}" for line, _ in drawn.caption] + [f"// core: {answer.line}" for answer in quoted]
         return report.say(*remarks, *text.splitlines())
     write(args, drawn, text)
     report.data["written"] = args.output
     report.say(f"written: {inline(args.output)}")
-    return report.say(*([f"  {refused.title()}: lineup check explains it"] if refused else [])).quote(*quoted)
+    if refused:
+        report.say(f"  {refused.title()}: {'the picture tells why' if shown else 'lineup check explains it'}")
+    return report.quote(*quoted)
 
 
 # ---- what is marked
