@@ -138,8 +138,8 @@ def decorated(tally, folder):
     """Generated sheets as texts with remarks, blanks and tabs anywhere: only lines change of which something changes."""
     chance, met = random.Random(9), Counter()
     random.seed(9)
-    cases = [("mend", *case) for case in generated.stale(31, 1400)] + [("trim", *case) for case in generated.unreached(37, 1400)]
-    cases += [("short", net, sheet) for net, *both in generated.siblings(41, 120) for sheet in both]
+    cases = [("mend", *case) for case in generated.stale(31, 1000)] + [("trim", *case) for case in generated.unreached(37, 1000)]
+    cases += [("short", net, sheet) for net, *both in generated.siblings(41, 90) for sheet in both]
     calls = {"mend": core.mend, "trim": core.trim, "short": core.short}
     answers = core.ask(*(calls[command](net.words, sheet.words) for command, net, sheet in cases))
     for i, ((command, net, sheet), answer) in enumerate(zip(cases, answers)):
