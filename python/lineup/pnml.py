@@ -42,7 +42,10 @@ class Reader:
         self.arcs = []
 
     def fail(self, element, message):
-        raise Trouble(message, self.path, *element.where)
+        self.fail_at(element.where, message)
+
+    def fail_at(self, where, message):
+        raise Trouble(message, self.path, *where)
 
     def net_of(self, root):
         nets = root.all("net") if root.tag == "pnml" else []
@@ -68,7 +71,7 @@ class Reader:
         for name in sorted({name for name in names if names.count(name) > 1}):
             numbers = [i for i, other in enumerate(names) if other == name]
             for i in numbers:
-                names[i] = spare(f"{name} ({ids[i]})", set(names))
+                names[i] = spare(named(f"{name} ({ids[i]})", lambda what, i=i: self.fail_at(self.net.where[kind, i], what)), set(names))
             streams.note(Trouble(f"{len(numbers)} {kind}s are called {quoted(name)}, and are told apart by their ids: {', '.join(quoted(names[i]) for i in numbers)}", self.path, *self.net.where[kind, numbers[1]]))
 
     def pages(self, net):

@@ -125,6 +125,7 @@ PNMLS = [
     (OPEN + '<place id="p"><initialMarking><text>two</text></initialMarking></place>' + CLOSE, "3:15", ["'two' is no number from 0 to 4,294,967,295"]),
     (OPEN + '<place id="p"><name><text>a&#x202e;b</text></name></place>' + CLOSE, "3:1", ["a name holds \\u202e"]),
     (OPEN + "<place/>" + CLOSE, "3:1", ["a name is empty"]),
+    (OPEN + '<place id="q"/>\n<place id="r&#x202e;"><name><text>q</text></name></place>' + CLOSE, "4:1", ["a name holds \\u202e"]),
     (OPEN + '<place id="p"/><transition id="p"/>' + CLOSE, "3:16", ["the id 'p' is there already"]),
     (OPEN + '<place id="p"><initialMarking><value>Default,1,Red,2</value></initialMarking></place>' + CLOSE, "3:15", ["'1,Red,2' is no number"]),
     (OPEN + PLACE + '<arc id="a" source="p" target="nowhere"/>' + CLOSE, "5:1", ["the arc's end 'nowhere' is no place and no transition"]),
