@@ -13,7 +13,7 @@ def word(name, known):
     if name.startswith("-"):
         forms = ["{" + "".join("\\" + sign for sign in name[:i]) + escaped(name[i:]) + "}" for i in range(len(name) + 1)]
         name = next((form for form in forms if form not in known), forms[-1])
-    return shlex.quote(name)
+    return f'"{name}"' if "'" in name and not re.search(r'["$`\\!]', name) else shlex.quote(name)
 
 
 def escaped(name):

@@ -16,7 +16,7 @@ from lineup.home import HOME
 from lineup.pair import Pair
 
 JETTY = os.path.join(HOME, "samples", "jetty")
-ODD = ["tank 1", "it's", "$HOME", "a`b`", "-x", "--help", "{-x}", "{a}", "back\\slash", "->", "#1", "!!", "*", "~", "a;b", "ä", '"q"', "{\\-x}", "-o", "-", "a\\"]
+ODD = ["tank 1", "it's", "it's $5", "''", "'!", "$HOME", "a`b`", "-x", "--help", "{-x}", "{a}", "back\\slash", "->", "#1", "!!", "*", "~", "a;b", "ä", '"q"', "{\\-x}", "-o", "-", "a\\"]
 
 
 def run(tally):
@@ -144,4 +144,5 @@ def words(tally):
     for name in ODD:
         for known in (ODD, [name]):
             shown = subprocess.run(["bash", "-c", f"printf '%s\\n' {shellwords.word(name, known)}"], capture_output=True, text=True, check=False).stdout[:-1]
+            tally.check(f"{name!r} is quoted as plainly as it can be", shellwords.word(name, known) == '"it\'s"' or name != "it's")
             tally.same(f"{name!r} as a word", (shellwords.read(shown, known), shown.startswith("-")), (name, False))
