@@ -72,7 +72,7 @@ fn main() -> ExitCode {
     match watched {
         Ok(()) => ExitCode::SUCCESS,
         Err(Stop::Refused(why)) => {
-            println!("{why}");
+            let _ = writeln!(std::io::stdout(), "{why}"); // nobody may be reading any more
             ExitCode::from(1)
         }
         Err(Stop::Trouble(what)) => {
