@@ -3,7 +3,6 @@ pub mod Summing
 pub mod Enabling
 pub mod Framing
 pub mod Ready
-pub mod SearchState
 pub mod SearchOrder
 pub mod States
 pub mod Writing

@@ -3,7 +3,6 @@ pub mod Agree
 pub mod Level
 pub mod Leaders
 -- numbers
-pub mod SearchState
 pub mod SearchArcs
 pub mod SearchOrder
 -- words
