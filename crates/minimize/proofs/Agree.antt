@@ -188,7 +188,7 @@ module _ {net sheet : List ℕ} (readable : Readable net sheet) where
   first-count {n} l =
       sym (counts-start net (nodeCount sheet) n (omega (arith, k .few-nodes)) (k .few-places)) ∙ rw (← arcs-end net (nodeCount sheet) (k .few-nodes) (k .few-transitions)) refl
 
-  row-low : (counts : Bool) {n : ℕ} → n < nodeCount sheet → rowKey net sheet counts n + rowWidth net counts ≤ 8224
+  pub row-low : (counts : Bool) {n : ℕ} → n < nodeCount sheet → rowKey net sheet counts n + rowWidth net counts ≤ 8224
   unfolding rowWidth
   row-low true {n} l = unfold rowKey in (omega (arith, counts-start-low net (nodeCount sheet) n, k .few-places))
   row-low false {n} l =
@@ -229,13 +229,13 @@ module _ {net sheet : List ℕ} (readable : Readable net sheet) where
   unfolding keyValue
   arc-value {n} {t} l m = rw (first-arc l) (arc-inside N sheet n t l m)
 
-  count-some : (n p i : ℕ) → n < nodeCount sheet → entryWithKey sheet (rowKey net sheet true n + p) ≡ some i → 1 ≤ entryValue sheet i
+  pub count-some : (n p i : ℕ) → n < nodeCount sheet → entryWithKey sheet (rowKey net sheet true n + p) ≡ some i → 1 ≤ entryValue sheet i
   unfolding entryWithKey
   count-some n p i l z =
       let (h, e) = entry-some sheet 2 (entryCount sheet) (rowKey net sheet true n + p) i z in
       w .values i h .some (unfold entryKey arcKeys in (rw (e, first-count l) (omega arith)))
 
-  count-value : {n p : ℕ} → n < nodeCount sheet → p < N .places → countAt N sheet n p ≡ foundOr 0 (entryValue sheet) (entryWithKey sheet (rowKey net sheet true n + p))
+  pub count-value : {n p : ℕ} → n < nodeCount sheet → p < N .places → countAt N sheet n p ≡ foundOr 0 (entryValue sheet) (entryWithKey sheet (rowKey net sheet true n + p))
   unfolding countAt arcKeys
   count-value {n} {p} l h = rw (first-count l, lt-ltb n (nodeCount sheet) l, lt-ltb p (N .places) h)
 

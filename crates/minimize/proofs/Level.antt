@@ -31,9 +31,13 @@ and-true : (b : Bool) → (b && true) ≡ b
 and-true true = refl
 and-true false = refl
 
+-- an index more that passes changes nothing
+pub all-stays : (f : ℕ → Bool) (n : ℕ) → f n ≡ true → all f n ≡ all f (n + 1)
+all-stays f n e = sym (all-next f n ∙ rw e (and-true (all f n)))
+
 module _ (sheet : List ℕ) where
   -- a key has one lower bound
-  same-bound : (key : ℕ) {x y : ℕ} → LowerBound sheet 2 (entryCount sheet) key x → LowerBound sheet 2 (entryCount sheet) key y → x ≡ y
+  pub same-bound : (key : ℕ) {x y : ℕ} → LowerBound sheet 2 (entryCount sheet) key x → LowerBound sheet 2 (entryCount sheet) key y → x ≡ y
   same-bound key {x} {y} p q =
       byLess x y (λ l. let a = q .below x l in let b = p .above x (omega arith) (omega (arith, q .within)) in omega arith)
       (λ g. byLess y x (λ l. let a = p .below y l in let b = q .above y (omega arith) (omega (arith, p .within)) in omega arith) (λ h. omega arith))
@@ -73,7 +77,7 @@ module _ {net sheet : List ℕ} (readable : Readable net sheet) where
   row-end n l = rw (← next-key n l) (bound (key (n + 1)))
 
   -- the entries between them are arcs
-  arcs-valued : {classes : List ℕ} {n x y : ℕ} → length classes ≡ 128 → n < nodeCount sheet
+  pub arcs-valued : {classes : List ℕ} {n x y : ℕ} → length classes ≡ 128 → n < nodeCount sheet
       → Bound (key n + 0) x → Bound (key n + N .transitions) y
       → (i : ℕ) → x ≤ i → i < y → Valued sheet classes false i
   unfolding hasKey

@@ -6,5 +6,6 @@ pub mod Leaders
 pub mod SearchArcs
 pub mod SearchOrder
 -- words
+pub mod Runs
 pub mod Writing
 pub mod TwoForms

@@ -1,5 +1,6 @@
 pub mod Tables
 pub mod Both
 pub mod Agree
+pub mod Runs
 pub mod Leaders
 pub mod Search

@@ -89,7 +89,7 @@ fn targets_agree(sheet: &[u32], classes: &[u8], size: usize, i: usize, j: usize)
 }
 
 // The first key of node n's row.
-fn first_key(net: &[u32], sheet: &[u32], counts: bool, n: u32) -> u32
+pub(crate) fn first_key(net: &[u32], sheet: &[u32], counts: bool, n: u32) -> u32
     requires { ⌜ Readable (now net) (now sheet) ⌝ }
     ensures { λ r. ⌜ r ≡ rowKey (now (net .entry)) (now (sheet .entry)) counts n ⌝ }
 {
@@ -100,7 +100,7 @@ fn first_key(net: &[u32], sheet: &[u32], counts: bool, n: u32) -> u32
 }
 
 // How many keys a row has.
-fn row_width(net: &[u32], counts: bool) -> u32
+pub(crate) fn row_width(net: &[u32], counts: bool) -> u32
     ensures { λ r. ⌜ r ≡ rowWidth (now (net .entry)) counts ⌝ }
 {
     if counts {
@@ -219,19 +219,21 @@ fn round(
     next
 }
 
-// Whether two tables have equal entries for the nodes.
-fn same_tables(a: [u8; 128], b: [u8; 128], nodes: usize) -> bool
+// Whether two tables have equal entries for the nodes. No test leaves the loop, so that it goes by several entries at once.
+fn same_tables(a: &[u8; 128], b: &[u8; 128], nodes: usize) -> bool
     requires { ⌜ nodes ≤ 128 ⌝ }
-    ensures { λ r. ⌜ r ≡ all (sameEntry a b) nodes ⌝ }
+    ensures { λ r. ⌜ r ≡ all (sameEntry (now (a .entry)) (now (b .entry))) nodes ⌝ }
 {
-    let mut n = 0;
-    while n < nodes {
+    let mut same = true;
+    let mut i = 0;
+    while i < nodes {
+        let n = i;
+        i += 1;
         if a[n] != b[n] {
-            return false;
+            same = false;
         }
-        n += 1;
     }
-    true
+    same
 }
 
 // A table of classes in which two nodes have one entry exactly where they are equivalent.
@@ -248,7 +250,7 @@ pub(crate) fn classes(net: &[u32], sheet: &[u32]) -> [u8; 128]
     let mut rounds = 1;
     while rounds < nodes {
         let next = round(net, sheet, &arcs, &classes, false, true);
-        if same_tables(classes, next, nodes) {
+        if same_tables(&classes, &next, nodes) {
             return classes;
         }
         classes = next;

@@ -41,17 +41,17 @@ round-requires-3 c κs =
 
 returns : tie.Need-returns Inv-loop μ-loop
 returns c =
-    let (some, l, long, S, is) = c .before .before .before .before .before .before .loop .inv in
-    round-last _ (readable-closed (S .readable)) _ _ is _ (by-arcs _ _ _ (c .before .before .round3 .ensures)) (sym (c .before .same-tables .ensures) ∙ c .if1 .taken)
+    let (some, l, long, S, is) = c .before .before .before .before .before .before .before .before .loop .inv in
+    round-last _ (readable-closed (S .readable)) _ _ is _ (by-arcs _ _ _ (c .before .before .before .before .round3 .ensures)) (sym (c .before .same-tables .ensures) ∙ c .if1 .taken)
 
 loop-again : tie.Need-loop-again Inv-loop μ-loop
 loop-again c =
-    let (some, l, long, S, is) = c .before .before .before .before .before .before .loop .inv in (
+    let (some, l, long, S, is) = c .before .before .before .before .before .before .before .before .loop .inv in (
       omega arith,
-      omega (arith, c .before .before .before .before .before .loop-test .taken),
+      omega (arith, c .before .before .before .before .before .before .before .loop-test .taken),
       search needs,
       S,
-      round-more _ (readable-closed (S .readable)) _ _ is _ (by-arcs _ _ _ (c .before .before .round3 .ensures)),
+      round-more _ (readable-closed (S .readable)) _ _ is _ (by-arcs _ _ _ (c .before .before .before .before .round3 .ensures)),
     )
 
 returns-2 : tie.Need-returns-2 Inv-loop μ-loop

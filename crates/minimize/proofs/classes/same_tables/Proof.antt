@@ -1,33 +1,34 @@
--- `minimize::classes::same_tables` meets its contract: the entries before the counter are equal.
-use Rattle.scan.proofs.Basics.{_-_, _≤_, arith, _≡_, sym, true}
+-- `minimize::classes::same_tables` meets its contract: whether the entries before the counter are equal is known.
+use Rattle.scan.proofs.Basics.{_-_, _≤_, arith, _≡_, sym, _∙_}
 use borrow.Author.Needs.{needs}
 use Rattle.scan.proofs.Tests.{eq-eqb, ne-eqb}
 use Rattle.scan.specs.Scan.{all}
-use Rattle.scan.proofs.Every.{all-in, all-more, all-fails}
+use Rattle.scan.proofs.Every.{all-in, all-fails}
 use Rattle.minimize.specs.Tables.{classIn}
 use Rattle.minimize.specs.Leaders.{sameEntry}
+use Rattle.minimize.proofs.Level.{all-stays}
 use Rattle.minimize.proofs.classes.same_tables.Statement.{statement}
 use Rattle.minimize.proofs.classes.same_tables.Tie as tie
 
 abbrev Inv-loop : tie.InvT-loop
-Inv-loop nodes a b n₀ n = (n ≤ nodes) × (all (sameEntry a b) n ≡ true)
+Inv-loop a b nodes same₀ i₀ same i = (i ≤ nodes) × (same ≡ all (sameEntry a b) i)
 
 abbrev μ-loop : tie.MeasureT-loop
-μ-loop nodes a b n₀ n = nodes - n
-
-returns : tie.Need-returns Inv-loop μ-loop
-unfolding sameEntry classIn
-returns c = sym (all-fails _ _ _ (c .before .loop-test .taken) (ne-eqb _ _ (c .if1 .taken)))
+μ-loop a b nodes same₀ i₀ same i = nodes - i
 
 loop-again : tie.Need-loop-again Inv-loop μ-loop
 unfolding sameEntry classIn
-loop-again c = (omega arith, all-more _ _ (c .before .before .loop .inv .1) (eq-eqb _ _ (c .if1 .left)))
+loop-again c = (omega arith, sym (all-fails _ _ _ (omega arith) (ne-eqb _ _ (c .if1 .taken))))
 
-returns-2 : tie.Need-returns-2 Inv-loop μ-loop
-returns-2 c = let e : (c .before .loop .n) ≡ (c .before .before .args .nodes) = omega arith in sym (rw e at (c .before .loop .inv .1))
+loop-again-2 : tie.Need-loop-again-2 Inv-loop μ-loop
+unfolding sameEntry classIn
+loop-again-2 c = (omega arith, c .before .before .before .before .loop .inv .1 ∙ all-stays _ _ (eq-eqb _ _ (c .if1 .left)))
+
+returns : tie.Need-returns Inv-loop μ-loop
+returns c = let e : (c .before .loop .i) ≡ (c .before .before .args .nodes) = omega arith in rw e at (c .before .loop .inv .1)
 
 pub same-tables-spec : {M : Type 1} → statement M
 same-tables-spec =
     tie.close
-    (tie.spec Inv-loop μ-loop (λ c. (omega arith, all-in _ _ (λ j l. absurd (omega arith)))) (λ c. search needs) (λ c. search needs) returns
-    (λ c. search needs) (λ c. search needs) loop-again returns-2)
+    (tie.spec Inv-loop μ-loop (λ c. (omega arith, sym (all-in _ _ (λ j l. absurd (omega arith))))) (λ c. omega arith) (λ c. search needs) (λ c. search needs)
+    (λ c. omega arith) loop-again (λ c. omega arith) loop-again-2 returns)

@@ -1,37 +1,48 @@
 -- `minimize::writer::entry_count` meets its contract: when the counter is i the entries of the first i rows are counted.
-use Rattle.scan.proofs.Basics.{_+_, _-_, _*_, _≤_, arith, _≡_, _∙_, length}
+use Rattle.scan.proofs.Basics.{_+_, _-_, _*_, _≤_, arith, _≡_, refl, _∙_, length}
 use borrow.Author.Needs.{needs}
 use Rattle.automaton.specs.Quotient.{minimal}
 use Rattle.sequential.specs.Petri.{petriNet}
 use Rattle.sequential.specs.Words.{graph}
 use Rattle.encoding.specs.Rows.{sectionTo}
 use Rattle.encoding.specs.declared.Section.the-variants.{ArcKeys, CountKeys}
-use Rattle.encoding.proofs.Rows.{arc-keys-row, count-keys-row}
 use Rattle.minimize.specs.Tables.{NewNodes}
-use Rattle.minimize.proofs.Writing.{rows-count, entries-none, entries-all}
+use Rattle.minimize.proofs.Runs.{row-few}
+use Rattle.minimize.proofs.Writing.{new-row, rows-count, entries-none, entries-all}
 use Rattle.minimize.proofs.writer.entry_count.Statement.{statement}
 use Rattle.minimize.proofs.writer.entry_count.Tie as tie
 
 abbrev Inv-loop : tie.InvT-loop
-Inv-loop net sheet new entries₀ i₀ entries i =
+Inv-loop net sheet new reps entries₀ i₀ entries i =
     NewNodes net sheet new × (i ≤ new .found)
     × (entries ≡ length (sectionTo (petriNet net) (minimal (graph (petriNet net) sheet)) ArcKeys i) + length (sectionTo (petriNet net) (minimal (graph (petriNet net) sheet)) CountKeys i))
     × (entries ≤ 64 * i)
 
 abbrev μ-loop : tie.MeasureT-loop
-μ-loop net sheet new entries₀ i₀ entries i = new .found - i
+μ-loop net sheet new reps entries₀ i₀ entries i = new .found - i
 
 loop-holds : tie.Need-loop-holds Inv-loop μ-loop
-loop-holds c = let h = c .before .before .pre in (h, omega arith, entries-none h, omega arith)
+loop-holds c = let h = c .before .before .before .pre in (h, omega arith, entries-none h, omega arith)
+
+row-size-requires : tie.Need-row-size-requires Inv-loop μ-loop
+row-size-requires c κs = let r = new-row (c .before .before .loop .inv .0) (c .if1 .taken) refl in (r .readable, r .old)
+
+row-size-requires-2 : tie.Need-row-size-requires-2 Inv-loop μ-loop
+row-size-requires-2 c κs = let r = new-row (c .before .before .before .loop .inv .0) (c .before .if1 .taken) refl in (r .readable, r .old)
 
 -- ---- both rows of a node are counted
 
 loop-again : tie.Need-loop-again Inv-loop μ-loop
 loop-again c =
-    let (h, low, is, most) = c .before .before .before .before .before .before .before .before .loop .inv in
-    let a = rows-count h ArcKeys _ _ (arc-keys-row _ _ (c .before .before .before .before .before .arc-row .ensures)) (c .before .filled .ensures) in
-    let b = rows-count h CountKeys _ _ (count-keys-row _ _ (c .before .before .before .count-row .ensures)) (c .filled2 .ensures) in
-    (h, omega arith, omega (arith, a .0, b .0), omega (arith, a .1, b .1))
+    let (h, low, is, most) = c .before .before .before .before .loop .inv in
+    let r = new-row h (c .before .before .if1 .taken) refl in
+    let a = rows-count h ArcKeys r in
+    let b = rows-count h CountKeys r in (
+      h,
+      omega arith,
+      omega (arith, a, b, c .row-size2 .ensures, c .before .row-size .ensures),
+      omega (arith, row-few r ArcKeys, row-few r CountKeys, c .row-size2 .ensures, c .before .row-size .ensures),
+    )
 
 add-entries : tie.Need-add-entries Inv-loop μ-loop
 add-entries c = let (h, low, is, most) = loop-again c in omega (arith, h .few)
@@ -45,5 +56,7 @@ returns c = let (h, low, is, most) = c .before .before .loop .inv in record { ar
 pub entry-count-spec : {M : Type 1} → statement M
 entry-count-spec =
     tie.close
-    (tie.spec Inv-loop μ-loop loop-holds (λ c κs. search needs) (λ c κs. search needs) (λ c κs. search needs) (λ c κs. search needs)
-    add-entries add-entries-2 (λ c. omega arith) (λ c. omega arith) loop-again returns)
+    (tie.spec Inv-loop μ-loop loop-holds
+    (λ c. omega (arith, c .before .before .loop .inv .0 .few, c .if1 .taken))
+    (λ c. search needs)
+    row-size-requires row-size-requires-2 add-entries add-entries-2 (λ c. omega arith) (λ c. omega arith) loop-again returns)

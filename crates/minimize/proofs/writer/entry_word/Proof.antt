@@ -1,0 +1,38 @@
+-- `minimize::writer::entry_word` meets its contract.
+use Rattle.scan.proofs.Basics.{arith, refl, _∙_}
+use borrow.Author.Needs.{needs}
+use Rattle.table.specs.Table.{keyAt}
+use Rattle.sequential.specs.Words.{entryKey}
+use Rattle.encoding.specs.Kept.{numberIn}
+use Rattle.minimize.specs.Runs.{entryWord}
+use Rattle.minimize.proofs.writer.entry_word.Statement.{statement}
+use Rattle.minimize.proofs.writer.entry_word.Tie as tie
+
+element-copy-out-wide : tie.Need-element-copy-out-wide
+element-copy-out-wide c =
+    let t = c .before .before .before .before .pre .target (c .before .enum-told3 .given .1) in
+    omega (arith, c .entry-value .ensures)
+
+returns : tie.Need-returns
+unfolding entryWord entryKey keyAt
+returns c = rw (c .before .enum-told .given .1) refl
+
+returns-2 : tie.Need-returns-2
+unfolding entryWord entryKey keyAt
+returns-2 c = rw (c .before .enum-told2 .given .1) refl
+
+returns-3 : tie.Need-returns-3
+unfolding entryWord numberIn
+returns-3 c = c .wide .ensures ∙ rw (c .before .before .before .enum-told3 .given .1, c .before .before .entry-value .ensures) refl
+
+returns-4 : tie.Need-returns-4
+unfolding entryWord
+returns-4 c = rw (c .before .enum-told4 .given .1) (c .entry-value2 .ensures)
+
+pub entry-word-spec : {M : Type 1} → statement M
+entry-word-spec =
+    tie.close
+    (tie.spec (λ c. search needs) (λ c. search needs) (λ c. search needs) (λ c. search needs) (λ c. search needs) (λ c. search needs)
+    (λ c. search needs) (λ c. search needs) (λ c. search needs) (λ c. search needs) (λ c. search needs) (λ c. search needs)
+    (λ c. search needs) (λ c κs. search needs) (λ c. search needs) element-copy-out-wide (λ c κs. search needs)
+    (λ c. search needs) (λ c κs. search needs) returns returns-2 returns-3 returns-4)

@@ -1,0 +1,23 @@
+-- `minimize::writer::run_of` meets its contract.
+use Rattle.scan.proofs.Basics.{arith, refl}
+use borrow.Author.Needs.{needs}
+use Rattle.minimize.specs.Runs.{runFrom, runSize}
+use Rattle.minimize.proofs.Runs.{runs-rise}
+use Rattle.minimize.proofs.writer.run_of.Statement.{statement}
+use Rattle.minimize.proofs.writer.run_of.Tie as tie
+
+sub-size : tie.Need-sub-t9
+unfolding runFrom
+sub-size c =
+    let s = c .before .before .before .before in
+    let p = s .pre in
+    omega (arith, runs-rise (p .rising) (p .fits) (s .args .key) (s .args .width), c .lower-bound2 .ensures, c .before .lower-bound .ensures)
+
+returns : tie.Need-returns
+unfolding runFrom runSize
+returns c = (c .before .lower-bound .ensures, rw (c .lower-bound2 .ensures, c .before .lower-bound .ensures) refl)
+
+pub run-of-spec : {M : Type 1} → statement M
+run-of-spec =
+    tie.close
+    (tie.spec (λ c. search needs) (λ c. search needs) (λ c κs. search needs) (λ c. search needs) (λ c κs. search needs) sub-size returns)

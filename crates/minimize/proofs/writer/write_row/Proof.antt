@@ -1,0 +1,60 @@
+-- `minimize::writer::write_row` meets its contract: when the counter is k the words of the first k entries are written.
+use Rattle.scan.proofs.Basics.{_-_, _≤_, arith}
+use borrow.Author.Needs.{needs}
+use Rattle.encoding.specs.Encoding.{gather}
+use Rattle.encoding.specs.Rows.{Appended}
+use Rattle.encoding.proofs.Rows.{appended-none, appended-length}
+use Rattle.minimize.specs.Runs.{entryWord, wordAt, Running}
+use Rattle.minimize.proofs.Runs.{row-keyed, running, running-worded, running-more, running-all}
+use Rattle.minimize.proofs.writer.write_row.Statement.{statement}
+use Rattle.minimize.proofs.writer.write_row.Tie as tie
+
+abbrev Inv-loop : tie.InvT-loop
+Inv-loop net sheet numbers found n i section out₀ at counts old new run next₀ k₀ out next k =
+    Running net sheet numbers found n i section old new (run .from) (run .size) × (k ≤ run .size)
+    × Appended out₀ at (gather (wordAt (entryWord sheet numbers section old new) (run .from)) k) next out
+
+abbrev μ-loop : tie.MeasureT-loop
+μ-loop net sheet numbers found n i section out₀ at counts old new run next₀ k₀ out next k = run .size - k
+
+run-of-requires : tie.Need-run-of-requires Inv-loop μ-loop
+run-of-requires c κs =
+    let h = c .before .before .before .before .before .before .before .pre in
+    rw (c .row-width .ensures, c .before .before .first-key .ensures) (row-keyed (h .readable) _ (h .old))
+
+loop-holds : tie.Need-loop-holds Inv-loop μ-loop
+unfolding gather
+loop-holds c =
+    let w = c .before in
+    let f = w .before .before in
+    let h = f .before .before .before .before .before .pre in (
+      running h (f .before .of-counts .ensures) (f .first-key .ensures) (w .before .new-key .ensures) (w .row-width .ensures) (c .run-of .ensures .0) (c .run-of .ensures .1),
+      omega arith,
+      appended-none _ _,
+    )
+
+add-entry-word : tie.Need-add-entry-word Inv-loop μ-loop
+add-entry-word c =
+    let (r, l, a) = c .before .before .before .loop .inv in
+    omega (arith, running-worded r (c .before .if1 .taken) .within, r .row .readable .arcs .sizes .few-entries)
+
+entry-word-requires : tie.Need-entry-word-requires Inv-loop μ-loop
+entry-word-requires c κs = let (r, l, a) = c .before .before .before .loop .inv in running-worded r (c .before .if1 .taken)
+
+loop-again : tie.Need-loop-again Inv-loop μ-loop
+loop-again c =
+    let w = c .before .before .before .before in
+    let (r, l, a) = w .before .before .before .before .loop .inv in
+    (r, omega arith, running-more r _ (w .entry-word .ensures) a (c .before .before .put .ensures))
+
+returns : tie.Need-returns Inv-loop μ-loop
+returns c = let (r, l, a) = c .before .before .loop .inv in running-all r (omega arith) a
+
+pub write-row-spec : {M : Type 1} → statement M
+write-row-spec =
+    tie.close
+    (tie.spec Inv-loop μ-loop (λ c κs. search needs) (λ c κs. c .before .before .before .before .pre .readable)
+    (λ c κs. let h = c .before .before .before .before .before .pre in (h .few, h .new))
+    (λ c κs. search needs) run-of-requires loop-holds add-entry-word entry-word-requires (λ c κs. search needs)
+    (λ c. omega arith) (λ c. omega arith) loop-again
+    (λ c. let (r, l, a) = c .before .before .loop .inv in appended-length a) returns)
