@@ -1,6 +1,7 @@
 -- Decimal text grows by its last digit, as a number does by ten times; so it reads as the number, and how long it is at most.
-use Rattle.scan.proofs.Basics.{ℕ, zero, suc, _+_, _-_, _*_, _/_, _%_, _≤_, _<_, arith, _≡_, refl, ap, _∙_, ltb, List, [], _∷_, _++_, length, getD, length-append}
+use Rattle.scan.proofs.Basics.{ℕ, zero, suc, _+_, _-_, _*_, _/_, _%_, _≤_, _<_, arith, _≡_, refl, sym, ap, _∙_, ltb, List, [], _∷_, _++_, length, getD, length-append}
 use Prim.Native.Nat.{_^_}
+use mathlib.Core.List.{append-assoc}
 use native.Mathlib.Nat.{not-suc-le-zero, le-of-suc-le-suc}
 use lib.ListN.{List·getD-append}
 use Rattle.scan.proofs.Tests.{ltb-true, ltb-false, lt-ltb, le-ltb, byTest}
@@ -22,6 +23,18 @@ module _ (n : ℕ) where
   pub decimal-more : 10 ≤ n → decimal (n / 10) ++ (digit (n % 10) ∷ []) ≡ decimal n
   unfolding digits decimal
   decimal-more l = rw (le-ltb n 10 l) (ap (λ (t : List ℕ). t ++ (digit (n % 10) ∷ [])) (enough (suc (n / 10)) n (n / 10) (omega arith) (omega arith)))
+
+-- two digits, and two digits more
+pub decimal-two : (n : ℕ) → 10 ≤ n → n < 100 → digit (n / 10 % 10) ∷ digit (n % 10) ∷ [] ≡ decimal n
+decimal-two n l h =
+    let e : n / 10 % 10 ≡ n / 10 = omega arith in
+    ap (λ (d : ℕ). digit d ∷ digit (n % 10) ∷ []) e ∙ ap (λ (t : List ℕ). t ++ (digit (n % 10) ∷ [])) (decimal-one (n / 10) (omega arith)) ∙ decimal-more n l
+
+pub decimal-more-two : (n : ℕ) → 100 ≤ n → decimal (n / 100) ++ (digit (n / 10 % 10) ∷ digit (n % 10) ∷ []) ≡ decimal n
+decimal-more-two n l =
+    let e : n / 10 / 10 ≡ n / 100 = omega arith in
+    let x : decimal (n / 100) ++ (digit (n / 10 % 10) ∷ []) ≡ decimal (n / 10) = rw (← e) (decimal-more (n / 10) (omega arith)) in
+    sym (append-assoc (decimal (n / 100)) (digit (n / 10 % 10) ∷ []) (digit (n % 10) ∷ [])) ∙ ap (λ (t : List ℕ). t ++ (digit (n % 10) ∷ [])) x ∙ decimal-more n (omega arith)
 
 -- what holds of decimal text where it holds of one digit, and of a text with a digit behind it
 by-digits : (Q : ℕ → List ℕ → Type 0) → ((n : ℕ) → n < 10 → Q n (digit n ∷ []))

@@ -5,7 +5,7 @@ use lib.Seq.{take-suc, take-all}
 use Rattle.text.specs.Buffer.{Put}
 use Rattle.text.specs.Decimal.{digit, decimal}
 use Rattle.text.specs.Lines.{kindName, joined}
-use Rattle.text.proofs.Decimal.{decimal-one, decimal-more}
+use Rattle.text.proofs.Decimal.{decimal-one, decimal-two, decimal-more-two}
 use Rattle.text.proofs.Put.{nothing-put, both-put}
 
 module _ (f : ℕ → List ℕ) where
@@ -30,12 +30,16 @@ module _ {out out′ : List ℕ} {at r : ℕ} where
   pub all-taken : (bytes : List ℕ) (i : ℕ) → length bytes ≤ i → Put out at (take i bytes) r out′ → Put out at bytes r out′
   all-taken bytes i l a = rw take-all at a
 
-  -- the only digit, and the last one
+  -- the only digit, and the last two
   pub one-digit : (n : ℕ) → n < 10 → Put out at (digit n ∷ []) r out′ → Put out at (decimal n) r out′
   one-digit n l a = rw (decimal-one n l) at a
 
-  pub more-digits : {mid : List ℕ} {m : ℕ} (n : ℕ) → 10 ≤ n → Put out at (decimal (n / 10)) m mid → Put mid m (digit (n % 10) ∷ []) r out′ → Put out at (decimal n) r out′
-  more-digits n l a b = rw (decimal-more n l) at (both-put a b)
+  pub two-put : (n : ℕ) → 10 ≤ n → n < 100 → Put out at (digit (n / 10 % 10) ∷ digit (n % 10) ∷ []) r out′ → Put out at (decimal n) r out′
+  two-put n l h a = rw (decimal-two n l h) at a
+
+  pub two-more : {mid : List ℕ} {m : ℕ} (n : ℕ) → 100 ≤ n → Put out at (decimal (n / 100)) m mid → Put mid m (digit (n / 10 % 10) ∷ digit (n % 10) ∷ []) r out′
+      → Put out at (decimal n) r out′
+  two-more n l a b = rw (decimal-more-two n l) at (both-put a b)
 
 pub record-name : (kind : ℕ) → 4 ≤ kind → kindName kind ≡ " record"
 record-name zero l = absurd (omega arith)

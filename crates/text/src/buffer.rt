@@ -1,7 +1,8 @@
 // Bytes, and numbers as decimal text.
 ghost use mathlib.Core.List.{[], _∷_, _++_};
+ghost use Prim.Native.Nat.{_/_, _%_};
 ghost use Rattle.text.specs.Buffer.{Put};
-ghost use Rattle.text.specs.Decimal.{decimal as Decimal·decimal};
+ghost use Rattle.text.specs.Decimal.{digit, decimal as Decimal·decimal};
 
 pub(crate) fn byte(out: &mut [u8], at: usize, byte: u8) -> usize
     ensures { λ r. ⌜ Put (now (out .entry)) at (byte ∷ []) r (now (out .exit)) ⌝ }
@@ -25,15 +26,26 @@ pub(crate) fn bytes(out: &mut [u8], at: usize, bytes: &[u8]) -> usize
     next
 }
 
-// The digits before the last one are those of a tenth.
+// The last two digits.
+fn two_digits(out: &mut [u8], at: usize, n: u64) -> usize
+    ensures { λ r. ⌜ Put (now (out .entry)) at (digit (n / 10 % 10) ∷ digit (n % 10) ∷ []) r (now (out .exit)) ⌝ }
+{
+    let next = byte(out, at, 48 + (n / 10 % 10) as u8);
+    byte(out, next, 48 + (n % 10) as u8)
+}
+
+// The digits before the last two are those of a hundredth.
 pub(crate) fn decimal(out: &mut [u8], at: usize, n: u64) -> usize
     ensures { λ r. ⌜ Put (now (out .entry)) at (Decimal·decimal n) r (now (out .exit)) ⌝ }
 {
     if n < 10 {
         return byte(out, at, 48 + n as u8);
     }
-    let next = decimal(out, at, n / 10);
-    byte(out, next, 48 + (n % 10) as u8)
+    if n < 100 {
+        return two_digits(out, at, n);
+    }
+    let next = decimal(out, at, n / 100);
+    two_digits(out, next, n)
 }
 
 // A text, and a number behind it.

@@ -1,13 +1,14 @@
--- `text::buffer::decimal` meets its contract: it calls itself with a tenth of its number.
+-- `text::buffer::decimal` meets its contract: it calls itself with a hundredth of its number.
 use Rattle.scan.proofs.Basics.{ℕ, _<_, arith}
 use borrow.Author.Needs.{needs}
 use borrow.Fn.Kinds.{In}
 use borrow.Fn.PlainCycle.{Measures, is, falls, and}
-use Rattle.text.proofs.Joined.{one-digit, more-digits}
+use Rattle.text.proofs.Joined.{one-digit, two-put, two-more}
 use Rattle.text.proofs.buffer.decimal.Reads as decimal
 use Rattle.text.proofs.buffer.decimal.Kinds as decimal-kinds
 use Rattle.text.proofs.buffer.+decimal.Lts-decimal as decimal-lts
 use Rattle.text.proofs.buffer.byte.Reads as byte-reads
+use Rattle.text.proofs.buffer.two_digits.Reads as two-digits-reads
 use Rattle.text.proofs.buffer.+decimal.{statement}
 use Rattle.text.proofs.buffer.+decimal.Tie.{close}
 
@@ -21,27 +22,38 @@ decimal-at t = and 1 decimal-kinds.ps (is 1 decimal-kinds.ps μ-decimal t) decim
 abbrev decimal-below : ℕ → In 1 decimal-kinds.ps
 decimal-below t = and 1 decimal-kinds.ps (falls 1 decimal-kinds.ps _<_ μ-decimal t) decimal.Pre
 
-returns : (t : ℕ) → decimal-lts.Need-returns (byte-reads.Asked, byte-reads.Learnt, decimal-below t, decimal.Post) (decimal-at t) decimal.Post
+returns : (t : ℕ)
+    → decimal-lts.Need-returns (byte-reads.Asked, byte-reads.Learnt, two-digits-reads.Asked, two-digits-reads.Learnt, decimal-below t, decimal.Post) (decimal-at t) decimal.Post
 returns t c = one-digit (c .before .before .before .before .before .before .args .n) (omega arith) (c .before .before .byte .ensures)
 
-falling : (t : ℕ) → decimal-lts.Need-decimal-requires (byte-reads.Asked, byte-reads.Learnt, decimal-below t, decimal.Post) (decimal-at t) decimal.Post
+returns-2 : (t : ℕ)
+    → decimal-lts.Need-returns-2 (byte-reads.Asked, byte-reads.Learnt, two-digits-reads.Asked, two-digits-reads.Learnt, decimal-below t, decimal.Post) (decimal-at t) decimal.Post
+returns-2 t c = two-put (c .before .before .before .before .before .before .before .args .n) (omega arith) (omega arith) (c .before .before .two-digits .ensures)
+
+falling : (t : ℕ)
+    → decimal-lts.Need-decimal-requires (byte-reads.Asked, byte-reads.Learnt, two-digits-reads.Asked, two-digits-reads.Learnt, decimal-below t, decimal.Post) (decimal-at t) decimal.Post
 falling t c κs = (omega arith, tt)
 
-returns-2 : (t : ℕ) → decimal-lts.Need-returns-2 (byte-reads.Asked, byte-reads.Learnt, decimal-below t, decimal.Post) (decimal-at t) decimal.Post
-returns-2 t c =
-    let n = c .before .before .before .before .before .before .before .before .before .before .args .n in
-    more-digits n (omega arith) (c .before .before .before .before .before .before .decimal .ensures) (c .before .before .byte2 .ensures)
+returns-3 : (t : ℕ)
+    → decimal-lts.Need-returns-3 (byte-reads.Asked, byte-reads.Learnt, two-digits-reads.Asked, two-digits-reads.Learnt, decimal-below t, decimal.Post) (decimal-at t) decimal.Post
+returns-3 t c =
+    let n = c .before .before .before .before .before .before .before .before .before .before .before .args .n in
+    two-more n (omega arith) (c .before .before .before .before .before .before .decimal .ensures) (c .before .before .two-digits2 .ensures)
 
 pub +decimal-spec : {M : Type 1} → statement M
-+decimal-spec = close μ-decimal λ t. decimal-lts.spec (byte-reads.Asked, byte-reads.Learnt, decimal-below t, decimal.Post) (decimal-at t) decimal.Post
++decimal-spec = close μ-decimal λ t. decimal-lts.spec
+    (byte-reads.Asked, byte-reads.Learnt, two-digits-reads.Asked, two-digits-reads.Learnt, decimal-below t, decimal.Post)
+    (decimal-at t)
+    decimal.Post
     (λ c. search needs)
     (λ c. search needs)
     (λ c κs. search needs)
     (λ c. search needs)
     (returns t)
-    (falling t)
-    (λ c. search needs)
-    (λ c. search needs)
     (λ c κs. search needs)
     (λ c. search needs)
     (returns-2 t)
+    (falling t)
+    (λ c κs. search needs)
+    (λ c. search needs)
+    (returns-3 t)
