@@ -1,5 +1,5 @@
 //! The calls over bytes of the archive, compared with the model's in this process: what is returned,
-//! and every byte of every buffer.
+//! every byte of every buffer, and that none beside them is touched.
 
 use crate::bytes::{self, encoded, REFUSED, REPLY_BYTES, SCRATCH_BYTES};
 use crate::call::{Call, Kind};
@@ -101,15 +101,15 @@ impl ByteCall {
         (returned, Lent { out, scratch, reply })
     }
 
-    /// What the archive returns and leaves.
+    /// What the archive returns and leaves, if it has touched nothing else: no input, and no byte before
+    /// or behind a buffer.
     #[rustfmt::skip]
-    fn archive(&self) -> (u32, Lent) {
-        let mut left = self.lent.clone();
-        let (net, n, sheet, s) = (self.net.as_ptr(), self.net.len(), self.sheet.as_ptr(), self.sheet.len());
-        let (record, r) = (self.record.as_ptr(), self.record.len());
-        let (out, o) = (left.out.as_mut_ptr(), left.out.len());
-        let (scratch, k) = (left.scratch.as_mut_ptr(), left.scratch.len());
-        let (reply, m) = (left.reply.as_mut_ptr(), left.reply.len());
+    fn archive(&self) -> (u32, Option<Lent>) {
+        let given = [&self.net, &self.sheet, &self.record].map(|bytes| Guarded::around(bytes));
+        let mut left = [&self.lent.out, &self.lent.scratch, &self.lent.reply].map(|bytes| Guarded::around(bytes));
+        let [(net, n), (sheet, s), (record, r)] = [given[0].at(), given[1].at(), given[2].at()];
+        let [out, scratch, reply] = &mut left;
+        let ((out, o), (scratch, k), (reply, m)) = (out.at_mut(), scratch.at_mut(), reply.at_mut());
         // each pointer is that of a buffer of its own, with the length that follows it
         let returned = unsafe {
             match self.kind {
@@ -119,7 +119,39 @@ impl ByteCall {
                 _ => wulthrein_fire(net, n, sheet, s, self.node, self.transition, scratch, k),
             }
         };
-        (returned, left)
+        let inputs = [&self.net, &self.sheet, &self.record];
+        let kept = given.iter().zip(inputs).all(|(given, input)| given.within().as_ref() == Some(input));
+        let [out, scratch, reply] = left.map(|buffer| buffer.within());
+        let lent = out.zip(scratch).zip(reply).map(|((out, scratch), reply)| Lent { out, scratch, reply });
+        (returned, lent.filter(|_| kept))
+    }
+}
+
+/// A buffer between bytes that no call may touch.
+struct Guarded(Vec<u8>);
+
+impl Guarded {
+    const CANARIES: [u8; 32] = [0xA5; 32];
+
+    fn around(bytes: &[u8]) -> Guarded {
+        Guarded([&Guarded::CANARIES, bytes, &Guarded::CANARIES].concat())
+    }
+
+    fn at(&self) -> (*const u8, usize) {
+        let inside = &self.0[Guarded::CANARIES.len()..self.0.len() - Guarded::CANARIES.len()];
+        (inside.as_ptr(), inside.len())
+    }
+
+    fn at_mut(&mut self) -> (*mut u8, usize) {
+        let end = self.0.len() - Guarded::CANARIES.len();
+        let inside = &mut self.0[Guarded::CANARIES.len()..end];
+        (inside.as_mut_ptr(), inside.len())
+    }
+
+    /// The buffer, if the bytes around it are as they were.
+    fn within(&self) -> Option<Vec<u8>> {
+        let bytes = self.0.strip_prefix(&Guarded::CANARIES)?.strip_suffix(&Guarded::CANARIES)?;
+        Some(bytes.to_vec())
     }
 }
 
@@ -172,11 +204,12 @@ pub fn compare(count: u64, seed: u64, tally: &mut Tally) {
             _ => should,
         };
         *met.entry((call.kind, number)).or_insert(0) += 1;
-        tally.check(is == should && found == left, || {
-            let same =
-                [found.out == left.out, found.scratch == left.scratch, found.reply == left.reply];
+        tally.check(is == should && found.as_ref() == Some(&left), || {
+            let same = found.map(|found| {
+                [found.out == left.out, found.scratch == left.scratch, found.reply == left.reply]
+            });
             format!(
-                "{} {index} of seed {seed}: {is} for {should}; out, scratch, reply: {same:?}",
+                "{} {index} of seed {seed}: {is} for {should}; out, scratch, reply, and nothing else: {same:?}",
                 call.kind.name()
             )
         });
