@@ -7,7 +7,7 @@ use Rattle.refusal.specs.Finding.{foundAt, foundBy, finding}
 use Rattle.automaton.specs.Reach.{arcInto, arcFrom, reachedIn, leadsIn}
 use Rattle.automaton.specs.BreadthFirst.{classAt, indexOf, enter, expand, explored, order}
 use Rattle.automaton.specs.Quotient.{merged, minimalBy}
-use Rattle.net.specs.Net.{placeCount, transitionCount, entryWeight, weightAt, taken, put, start, capacity, entryCount}
+use Rattle.net.specs.Net.{placeCount, transitionCount, entryWeight, weightAt, taken, put, start, capacity, weightCount}
 use Rattle.sequential.specs.Petri as petri
 use Rattle.sequential.specs.Words as words
 use Rattle.sequential.specs.Tests as tests
@@ -24,7 +24,7 @@ use Rattle.composed.specs.Examples.{table, faultsOf, expectedFaults, wor
 -- what the check of a sheet computes with, opened together
 unfoldable pub checking : Unit {0}
 unfolding orElse when found first all any bit count passing least sum tabulate keyAt valueAt entryWith entryOf arcInto arcFrom reachedIn leadsIn
-    placeCount transitionCount entryWeight weightAt taken put start capacity entryCount keyFails foundAt foundBy finding
+    placeCount transitionCount entryWeight weightAt taken put start capacity weightCount keyFails foundAt foundBy finding
     tests.holdsEnough tests.holdsTaken tests.roomAt tests.hasRoom tests.enabled petri.firedCount tests.takesNothing tests.isSource
     tests.takesAlike tests.takesSame tests.bothDraw tests.sharesPlace tests.sharesAlike tests.freeChoice tests.sameChoice
     words.entryKey words.entryValue words.entryWithKey words.arcKeys words.keyLimit words.arcEntry

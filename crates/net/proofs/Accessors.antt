@@ -16,7 +16,7 @@ use Rattle.refusal.specs.declared.Refusal.{Refusal}
 use Rattle.refusal.specs.declared.Verdict.{Verdict}
 use Rattle.refusal.specs.declared.Verdict.the-variants.{Accepted, Refused}
 use Rattle.refusal.proofs.Verdicts.{answer-none, answer-some}
-use Rattle.net.specs.Net.{placeCount, transitionCount, entryCount, weightAt, taken, put, start, capacity, entryWeight}
+use Rattle.net.specs.Net.{placeCount, transitionCount, weightCount, weightAt, taken, put, start, capacity, entryWeight}
 use Rattle.net.specs.Check.{within, shapeFault}
 use Rattle.net.specs.Accessors.{capacityTold, capacityOfWord, wordAllows, weightFound, weightReply, shaped, rowReply, rowWeights, weightOrZero, rowOrZeros}
 use Rattle.net.specs.Accessors.{takenReply, putReply, startReply, capacityReply, takenRowReply, putRowReply, startRowReply, capacityRowReply}
@@ -62,7 +62,7 @@ map-word net false o = refl
 
 capacity-word : (net : List ℕ) (p : ℕ) → Option·getD (capacity net p) 0 ≡ cond (ltb p (placeCount net)) (weightAt net ((2 * transitionCount net + 1) * placeCount net + p)) 0
 unfolding capacity weightAt
-capacity-word net p = map-word net (ltb p (placeCount net)) (entryOf net 3 (entryCount net) ((2 * transitionCount net + 1) * placeCount net + p))
+capacity-word net p = map-word net (ltb p (placeCount net)) (entryOf net 3 (weightCount net) ((2 * transitionCount net + 1) * placeCount net + p))
 
 -- ---- rows
 
@@ -73,7 +73,7 @@ module _ (net : List ℕ) (e : EntriesPass net) where
   weight-right : (key : ℕ) → weightReply net key ≡ weightAt net key
   unfolding weightReply weightAt
   weight-right key =
-      ap (weightFound net) (look-up net 3 (entryCount net) key (entries-rise net e) (entries-fit net e)) ∙ found-weight net (entryOf net 3 (entryCount net) key)
+      ap (weightFound net) (look-up net 3 (weightCount net) key (entries-rise net e) (entries-fit net e)) ∙ found-weight net (entryOf net 3 (weightCount net) key)
 
   in-row : (known : Bool) (row p : ℕ) → weightOrZero net known row p ≡ cond (known && ltb p (placeCount net)) (weightAt net (row * placeCount net + p)) 0
   unfolding weightOrZero rowReply
@@ -85,21 +85,21 @@ module _ (net : List ℕ) (e : EntriesPass net) where
       → rowOrZeros net known row ≡ tabulate f 32
   unfolding rowOrZeros rowWeights weightAt entryWeight
   row-is true row f h =
-      rw is-shaped (value-row-is net 3 (entryCount net) (row * placeCount net) (placeCount net) (entries-rise net e) (omega (arith, e .shape .whole)) f (λ p l. h p))
+      rw is-shaped (value-row-is net 3 (weightCount net) (row * placeCount net) (placeCount net) (entries-rise net e) (omega (arith, e .shape .whole)) f (λ p l. h p))
   row-is false row f h = tabulate-is f 0 32 (replicate 32 0) refl (λ p l. getD-replicate {A = ℕ} 32 p 0 0 l ∙ sym (h p))
 
   -- a capacity is a weight: from 1 to the limit
   pub capacity-range : (p c : ℕ) → capacity net p ≡ some c → (1 ≤ c) × (c ≤ mostCount)
   unfolding capacity
-  capacity-range p c h = go (ltb p (placeCount net)) (entryOf net 3 (entryCount net) key) refl h
+  capacity-range p c h = go (ltb p (placeCount net)) (entryOf net 3 (weightCount net) key) refl h
     where
       key : ℕ
       key = (2 * transitionCount net + 1) * placeCount net + p
 
-      go : (b : Bool) (o : Option ℕ) → entryOf net 3 (entryCount net) key ≡ o → cond b (Option·map (entryWeight net) o) none ≡ some c → (1 ≤ c) × (c ≤ mostCount)
+      go : (b : Bool) (o : Option ℕ) → entryOf net 3 (weightCount net) key ≡ o → cond b (Option·map (entryWeight net) o) none ≡ some c → (1 ≤ c) × (c ≤ mostCount)
       go true none k h = none-some none c refl h
       go true (some i) k h =
-          let w = e .each i (entry-some net 3 (entryCount net) key i k .0) .weight in
+          let w = e .each i (entry-some net 3 (weightCount net) key i k .0) .weight in
           let q : entryWeight net i ≡ c = cc in
           (rw q at (w .some), rw q at (w .most))
       go false o k h = none-some none c refl h

@@ -10,7 +10,7 @@ use Rattle.refusal.specs.Finding.{foundAt, foundBy, lineFinds, finding}
 use Rattle.refusal.specs.declared.Position.the-variants.{Nothing}
 use Rattle.refusal.proofs.Checks.{Decides, Decided, Lawful, finding-tells, _▸_}
 use Rattle.refusal.proofs.Judges.{Judges, judges-found}
-use Rattle.net.specs.Net.{placeCount, transitionCount, entryCount, keyLimit, takesNothing, isSource, hasSource, Within}
+use Rattle.net.specs.Net.{placeCount, transitionCount, weightCount, netKeyLimit, takesNothing, isSource, hasSource, Within}
 use Rattle.net.specs.Checks.{HasSource, netChecks, IsNet}
 use Rattle.net.specs.Check.{within, shapeFault, entryFault, overfullFault, netTests, netReply}
 use Rattle.net.proofs.Shape.{sizes-out, sizes-in}
@@ -35,7 +35,7 @@ module _ (net : List ℕ) where
       (λ h. (ltb-false _ _, le-ltb _ _))
       ▸ (λ h. decides-not _ (sizes-out net) (sizes-in net))
       ▸ (λ h. decides-not _ (eqb-true _ _) (eq-eqb _ _))
-      ▸ (λ h i l. (key-passes net 3 (keyLimit net) i, λ k. ((weight-out net i, weight-in net i), λ p. tt)))
+      ▸ (λ h i l. (key-passes net 3 (netKeyLimit net) i, λ k. ((weight-out net i, weight-in net i), λ p. tt)))
       ▸ (λ h p l. (decides-not _ (within↔ _ _ .0) (within↔ _ _ .1), λ x. tt))
       ▸ (λ h. source-decided)
       ▸ tt
@@ -46,7 +46,7 @@ module _ (net : List ℕ) where
 
   -- the functions' parts, one after the other
   pub net-fault : finding (netChecks net) (netTests net)
-      ≡ orElse (shapeFault net) (orElse (first (entryFault net) (entryCount net)) (orElse (first (overfullFault net) (placeCount net)) (when (not (hasSource net)) (refusal 5 Nothing))))
+      ≡ orElse (shapeFault net) (orElse (first (entryFault net) (weightCount net)) (orElse (first (overfullFault net) (placeCount net)) (when (not (hasSource net)) (refusal 5 Nothing))))
   unfolding finding foundBy lineFinds foundAt shapeFault entryFault overfullFault
   net-fault = sym (orElse-assoc _ _ _ ∙ ap (orElse _) (orElse-assoc _ _ _))
 

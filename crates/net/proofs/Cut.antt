@@ -5,7 +5,7 @@ use Rattle.scan.proofs.Tests.{le-ltb, leb-true, leb-false, ne-eqb, byTest}
 use Rattle.scan.specs.Scan.{orElse, when}
 use Rattle.scan.proofs.First.{orElse-hit}
 use Rattle.refusal.specs.Refusal.{refusal}
-use Rattle.net.specs.Net.{placeCount, transitionCount, entryCount}
+use Rattle.net.specs.Net.{placeCount, transitionCount, weightCount}
 use Rattle.refusal.specs.Finding.{foundBy, finding}
 use Rattle.net.specs.Check.{sizesPass, shapeFault, netReply}
 use Rattle.refusal.specs.Verdict.{verdictOf}
@@ -20,25 +20,25 @@ unfoldable pub overlongFault : ℕ → ℕ → ℕ → Refusal
 overlongFault p t k = cond (sizesPass p t k) (refusal 1 Nothing) (refusal 2 Nothing)
 
 module _ (net : List ℕ) (l : 4228 ≤ length net) where
-  not-whole : sizesPass (placeCount net) (transitionCount net) (entryCount net) ≡ true → eqb (length net) (3 + 2 * entryCount net) ≡ false
+  not-whole : sizesPass (placeCount net) (transitionCount net) (weightCount net) ≡ true → eqb (length net) (3 + 2 * weightCount net) ≡ false
   not-whole h =
       let s = sizes-out net h in
       let m = limit-high net s in
-      ne-eqb (length net) (3 + 2 * entryCount net) (λ e. omega (arith, e, m, s .few-entries))
+      ne-eqb (length net) (3 + 2 * weightCount net) (λ e. omega (arith, e, m, s .few-entries))
 
-  shape-overlong : shapeFault net ≡ some (overlongFault (placeCount net) (transitionCount net) (entryCount net))
+  shape-overlong : shapeFault net ≡ some (overlongFault (placeCount net) (transitionCount net) (weightCount net))
   unfolding shapeFault finding foundBy orElse when overlongFault
   shape-overlong =
       let a : ltb (length net) 3 ≡ false = le-ltb (length net) 3 (omega arith) in
-      byTest (sizesPass (placeCount net) (transitionCount net) (entryCount net)) (λ h. rw (a, h, not-whole h)) (λ h. rw (a, h))
+      byTest (sizesPass (placeCount net) (transitionCount net) (weightCount net)) (λ h. rw (a, h, not-whole h)) (λ h. rw (a, h))
 
-  pub overlong : netReply net ≡ Refused (overlongFault (placeCount net) (transitionCount net) (entryCount net))
+  pub overlong : netReply net ≡ Refused (overlongFault (placeCount net) (transitionCount net) (weightCount net))
   unfolding netReply
   overlong = ap verdictOf (net-fault net ∙ orElse-hit _ _ _ shape-overlong)
 
 module _ (n : ℕ) (l : 4228 ≤ n) (net : List ℕ) where
   cut-overlong : n < length net → netReply (take n net) ≡ netReply net
-  unfolding placeCount transitionCount entryCount
+  unfolding placeCount transitionCount weightCount
   cut-overlong m =
       let e : length (take n net) ≡ n = length-take-le n net (omega arith) in
       overlong (take n net) (omega arith)

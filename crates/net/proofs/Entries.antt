@@ -5,7 +5,7 @@ use Rattle.scan.proofs.First.{orElse-left, orElse-right, when-none, first-all}
 use Rattle.table.specs.Table.{Rising, entryOf}
 use Rattle.table.proofs.Table.{entry-some}
 use Rattle.refusal.specs.Limits.{mostCount}
-use Rattle.net.specs.Net.{entryCount, entryWeight, keyLimit, weightAt}
+use Rattle.net.specs.Net.{weightCount, entryWeight, netKeyLimit, weightAt}
 use Rattle.table.proofs.Keys.{key-passes, keys-rise}
 use Rattle.refusal.specs.Finding.{foundAt, lineFinds}
 use Rattle.net.specs.Checks.{WeightPasses}
@@ -27,25 +27,25 @@ weight-in net i w =
     let a = w .some in
     rw (ne-eqb (entryWeight net i) 0 (λ e. omega arith), le-ltb mostCount (entryWeight net i) (w .most))
 
-pub entries-out : (net : List ℕ) → shapeFault net ≡ none → first (entryFault net) (entryCount net) ≡ none → EntriesPass net
+pub entries-out : (net : List ℕ) → shapeFault net ≡ none → first (entryFault net) (weightCount net) ≡ none → EntriesPass net
 unfolding entryFault lineFinds foundAt
 entries-out net s h = record {
   shape = shape-out net s;
   each = λ i l. let e = first-all _ _ h i l in
-      record { key = key-passes net 3 (keyLimit net) i .0 (when-none _ _ (orElse-left _ _ e)); weight = weight-out net i (when-none _ _ (orElse-right _ _ e)) };
+      record { key = key-passes net 3 (netKeyLimit net) i .0 (when-none _ _ (orElse-left _ _ e)); weight = weight-out net i (when-none _ _ (orElse-right _ _ e)) };
 }
 
-pub entries-rise : (net : List ℕ) → EntriesPass net → Rising net 3 (entryCount net)
-entries-rise net e = keys-rise net 3 (keyLimit net) (entryCount net) (λ i l. e .each i l .key)
+pub entries-rise : (net : List ℕ) → EntriesPass net → Rising net 3 (weightCount net)
+entries-rise net e = keys-rise net 3 (netKeyLimit net) (weightCount net) (λ i l. e .each i l .key)
 
-pub entries-fit : (net : List ℕ) → EntriesPass net → 3 + entryCount net ≤ length net
+pub entries-fit : (net : List ℕ) → EntriesPass net → 3 + weightCount net ≤ length net
 entries-fit net e = omega (arith, e .shape .whole)
 
 -- a weight is at most the limit, absent ones too
 pub weight-small : (net : List ℕ) → EntriesPass net → (key : ℕ) → weightAt net key ≤ mostCount
 unfolding weightAt
-weight-small net e key = go (entryOf net 3 (entryCount net) key) refl
+weight-small net e key = go (entryOf net 3 (weightCount net) key) refl
   where
-    go : (o : Option ℕ) → entryOf net 3 (entryCount net) key ≡ o → foundOr 0 (entryWeight net) o ≤ mostCount
+    go : (o : Option ℕ) → entryOf net 3 (weightCount net) key ≡ o → foundOr 0 (entryWeight net) o ≤ mostCount
     go none h = omega arith
-    go (some i) h = e .each i (entry-some net 3 (entryCount net) key i h .0) .weight .most
+    go (some i) h = e .each i (entry-some net 3 (weightCount net) key i h .0) .weight .most

@@ -7,9 +7,9 @@ use Rattle.scan.proofs.Tests.{le-ltb, byTest}
 use Rattle.scan.proofs.First.{none-some}
 use Rattle.table.proofs.Table.{entry-absent}
 use Rattle.refusal.specs.Limits.{mostCount}
-use Rattle.net.specs.Net.{placeCount, transitionCount, entryCount, entryKey, taken, put, start, capacity, Within}
+use Rattle.net.specs.Net.{placeCount, transitionCount, weightCount, weightKey, taken, put, start, capacity, Within}
 use Rattle.net.specs.Check.{netReply}
-use Rattle.net.specs.Checks.{SizesPass, IsNet, HasSource}
+use Rattle.net.specs.Checks.{NetSizesPass, IsNet, HasSource}
 use Rattle.refusal.specs.declared.Verdict.the-variants.{Accepted}
 use Rattle.net.specs.Demands.{AccessorsRight, NoCapacityKeys}
 use Rattle.net.proofs.Accessors.{capacity-range, accessors-right}
@@ -47,9 +47,9 @@ module _ (net : List ℕ) where
 -- ---- without capacities
 
 pub no-capacity : (net : List ℕ) → NoCapacityKeys net → (p : ℕ) → capacity net p ≡ none
-unfolding capacity entryKey
+unfolding capacity weightKey
 no-capacity net h p =
-    byTest (ltb p (placeCount net)) (λ e. rw (e, entry-absent net 3 (entryCount net) ((2 * transitionCount net + 1) * placeCount net + p) (λ i l q. let z = h i l in omega arith))) (λ e. rw e)
+    byTest (ltb p (placeCount net)) (λ e. rw (e, entry-absent net 3 (weightCount net) ((2 * transitionCount net + 1) * placeCount net + p) (λ i l q. let z = h i l in omega arith))) (λ e. rw e)
 
 -- ---- an accepted net
 
@@ -67,7 +67,7 @@ module _ (net : List ℕ) (accepted : netReply net ≡ Accepted) where
   pub accessors : AccessorsRight net
   accessors = accessors-right net passes
 
-  pub sizes : SizesPass net
+  pub sizes : NetSizesPass net
   sizes = passes .shape .sizes
 
   pub some-source : HasSource net

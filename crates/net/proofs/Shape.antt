@@ -4,14 +4,14 @@ use native.Mathlib.Nat.{mul-le-mul}
 use Rattle.scan.proofs.Tests.{le-ltb, leb-true, le-leb, eqb-true, eq-eqb, not-false, and-left, and-right, and-both}
 use Rattle.scan.specs.Scan.{orElse, when}
 use Rattle.scan.proofs.First.{orElse-left, orElse-right, when-none}
-use Rattle.net.specs.Net.{placeCount, transitionCount, entryCount, keyLimit}
+use Rattle.net.specs.Net.{placeCount, transitionCount, weightCount, netKeyLimit}
 use Rattle.refusal.specs.Finding.{foundBy, finding}
-use Rattle.net.specs.Checks.{SizesPass}
+use Rattle.net.specs.Checks.{NetSizesPass}
 use Rattle.net.specs.Known.{ShapePasses, Known}
 use Rattle.net.specs.Check.{sizesPass, shapeFault}
 
-pub sizes-out : (net : List ℕ) → sizesPass (placeCount net) (transitionCount net) (entryCount net) ≡ true → SizesPass net
-unfolding sizesPass keyLimit
+pub sizes-out : (net : List ℕ) → sizesPass (placeCount net) (transitionCount net) (weightCount net) ≡ true → NetSizesPass net
+unfolding sizesPass netKeyLimit
 sizes-out net h = record {
   some-place = leb-true _ _ (search (and-left, and-right));
   few-places = leb-true _ _ (search (and-left, and-right));
@@ -20,8 +20,8 @@ sizes-out net h = record {
   few-entries = leb-true _ _ (search (and-left, and-right));
 }
 
-pub sizes-in : (net : List ℕ) → SizesPass net → sizesPass (placeCount net) (transitionCount net) (entryCount net) ≡ true
-unfolding sizesPass keyLimit
+pub sizes-in : (net : List ℕ) → NetSizesPass net → sizesPass (placeCount net) (transitionCount net) (weightCount net) ≡ true
+unfolding sizesPass netKeyLimit
 sizes-in net s =
     let a = le-leb _ _ (s .some-place) in
     let b = le-leb _ _ (s .few-places) in
@@ -40,16 +40,16 @@ shape-out net h = record {
 pub shape-in : (net : List ℕ) → ShapePasses net → shapeFault net ≡ none
 unfolding shapeFault finding foundBy orElse when
 shape-in net s =
-    rw (le-ltb (length net) 3 (omega (arith, s .whole)), sizes-in net (s .sizes), eq-eqb (length net) (3 + 2 * entryCount net) (s .whole))
+    rw (le-ltb (length net) 3 (omega (arith, s .whole)), sizes-in net (s .sizes), eq-eqb (length net) (3 + 2 * weightCount net) (s .whole))
 
 -- every key is below this, whatever the sizes
-pub limit-high : (net : List ℕ) → SizesPass net → keyLimit net ≤ 2112
-unfolding keyLimit
+pub limit-high : (net : List ℕ) → NetSizesPass net → netKeyLimit net ≤ 2112
+unfolding netKeyLimit
 limit-high net s = let a : 2 * transitionCount net + 2 ≤ 66 = omega (arith, s .few-transitions) in mul-le-mul a (s .few-places)
 
 -- the same about the words themselves
 pub known : (net : List ℕ) → shapeFault net ≡ none → Known net
-unfolding placeCount transitionCount entryCount keyLimit
+unfolding placeCount transitionCount weightCount netKeyLimit
 known net h =
     let s = shape-out net h in
     let l = limit-high net (s .sizes) in

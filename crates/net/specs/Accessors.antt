@@ -12,7 +12,7 @@ use Rattle.table.specs.Row.{valueRow}
 use Rattle.table.specs.declared.Found.{Found}
 use Rattle.table.specs.declared.Found.the-variants.{At, Nothing}
 use Rattle.refusal.specs.Limits.{mostPlaces}
-use Rattle.net.specs.Net.{placeCount, transitionCount, entryCount, entryWeight}
+use Rattle.net.specs.Net.{placeCount, transitionCount, weightCount, entryWeight}
 use Rattle.net.specs.Check.{shapeFault}
 use Rattle.net.specs.declared.PlaceCapacity.{PlaceCapacity}
 use Rattle.net.specs.declared.PlaceCapacity.the-variants.{Unlimited, AtMost}
@@ -45,14 +45,14 @@ module _ (net : List ℕ) where
   weightFound Nothing = 0
 
   unfoldable pub weightReply : ℕ → ℕ
-  weightReply key = weightFound (lookUp net 3 (entryCount net) key)
+  weightReply key = weightFound (lookUp net 3 (weightCount net) key)
 
   -- the weight at place p of a row of keys, and the row at once
   unfoldable pub rowReply : ℕ → ℕ → ℕ
   rowReply row p = cond (ltb p (placeCount net)) (weightReply (row * placeCount net + p)) 0
 
   unfoldable pub rowWeights : ℕ → List ℕ
-  rowWeights row = valueRow net 3 (entryCount net) (row * placeCount net) (placeCount net)
+  rowWeights row = valueRow net 3 (weightCount net) (row * placeCount net) (placeCount net)
 
   -- both on any words; the test says whether there is such a row
   unfoldable pub weightOrZero : Bool → ℕ → ℕ → ℕ

@@ -12,7 +12,7 @@ use Rattle.refusal.specs.Verdict.{verdictOf}
 use Rattle.refusal.specs.Finding.{Tests, asked, lineFinds, finding}
 use Rattle.refusal.specs.declared.Refusal.{Refusal}
 use Rattle.refusal.specs.declared.Verdict.{Verdict}
-use Rattle.net.specs.Net.{keyCount, placeCount, transitionCount, entryCount, entryWeight, keyLimit, start, capacity, hasSource}
+use Rattle.net.specs.Net.{keyCount, placeCount, transitionCount, weightCount, entryWeight, netKeyLimit, start, capacity, hasSource}
 use Rattle.net.specs.Checks.{netChecks}
 
 -- §2.2
@@ -30,13 +30,13 @@ within (some c) n = leb n c
 
 module _ (net : List ℕ) where
   abbrev pub entryTests : Tests
-  entryTests = keyFails net 3 (keyLimit net) ∷ (λ i. weightFails (entryWeight net i)) ∷ []
+  entryTests = keyFails net 3 (netKeyLimit net) ∷ (λ i. weightFails (entryWeight net i)) ∷ []
 
   abbrev pub netTests : List Tests
   netTests =
       asked (ltb (length net) 3)
-      ∷ asked (not (sizesPass (placeCount net) (transitionCount net) (entryCount net)))
-      ∷ asked (not (eqb (length net) (3 + 2 * entryCount net)))
+      ∷ asked (not (sizesPass (placeCount net) (transitionCount net) (weightCount net)))
+      ∷ asked (not (eqb (length net) (3 + 2 * weightCount net)))
       ∷ entryTests
       ∷ ((λ p. not (within (capacity net p) (start net p))) ∷ [])
       ∷ asked (not (hasSource net))

@@ -7,15 +7,15 @@ use Rattle.table.specs.Table.{KeyPasses}
 use Rattle.refusal.specs.Limits.{mostPlaces, mostTransitions, mostCount}
 use Rattle.refusal.specs.Checks.{_else_, Check, each, once, AllPass}
 use Rattle.refusal.specs.declared.Position.the-variants.{Entry, Place}
-use Rattle.net.specs.Net.{placeCount, transitionCount, entryCount, entryWeight, keyLimit, taken, start, capacity, Within}
+use Rattle.net.specs.Net.{placeCount, transitionCount, weightCount, entryWeight, netKeyLimit, taken, start, capacity, Within}
 
 -- §2.2, with the limits of §1.3
-pub record SizesPass (net : List ℕ) : Type 0 where
+pub record NetSizesPass (net : List ℕ) : Type 0 where
   pub some-place : 1 ≤ placeCount net
   pub few-places : placeCount net ≤ mostPlaces
   pub some-transition : 1 ≤ transitionCount net
   pub few-transitions : transitionCount net ≤ mostTransitions
-  pub few-entries : entryCount net ≤ keyLimit net
+  pub few-entries : weightCount net ≤ netKeyLimit net
 
 -- §2.4, with the limit of §1.5
 pub record WeightPasses (net : List ℕ) (i : ℕ) : Type 0 where
@@ -34,9 +34,9 @@ HasSource net = (t : ℕ) × (t < transitionCount net) × ((p : ℕ) → p < pla
 abbrev pub netChecks : List ℕ → List Check
 netChecks net =
     once (3 ≤ length net) 1
-    ∷ once (SizesPass net) 2
-    ∷ once (length net ≡ 3 + 2 * entryCount net) 1
-    ∷ each (entryCount net) Entry (KeyPasses net 3 (keyLimit net) else 3 ∷ WeightPasses net else 4 ∷ [])
+    ∷ once (NetSizesPass net) 2
+    ∷ once (length net ≡ 3 + 2 * weightCount net) 1
+    ∷ each (weightCount net) Entry (KeyPasses net 3 (netKeyLimit net) else 3 ∷ WeightPasses net else 4 ∷ [])
     ∷ each (placeCount net) Place (StartWithin net else 26 ∷ [])
     ∷ once (HasSource net) 5
     ∷ []

@@ -5,7 +5,7 @@ use mathlib.Core.List.{List}
 use mathlib.Core.Option.{none, some, Option·getD}
 use Rattle.scan.specs.Scan.{tabulate}
 use Rattle.refusal.specs.Limits.{mostPlaces, mostCount}
-use Rattle.net.specs.Net.{placeCount, transitionCount, entryCount, entryKey, taken, put, start, capacity, Within}
+use Rattle.net.specs.Net.{placeCount, transitionCount, weightCount, weightKey, taken, put, start, capacity, Within}
 use Rattle.net.specs.Checks.{IsNet}
 use Rattle.net.specs.Accessors.{capacityTold, takenReply, putReply, startReply, capacityReply, takenRowReply, putRowReply, startRowReply, capacityRowReply}
 
@@ -37,7 +37,7 @@ OutsideNothing = (net : List ℕ) → NothingOutside net
 
 -- words without a key of a capacity have none, whether or not they are a net: §2.10
 abbrev pub NoCapacityKeys : List ℕ → Type 0
-NoCapacityKeys net = (i : ℕ) → i < entryCount net → entryKey net i < (2 * transitionCount net + 1) * placeCount net
+NoCapacityKeys net = (i : ℕ) → i < weightCount net → weightKey net i < (2 * transitionCount net + 1) * placeCount net
 
 abbrev pub WithoutCapacities : Type 0
 WithoutCapacities = (net : List ℕ) → NoCapacityKeys net → (p : ℕ) → capacity net p ≡ none

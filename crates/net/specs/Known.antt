@@ -4,13 +4,13 @@ use mathlib.Core.Path.{_≡_}
 use mathlib.Core.List.{List}
 use lib.ListN.{length, getD}
 use Rattle.table.specs.Table.{KeyPasses}
-use Rattle.net.specs.Net.{keyCount, entryCount, keyLimit}
-use Rattle.net.specs.Checks.{SizesPass, WeightPasses}
+use Rattle.net.specs.Net.{keyCount, weightCount, netKeyLimit}
+use Rattle.net.specs.Checks.{NetSizesPass, WeightPasses}
 
 -- 1 and 2 refuse nothing
 pub record ShapePasses (net : List ℕ) : Type 0 where
-  pub sizes : SizesPass net
-  pub whole : length net ≡ 3 + 2 * entryCount net
+  pub sizes : NetSizesPass net
+  pub whole : length net ≡ 3 + 2 * weightCount net
 
 -- the same as the code reads the words
 pub record Known (net : List ℕ) : Type 0 where
@@ -25,15 +25,15 @@ pub record Known (net : List ℕ) : Type 0 where
 -- what 3 and 4 at entry i are told of the words
 pub record EntryAt (net : List ℕ) (entries limit i : ℕ) : Type 0 where
   pub within : 3 + entries + i < length net
-  pub entries-are : entries ≡ entryCount net
-  pub limit-is : limit ≡ keyLimit net
+  pub entries-are : entries ≡ weightCount net
+  pub limit-is : limit ≡ netKeyLimit net
 
 -- 3 and 4 refuse nothing at entry i
 pub record EntryPasses (net : List ℕ) (i : ℕ) : Type 0 where
-  pub key : KeyPasses net 3 (keyLimit net) i
+  pub key : KeyPasses net 3 (netKeyLimit net) i
   pub weight : WeightPasses net i
 
 -- 1 to 4 refuse nothing
 pub record EntriesPass (net : List ℕ) : Type 0 where
   pub shape : ShapePasses net
-  pub each : (i : ℕ) → i < entryCount net → EntryPasses net i
+  pub each : (i : ℕ) → i < weightCount net → EntryPasses net i

@@ -25,22 +25,22 @@ module _ (net : List ℕ) where
   unfoldable pub transitionCount : ℕ
   transitionCount = getD net 1 0
 
-  unfoldable pub entryCount : ℕ
-  entryCount = getD net 2 0
+  unfoldable pub weightCount : ℕ
+  weightCount = getD net 2 0
 
-  unfoldable pub entryKey : ℕ → ℕ
-  entryKey i = keyAt net 3 i
+  unfoldable pub weightKey : ℕ → ℕ
+  weightKey i = keyAt net 3 i
 
   unfoldable pub entryWeight : ℕ → ℕ
-  entryWeight i = valueAt net 3 entryCount i
+  entryWeight i = valueAt net 3 weightCount i
 
   -- the bound of K (§2.2) and of the keys (§2.3)
-  unfoldable pub keyLimit : ℕ
-  keyLimit = keyCount placeCount transitionCount
+  unfoldable pub netKeyLimit : ℕ
+  netKeyLimit = keyCount placeCount transitionCount
 
   -- the weight of a key, 0 where it is absent: §2.8
   unfoldable pub weightAt : ℕ → ℕ
-  weightAt key = foundOr 0 entryWeight (entryOf net 3 entryCount key)
+  weightAt key = foundOr 0 entryWeight (entryOf net 3 weightCount key)
 
   -- T rows of P keys for what transitions take (§2.5), T rows for what they put (§2.6), one for what places start with (§2.7); 0 for what is no transition or place
   unfoldable pub taken : ℕ → ℕ → ℕ
@@ -54,7 +54,7 @@ module _ (net : List ℕ) where
 
   -- one row more for the capacities of places (§2.10); a place whose key is absent has none, and so has what is no place
   unfoldable pub capacity : ℕ → Option ℕ
-  capacity p = cond (ltb p placeCount) (Option·map entryWeight (entryOf net 3 entryCount ((2 * transitionCount + 1) * placeCount + p))) none
+  capacity p = cond (ltb p placeCount) (Option·map entryWeight (entryOf net 3 weightCount ((2 * transitionCount + 1) * placeCount + p))) none
 
   -- §2.9
   unfoldable pub takesNothing : ℕ → ℕ → Bool

@@ -2,7 +2,7 @@
 ghost use mathlib.Core.Path.{_≡_};
 ghost use Prim.Native.Nat.{_≤_};
 ghost use Rattle.scan.specs.Scan.{first};
-ghost use Rattle.net.specs.Net.{keyCount, entryCount};
+ghost use Rattle.net.specs.Net.{keyCount, weightCount};
 ghost use Rattle.net.specs.Known.{Known, EntryAt};
 ghost use Rattle.net.specs.Check.{sizesPass, shapeFault, weightFails, entryFault};
 ghost use Rattle.refusal.specs.Limits.{mostPlaces, mostTransitions};
@@ -84,7 +84,7 @@ fn entry_fault(net: &[u32], entries: usize, limit: u32, i: usize) -> Verdict
 // Refusals 3 and 4.
 pub(crate) fn entries_fault(net: &[u32]) -> Verdict
     requires { ⌜ Known (now net) ⌝ }
-    ensures { λ r. ⌜ r ≡ verdictOf (first (entryFault (now (net .entry))) (entryCount (now (net .entry)))) ⌝ }
+    ensures { λ r. ⌜ r ≡ verdictOf (first (entryFault (now (net .entry))) (weightCount (now (net .entry)))) ⌝ }
 {
     let limit = key_count(net[0], net[1]);
     let entries = net[2] as usize;

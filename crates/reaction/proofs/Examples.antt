@@ -5,7 +5,7 @@ use Rattle.table.specs.Table.{keyAt, valueAt, entryWith, entryOf}
 use Rattle.table.specs.Keys.{keyFails}
 use Rattle.refusal.specs.Finding.{foundAt, foundBy, finding}
 use Rattle.automaton.specs.Reach.{arcInto, arcFrom, reachedIn, leadsIn}
-use Rattle.net.specs.Net.{placeCount, transitionCount, keyLimit, entryWeight, weightAt, taken, put, start, capacity, takesNothing, isSource, hasSource, entryCount}
+use Rattle.net.specs.Net.{placeCount, transitionCount, netKeyLimit, entryWeight, weightAt, taken, put, start, capacity, takesNothing, isSource, hasSource, weightCount}
 use Rattle.net.specs.Check.{sizesPass, weightFails, netReply}
 use Rattle.sequential.specs.Petri as petri
 use Rattle.sequential.specs.Words as words
@@ -22,7 +22,7 @@ use Rattle.reaction.specs.Examples.{Reported}
 
 pub examples : Reported
 unfolding orElse when found first all any bit count passing least tabulate keyAt valueAt entryWith entryOf arcInto arcFrom reachedIn leadsIn
-    placeCount transitionCount keyLimit entryWeight weightAt taken put start capacity takesNothing isSource hasSource entryCount keyFails foundAt foundBy
+    placeCount transitionCount netKeyLimit entryWeight weightAt taken put start capacity takesNothing isSource hasSource weightCount keyFails foundAt foundBy
     finding sizesPass weightFails netReply petri.initial petri.firedCount petri.fire petri.fireAll tests.holdsEnough tests.holdsTaken tests.roomAt tests.hasRoom tests.enabled
     tests.takesNothing tests.isSource tests.takesAlike tests.takesSame tests.bothDraw tests.sharesPlace tests.sharesAlike tests.freeChoice tests.sameChoice
     words.entryKey words.entryValue words.entryWithKey words.arcKeys words.keyLimit words.arcEntry words.arc words.countAt words.marking words.isArc words.arcNode words.arcTransition

@@ -17,8 +17,8 @@ module _ (N : PetriNet) where
   abbrev pub Member : (ℕ → Bool) → ℕ → Type 0
   Member C t = Transition N t × (C t ≡ true)
 
-  abbrev pub Within : (ℕ → Bool) → (ℕ → Bool) → Type 0
-  Within C D = (t : ℕ) → Member C t → Member D t
+  abbrev pub Subset : (ℕ → Bool) → (ℕ → Bool) → Type 0
+  Subset C D = (t : ℕ) → Member C t → Member D t
 
   -- C = (•t)•
   abbrev pub DrawsBeside : (ℕ → Bool) → ℕ → Type 0
@@ -31,7 +31,7 @@ module _ (N : PetriNet) where
   -- Definition 3
   pub record FreeChoiceSet (C : ℕ → Bool) : Type 0 where
     pub free : FreeWithin C
-    pub maximal : (D : ℕ → Bool) → FreeWithin D → Within C D → Within D C
+    pub maximal : (D : ℕ → Bool) → FreeWithin D → Subset C D → Subset D C
 
   -- t₂ is in FCS(t₁): one free-choice set has both
   abbrev pub InFCS : ℕ → ℕ → Type 0

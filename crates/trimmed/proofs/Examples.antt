@@ -5,7 +5,7 @@ use Rattle.table.specs.Table.{keyAt, valueAt, entryWith, entryOf}
 use Rattle.table.specs.Keys.{keyFails}
 use Rattle.refusal.specs.Finding.{foundAt, foundBy, finding}
 use Rattle.automaton.specs.Reach.{arcInto, arcFrom, reachedIn}
-use Rattle.net.specs.Net.{placeCount, transitionCount, keyLimit, entryWeight, weightAt, taken, put, start, capacity, takesNothing, isSource, hasSource, entryCount}
+use Rattle.net.specs.Net.{placeCount, transitionCount, netKeyLimit, entryWeight, weightAt, taken, put, start, capacity, takesNothing, isSource, hasSource, weightCount}
 use Rattle.net.specs.Check.{sizesPass, weightFails, netReply}
 use Rattle.sequential.specs.Words as words
 use Rattle.sequential.specs.Check as check
@@ -16,7 +16,7 @@ use Rattle.trimmed.specs.Examples.{TrimmedExamples}
 
 pub examples : TrimmedExamples
 unfolding orElse when found first all any bit count passing least tabulate keyAt valueAt entryWith entryOf arcInto arcFrom reachedIn
-    placeCount transitionCount keyLimit entryWeight weightAt taken put start capacity takesNothing isSource hasSource entryCount keyFails foundAt foundBy
+    placeCount transitionCount netKeyLimit entryWeight weightAt taken put start capacity takesNothing isSource hasSource weightCount keyFails foundAt foundBy
     finding sizesPass weightFails netReply
     words.entryKey words.entryValue words.entryWithKey words.arcKeys words.keyLimit words.arcEntry words.arc words.countAt words.marking
     check.sizesPass check.targetFails check.countFails check.valueFails check.wordsFault wordsReply
