@@ -10,10 +10,10 @@ use std::collections::BTreeMap;
 
 #[rustfmt::skip]
 extern "C" {
-    fn wulthrein_check(net: *const u8, n: usize, sheet: *const u8, s: usize, scratch: *mut u8, k: usize, reply: *mut u8, m: usize) -> u32;
-    fn wulthrein_run(net: *const u8, n: usize, sheet: *const u8, s: usize, record: *const u8, r: usize, out: *mut u8, o: usize, scratch: *mut u8, k: usize, reply: *mut u8, m: usize) -> u32;
-    fn wulthrein_short_form(net: *const u8, n: usize, sheet: *const u8, s: usize, out: *mut u8, o: usize, scratch: *mut u8, k: usize, reply: *mut u8, m: usize) -> u32;
-    fn wulthrein_fire(net: *const u8, n: usize, sheet: *const u8, s: usize, node: u32, transition: u32, scratch: *mut u8, k: usize) -> u32;
+    pub fn wulthrein_check(net: *const u8, n: usize, sheet: *const u8, s: usize, scratch: *mut u8, k: usize, reply: *mut u8, m: usize) -> u32;
+    pub fn wulthrein_run(net: *const u8, n: usize, sheet: *const u8, s: usize, record: *const u8, r: usize, out: *mut u8, o: usize, scratch: *mut u8, k: usize, reply: *mut u8, m: usize) -> u32;
+    pub fn wulthrein_short_form(net: *const u8, n: usize, sheet: *const u8, s: usize, out: *mut u8, o: usize, scratch: *mut u8, k: usize, reply: *mut u8, m: usize) -> u32;
+    pub fn wulthrein_fire(net: *const u8, n: usize, sheet: *const u8, s: usize, node: u32, transition: u32, scratch: *mut u8, k: usize) -> u32;
 }
 
 const KINDS: [Kind; 4] = [Kind::SheetCheck, Kind::Run, Kind::ShortForm, Kind::SingleFiring];

@@ -21,6 +21,8 @@ mod smallest;
 mod sorts;
 mod tally;
 mod text;
+#[cfg(timing)]
+mod timing;
 
 use arbitration::Arbitration;
 use call::{Call, Kind, OPERATIONS};
@@ -42,6 +44,8 @@ const USAGE: &str = "usage: reference selftest
        reference cases SEED COUNT
        reference pairs SEED COUNT
        reference byte-calls COUNT SEED
+       reference time-bytes DIR ROUNDS
+       reference make-calls DIR check|run|form|fire bytes|words|model-bytes|model-words COUNT
        reference play < CASES
        reference arbitrated < CASES
        reference mended < CASES
@@ -91,6 +95,20 @@ fn main() -> ExitCode {
             }
             _ => tally.check(false, || USAGE.to_string()),
         },
+        #[cfg(timing)]
+        ["time-bytes", folder, rounds] => {
+            if let Ok(rounds) = rounds.parse() {
+                return written(|| timing::time(Path::new(folder), rounds));
+            }
+            tally.check(false, || USAGE.to_string());
+        }
+        #[cfg(timing)]
+        ["make-calls", folder, kind, by, count] => {
+            if let Ok(count) = count.parse() {
+                return written(|| timing::make(Path::new(folder), kind, by, count));
+            }
+            tally.check(false, || USAGE.to_string());
+        }
         #[cfg(archive)]
         ["byte-calls", count, seed] => match (count.parse(), seed.parse()) {
             (Ok(count), Ok(seed)) => byte_calls::compare(count, seed, &mut tally),
