@@ -1,7 +1,7 @@
 -- The table of compositions holds: one computation of the definitions.
 use Rattle.scan.proofs.Basics.{_≡_, refl}
 use Rattle.scan.specs.Scan.{orElse, when, found, first, all, any, bit, count, passing, least, sum, tabulate}
-use Rattle.table.specs.Table.{keyAt, valueAt, entryWith, entryOf}
+use Rattle.table.specs.Table.{keyAt, valueAt, entryOf}
 use Rattle.table.specs.Keys.{keyFails}
 use Rattle.refusal.specs.Finding.{foundAt, foundBy, finding}
 use Rattle.automaton.specs.Reach.{arcInto, arcFrom, reachedIn, leadsIn}
@@ -23,7 +23,7 @@ use Rattle.composed.specs.Examples.{table, faultsOf, expectedFaults, wor
 
 -- what the check of a sheet computes with, opened together
 unfoldable pub checking : Unit {0}
-unfolding orElse when found first all any bit count passing least sum tabulate keyAt valueAt entryWith entryOf arcInto arcFrom reachedIn leadsIn
+unfolding orElse when found first all any bit count passing least sum tabulate keyAt valueAt entryOf arcInto arcFrom reachedIn leadsIn
     placeCount transitionCount entryWeight weightAt taken put start capacity weightCount keyFails foundAt foundBy finding
     tests.holdsEnough tests.holdsTaken tests.roomAt tests.hasRoom tests.enabled petri.firedCount tests.takesNothing tests.isSource
     tests.takesAlike tests.takesSame tests.bothDraw tests.sharesPlace tests.sharesAlike tests.freeChoice tests.sameChoice

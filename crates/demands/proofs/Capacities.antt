@@ -5,7 +5,8 @@ use Rattle.automaton.specs.Automaton.{allows}
 use Rattle.refusal.specs.Limits.{scratchLimit}
 use Rattle.refusal.specs.Checks.{Check, once}
 use Rattle.refusal.proofs.Judges.{Spared, spared-never, spared-append, without, without-spared}
-use Rattle.net.specs.Checks.{netChecks, StartWithin}
+use Rattle.net.specs.Net.{Within, start, capacity}
+use Rattle.net.specs.Checks.{netChecks}
 use Rattle.net.specs.Demands.{NoCapacityKeys}
 use Rattle.net.proofs.Checks.{net-judged}
 use Rattle.net.proofs.Laws.{no-capacity}
@@ -70,7 +71,7 @@ module _ (net : List ℕ) (h : NoCapacityKeys net) where
   abbrev N : PetriNet
   N = petriNet net
 
-  starts : (p : ℕ) → StartWithin net p
+  starts : (p : ℕ) → Within (capacity net p) (start net p)
   starts p c e = none-some _ c (no-capacity net h p) e
 
   arcs : (sheet : List ℕ) (i : ℕ) → ArcHasRoom N sheet i

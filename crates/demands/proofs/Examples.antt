@@ -2,7 +2,7 @@
 use Rattle.scan.proofs.Basics.{ℕ, _≤_, arith, _≡_, refl, ap, _∙_, List, [], _∷_, length, take}
 use mathlib.Core.List.{map}
 use Rattle.scan.specs.Scan.{orElse, when, found, first, all, any, bit, count, passing, least, tabulate}
-use Rattle.table.specs.Table.{keyAt, valueAt, entryWith, entryOf}
+use Rattle.table.specs.Table.{keyAt, valueAt, entryOf}
 use Rattle.table.specs.Keys.{keyFails}
 use Rattle.refusal.specs.Finding.{foundAt, foundBy, finding}
 use Rattle.refusal.specs.declared.Verdict.{Verdict}
@@ -65,7 +65,7 @@ form-answers net sheet out s out′ s′ a l m d = go (scheduleReply net sheet) 
     go : (v : Verdict) → scheduleReply net sheet ≡ v → take (own (plainForm a) 0) out′ ≡ formWhere v net sheet
     go verdict.Accepted e =
         let z = form-zero net sheet d .1 (l, e, omega (arith, form-short net sheet e)) in
-        made-form net sheet (record { out = out; scratch = s; answer = a; out′ = out′; scratch′ = s′; done = d; zero = z })
+        made-form net sheet (record { limit = scratchLimit; out = out; scratch = s; answer = a; out′ = out′; scratch′ = s′; done = d; zero = z })
     go (verdict.Refused r) e =
         let n = own-refused (form-law net sheet) d (λ z. let q = form-zero net sheet d .0 z .1 in let x : _≡_ {A = ℕ} 0 1 = cc in omega arith) 0 in
         ap (λ (k : ℕ). take k out′) n
@@ -87,7 +87,7 @@ table-holds (r ∷ rs) (p, q) = (row-holds r (cc p) (cc q), table-holds rs (cc p
 
 -- what a check and the minimal form compute with, opened together
 unfoldable pub checking : Unit {0}
-unfolding orElse when found first all any bit count passing least tabulate keyAt valueAt entryWith entryOf arcInto arcFrom reachedIn leadsIn
+unfolding orElse when found first all any bit count passing least tabulate keyAt valueAt entryOf arcInto arcFrom reachedIn leadsIn
     placeCount transitionCount netKeyLimit entryWeight weightAt taken put start capacity takesNothing isSource hasSource weightCount keyFails foundAt foundBy
     finding sizesPass weightFails netReply tests.holdsEnough tests.holdsTaken tests.roomAt tests.hasRoom petri.firedCount tests.takesNothing tests.isSource
     tests.takesAlike tests.takesSame tests.bothDraw tests.sharesPlace tests.sharesAlike tests.freeChoice tests.sameChoice

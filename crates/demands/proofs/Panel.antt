@@ -1,5 +1,5 @@
 -- What is promised of the calls for the small panel, proved: from scratch that suffices, a call's limit does not show.
-use Rattle.scan.proofs.Basics.{ℕ, _≡_, refl, sym, ap, List, [], _∷_, length}
+use Rattle.scan.proofs.Basics.{ℕ, _≡_, refl, ap, List, [], _∷_, length}
 use mathlib.Core.Logic.{Iff·rfl}
 use Rattle.refusal.specs.Limits.{scratchLimit}
 use Rattle.sequential.specs.Petri.{petriNet}
@@ -19,10 +19,8 @@ use Rattle.mended.specs.Changes.{changes}
 use Rattle.mended.specs.Call.{mendCore}
 use Rattle.mended.proofs.Done.{mend-law}
 use Rattle.panel.specs.Calls.{panelLimit}
-use Rattle.demands.specs.Panel.{SameOnPanel, PanelForm, AsOther, PanelDemand}
-use Rattle.demands.proofs.Checked.{some-scratch, enough-scratch, reply-accepted, accepted-reply}
-use Rattle.demands.proofs.Demand1.{demand1}
-use Rattle.demands.proofs.Demand3.{form-zero, forms-alike, made-accepted, made-lists, form-there}
+use Rattle.demands.specs.Panel.{SameOnPanel, PanelDemand}
+use Rattle.demands.proofs.Checked.{check-zero, zero-check, reply-accepted, accepted-reply}
 use Rattle.demands.proofs.Replay.{rows-fit}
 
 -- ---- the same from less scratch, for a call with no output buffer, one or two, and for one that hands back a value
@@ -49,21 +47,6 @@ same-value {Answer} {Value} core s t s′ t′ a b left right l m c d =
     let p = same-none core s t s′ t′ (a, left) (b, right) tt tt l m c d .0 in
     (ap (λ (x : Answer × Value). x .0) p, ap (λ (x : Answer × Value). x .1) p)
 
--- ---- what is made
-
-as-other : (net sheet : List ℕ) (c : PanelForm net sheet) → AsOther c
-as-other net sheet c =
-    let l = form-zero net sheet (c .done) .0 (c .zero) .0 in
-    let m = enough-scratch scratchLimit in
-    let (b, o, t′, d) = demand1 .minimal-form net sheet .1 (c .out) .replies (some-scratch scratchLimit) in
-    let (p, q) = same-one (formCore net sheet) (c .out) _ _ _ _ _ _ _ _ l m (c .done) d in
-    record {
-      other = record { out = c .out; scratch = some-scratch scratchLimit; answer = b; out′ = o; scratch′ = t′; done = d; zero = rw p at (c .zero) };
-      out = refl;
-      answer = sym p;
-      out′ = sym q;
-    }
-
 -- ---- all of it
 
 pub panel-demand : PanelDemand
@@ -82,10 +65,8 @@ panel-demand = record {
   every-form = λ net sheet. (length (minimalForm net sheet), λ out. every-call-one (form-law net sheet) refl (λ p. Iff·rfl));
   every-replay = λ net sheet log taken put. every-call-two (replay-law net sheet log) refl (λ p. rows-fit net log taken put);
   every-mend = λ net sheet. (length (mendedWords net sheet), length (changes net sheet), λ out list. every-call-two (mend-law net sheet) refl (λ p. Iff·rfl));
-  accepted-alike = λ net sheet. (λ a. reply-accepted net sheet (accepted-reply net sheet a), λ a. reply-accepted net sheet (accepted-reply net sheet a));
-  equal = λ j k l m net x y hx hy a b. forms-alike net x y hx hy a b;
-  as-other = as-other;
-  accepted = λ k l net sheet h c. made-accepted net sheet h c;
-  same-lists = λ k l net sheet h c. made-lists net sheet h c;
-  there-is = λ k net sheet out s h. form-there net sheet h out s;
+  accepted = λ net sheet. (
+    λ a. reply-accepted net sheet (check-zero net sheet (a .done) .0 (a .zero) .1),
+    λ a. let (s, s′, b, d, z) = zero-check panelLimit net sheet (accepted-reply net sheet a) in record { scratch = s; scratch′ = s′; answer = b; done = d; zero = z },
+  );
 }

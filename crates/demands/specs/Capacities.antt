@@ -10,8 +10,8 @@ use lib.ListN.{getD}
 use Rattle.automaton.specs.Automaton.{allows}
 use Rattle.refusal.specs.Refusal.{plainOf}
 use Rattle.refusal.specs.declared.Verdict.{Verdict}
-use Rattle.net.specs.Net.{Within}
-use Rattle.net.specs.Checks.{StartWithin, IsNet}
+use Rattle.net.specs.Net.{Within, start, capacity}
+use Rattle.net.specs.Checks.{IsNet}
 use Rattle.net.specs.Check.{NetDone}
 use Rattle.net.specs.Demands.{NoCapacityKeys}
 use Rattle.sequential.specs.Petri.{PetriNet, petriNet, initial, HoldsTaken, Enabled, FiresEnabled, Source}
@@ -63,7 +63,7 @@ pub record Enabling : Type 0 where
 pub record AsWithout (net : List ℕ) : Type 0 where
   pub unlimited : (p : ℕ) → petriNet net .capacity p ≡ none
   pub enabled : (marking : List ℕ) (t : ℕ) → Enabled (petriNet net) marking t ↔ HoldsTaken (petriNet net) marking t
-  pub starts : (p : ℕ) → StartWithin net p
+  pub starts : (p : ℕ) → Within (capacity net p) (start net p)
   pub arcs : (sheet : List ℕ) (i : ℕ) → ArcHasRoom (petriNet net) sheet i
 
 -- an answer of neither number

@@ -1,39 +1,36 @@
 -- Demand 3, whole (§11.9, §13.4): two accepted schedules of a net, the minimal forms that two calls wrote for them, and all finite lists of firings.
 -- proofs/Demand3 has a term for this record.
-use Prim.Native.Nat.{ℕ, _+_, _*_, _≤_, _<_}
+use Prim.Native.Nat.{ℕ, _+_, _*_, _≤_}
 use mathlib.Core.Path.{_≡_}
 use mathlib.Core.Logic.{_↔_}
 use mathlib.Core.List.{List, _++_}
-use lib.ListN.{length, getD, take, drop}
+use lib.ListN.{length, take, drop}
 use Rattle.automaton.specs.Automaton.{SameLists}
 use Rattle.automaton.specs.Quotient.{Quotient}
 use Rattle.automaton.specs.BreadthFirst.{BreadthFirst}
 use Rattle.judge.specs.Answer.{plainCheck}
 use Rattle.judge.specs.declared.CheckAnswer.{CheckAnswer}
 use Rattle.call.specs.Demands.{number, own}
-use Rattle.refusal.specs.Limits.{scratchLimit, mostEntries}
+use Rattle.refusal.specs.Limits.{mostEntries}
 use Rattle.schedule.specs.Calls.{CheckWithinDone}
-use Rattle.minimal.specs.Form.{plainForm, FormWithinDone, FormDone}
+use Rattle.minimal.specs.Form.{plainForm, FormWithinDone}
 use Rattle.minimal.specs.declared.FormAnswer.{FormAnswer}
 use Rattle.demands.specs.Terms.{said, Accepted}
 
 -- `form` is an accepted schedule that says what merging (§11.3) and numbering (§11.5) give
 pub record Merges (net sheet form : List ℕ) : Type 0 where
   pub accepted : Accepted net form
-  pub newNumber : ℕ → ℕ
-  pub merged : Quotient (said net sheet) (said net form) newNumber
+  pub merged : (newNumber : ℕ → ℕ) × Quotient (said net sheet) (said net form) newNumber
   pub numbered : BreadthFirst (said net form)
 
--- every call of the check that is lent scratch enough answers 0: §11.8
-abbrev pub AlwaysWithin : ℕ → List ℕ → List ℕ → Type 0
-AlwaysWithin limit net sheet = (scratch scratch′ : List ℕ) (answer : CheckAnswer) → limit ≤ length scratch
+-- every call of the check that is lent scratch enough answers 0, whatever its limit: §11.8
+abbrev pub AlwaysAccepted : List ℕ → List ℕ → Type 0
+AlwaysAccepted net sheet = (limit : ℕ) (scratch scratch′ : List ℕ) (answer : CheckAnswer) → limit ≤ length scratch
     → CheckWithinDone limit net sheet scratch answer scratch′ → number (plainCheck answer) ≡ 0
 
-abbrev pub AlwaysAccepted : List ℕ → List ℕ → Type 0
-AlwaysAccepted = AlwaysWithin scratchLimit
-
--- a call of the minimal form under a limit of scratch that answered 0 (§11.7); the buffers lent held anything
-pub record FormWithin (limit : ℕ) (net sheet : List ℕ) : Type 0 where
+-- a call of the minimal form that answered 0 (§11.7), under any limit of scratch, so that of the small panel (§10.20) too; the buffers lent held anything
+pub record Form (net sheet : List ℕ) : Type 0 where
+  pub limit : ℕ
   pub out : List ℕ
   pub scratch : List ℕ
   pub answer : FormAnswer
@@ -42,25 +39,17 @@ pub record FormWithin (limit : ℕ) (net sheet : List ℕ) : Type 0 where
   pub done : FormWithinDone limit net sheet out scratch answer out′ scratch′
   pub zero : number (plainForm answer) ≡ 0
 
-abbrev pub Form : List ℕ → List ℕ → Type 0
-Form = FormWithin scratchLimit
-
 -- the length that it answered, and so many words of its buffer: §11.7
-abbrev pub size : {limit : ℕ} {net sheet : List ℕ} → FormWithin limit net sheet → ℕ
+abbrev pub size : {net sheet : List ℕ} → Form net sheet → ℕ
 size c = own (plainForm (c .answer)) 0
 
-abbrev pub made : {limit : ℕ} {net sheet : List ℕ} → FormWithin limit net sheet → List ℕ
+abbrev pub made : {net sheet : List ℕ} → Form net sheet → List ℕ
 made c = take (size c) (c .out′)
 
--- equal in length and word for word: §11.8
-pub record SameWords {l m : ℕ} {net x y : List ℕ} (a : FormWithin l net x) (b : FormWithin m net y) : Type 0 where
-  pub lengths : size a ≡ size b
-  pub words : (i : ℕ) → i < size a → getD (a .out′) i 0 ≡ getD (b .out′) i 0
-
 pub record Demand3 : Type 0 where
-  -- two are equal exactly when every list is allowed from both roots or from neither: §11.9
+  -- two are equal, word for word, exactly when every list is allowed from both roots or from neither: §11.8, §11.9
   pub equal : (net x y : List ℕ) → Accepted net x → Accepted net y → (a : Form net x) (b : Form net y)
-      → SameWords a b ↔ SameLists (said net x) (said net y) 0 0
+      → (made a ≡ made b) ↔ SameLists (said net x) (said net y) 0 0
   -- each is the one schedule that merging and numbering give: §11.3, §11.5, §11.6
   pub the-form : (net sheet : List ℕ) → Accepted net sheet → (c : Form net sheet) (form : List ℕ) → (form ≡ made c) ↔ Merges net sheet form
   -- it is accepted, and allows the lists that its original allows: §11.9
@@ -69,9 +58,9 @@ pub record Demand3 : Type 0 where
   -- its words all lie in the buffer, and what follows them there is as it was: §9.4
   pub within : (net sheet : List ℕ) → Accepted net sheet → (c : Form net sheet) → (size c ≤ length (c .out)) × (c .out′ ≡ made c ++ drop (size c) (c .out))
   -- with scratch enough the call answers 0 exactly when the buffer holds the form, as 2 + 2 × 4,096 words do: there is such a call (§11.7)
-  pub answers : (net sheet out scratch out′ scratch′ : List ℕ) (answer : FormAnswer) → Accepted net sheet → scratchLimit ≤ length scratch
-      → FormDone net sheet out scratch answer out′ scratch′
+  pub answers : (limit : ℕ) (net sheet out scratch out′ scratch′ : List ℕ) (answer : FormAnswer) → Accepted net sheet → limit ≤ length scratch
+      → FormWithinDone limit net sheet out scratch answer out′ scratch′
       → (number (plainForm answer) ≡ 0) ↔ ((form : List ℕ) → Merges net sheet form → length form ≤ length out)
   pub enough : (net sheet form : List ℕ) → Accepted net sheet → Merges net sheet form → length form ≤ 2 + 2 * mostEntries
-  pub there-is : (net sheet out scratch : List ℕ) → Accepted net sheet → scratchLimit ≤ length scratch → 2 + 2 * mostEntries ≤ length out
-      → (c : Form net sheet) × (c .out ≡ out) × (c .scratch ≡ scratch)
+  pub there-is : (limit : ℕ) (net sheet out scratch : List ℕ) → Accepted net sheet → limit ≤ length scratch → 2 + 2 * mostEntries ≤ length out
+      → (c : Form net sheet) × (c .limit ≡ limit) × (c .out ≡ out) × (c .scratch ≡ scratch)

@@ -1,18 +1,18 @@
 -- What is promised of the calls for the small panel (§13.16): each does what the other call does, from less scratch. proofs/Panel has a term for the record.
-use Prim.Native.Nat.{ℕ, _+_, _*_, _≤_}
+use Prim.Native.Nat.{ℕ, _≤_}
 use mathlib.Core.Path.{_≡_}
 use mathlib.Core.Logic.{_↔_}
 use mathlib.Core.List.{List, [], _∷_, _++_}
 use lib.ListN.{length}
-use Rattle.automaton.specs.Automaton.{SameLists}
-use Rattle.refusal.specs.Limits.{scratchLimit, mostEntries}
+use Rattle.refusal.specs.Limits.{scratchLimit}
 use Rattle.refusal.specs.Refusal.{plainOf}
 use Rattle.refusal.specs.Checks.{Check, once}
 use Rattle.net.specs.Checks.{netChecks}
 use Rattle.sequential.specs.Petri.{petriNet}
 use Rattle.sequential.specs.Checks.{sheetChecks}
 use Rattle.judge.specs.Answer.{plainCheck}
-use Rattle.call.specs.Demands.{callChecks, EveryCall}
+use Rattle.judge.specs.declared.CheckAnswer.{CheckAnswer}
+use Rattle.call.specs.Demands.{number, callChecks, EveryCall}
 use Rattle.schedule.specs.Calls.{CheckDone, BoundsDone, FireDone, RunDone}
 use Rattle.schedule.specs.Plain.{plainFire, plainRun}
 use Rattle.schedule.specs.Walker.{walkerChecks, runChecks}
@@ -24,8 +24,7 @@ use Rattle.minimal.specs.Form.{plainForm, FormDone}
 use Rattle.mended.specs.Checks.{mendChecks}
 use Rattle.mended.specs.Call.{plainMend, MendDone}
 use Rattle.panel.specs.Calls.{panelLimit, PanelCheckDone, PanelBoundsDone, PanelFireDone, PanelRunDone, PanelFormDone, PanelReplayDone, PanelMendDone}
-use Rattle.demands.specs.Terms.{said, AcceptedWithin, Accepted}
-use Rattle.demands.specs.Demand3.{AlwaysWithin, FormWithin, Form, made, SameWords}
+use Rattle.demands.specs.Terms.{Accepted}
 
 -- ---- the same from less scratch
 
@@ -45,21 +44,15 @@ panelChecks net sheet besides scratch = callChecks panelLimit scratch ((netCheck
 abbrev pub panelMendChecks : List ℕ → List ℕ → Type 0 → List ℕ → List Check
 panelMendChecks net sheet Room scratch = callChecks panelLimit scratch ((netChecks net ++ mendChecks (petriNet net) sheet) ++ (once Room 22 ∷ []))
 
--- ---- demand 3
+-- ---- what is accepted
 
--- a call of the panel that answered 0: of the schedule check, and of the minimal form
-abbrev pub PanelAccepted : List ℕ → List ℕ → Type 0
-PanelAccepted = AcceptedWithin panelLimit
-
-abbrev pub PanelForm : List ℕ → List ℕ → Type 0
-PanelForm = FormWithin panelLimit
-
--- the larger scratch gives this answer and leaves these words in the same buffer, so that what demand 3 says of the one call holds of the other
-pub record AsOther {net sheet : List ℕ} (c : PanelForm net sheet) : Type 0 where
-  pub other : Form net sheet
-  pub out : other .out ≡ c .out
-  pub answer : other .answer ≡ c .answer
-  pub out′ : other .out′ ≡ c .out′
+-- some call of the panel's check answered 0
+pub record PanelAccepted (net sheet : List ℕ) : Type 0 where
+  pub scratch : List ℕ
+  pub scratch′ : List ℕ
+  pub answer : CheckAnswer
+  pub done : PanelCheckDone net sheet scratch answer scratch′
+  pub zero : number (plainCheck answer) ≡ 0
 
 -- ---- all of it
 
@@ -95,13 +88,5 @@ pub record PanelDemand : Type 0 where
   pub every-mend : (net sheet : List ℕ) → (forSheet : ℕ) × (forList : ℕ)
       × ((out list : List ℕ) → EveryCall {Left = List ℕ × List ℕ} panelLimit plainMend 2 (panelMendChecks net sheet ((forSheet ≤ length out) × (forList ≤ length list)))
       (out, list) (λ s a left s′. PanelMendDone net sheet out list s a (left .0) (left .1) s′))
-  -- demand 3 of calls under any limits of scratch, two of the panel or one of each kind among them: §11.9
-  pub accepted-alike : (net sheet : List ℕ) → PanelAccepted net sheet ↔ Accepted net sheet
-  pub equal : (j k l m : ℕ) (net x y : List ℕ) → AcceptedWithin j net x → AcceptedWithin k net y → (a : FormWithin l net x) (b : FormWithin m net y)
-      → SameWords a b ↔ SameLists (said net x) (said net y) 0 0
-  pub as-other : (net sheet : List ℕ) (c : PanelForm net sheet) → AsOther c
-  pub accepted : (k l : ℕ) (net sheet : List ℕ) → AcceptedWithin k net sheet → (c : FormWithin l net sheet) → AlwaysWithin panelLimit net (made c)
-  pub same-lists : (k l : ℕ) (net sheet : List ℕ) → AcceptedWithin k net sheet → (c : FormWithin l net sheet) → SameLists (said net (made c)) (said net sheet) 0 0
-  -- and the panel's form is to be had: §11.7
-  pub there-is : (k : ℕ) (net sheet out scratch : List ℕ) → AcceptedWithin k net sheet → panelLimit ≤ length scratch → 2 + 2 * mostEntries ≤ length out
-      → (c : PanelForm net sheet) × (c .out ≡ out) × (c .scratch ≡ scratch)
+  -- what the panel accepts is what the other check accepts, so that demand 3, which holds of forms made under any limit, is said of the panel's too: §11.9
+  pub accepted : (net sheet : List ℕ) → PanelAccepted net sheet ↔ Accepted net sheet

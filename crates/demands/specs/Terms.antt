@@ -13,7 +13,7 @@ use Rattle.judge.specs.Answer.{plainCheck}
 use Rattle.judge.specs.declared.CheckAnswer.{CheckAnswer}
 use Rattle.call.specs.Demands.{number}
 use Rattle.refusal.specs.Limits.{scratchLimit}
-use Rattle.schedule.specs.Calls.{CheckWithinDone}
+use Rattle.schedule.specs.Calls.{CheckDone}
 
 -- the graph that a schedule's words say: §3.5, §3.6
 abbrev pub said : List ℕ → List ℕ → Automaton
@@ -23,13 +23,10 @@ said net sheet = graph (petriNet net) sheet
 abbrev pub allChecks : List ℕ → List ℕ → List Check → List ℕ → List Check
 allChecks net sheet besides scratch = once (scratchLimit ≤ length scratch) 21 ∷ ((netChecks net ++ sheetChecks (petriNet net) sheet) ++ besides)
 
--- some call of the schedule check (§10.3) under a limit of scratch answered 0
-pub record AcceptedWithin (limit : ℕ) (net sheet : List ℕ) : Type 0 where
+-- some call of the schedule check answered 0: §10.3
+pub record Accepted (net sheet : List ℕ) : Type 0 where
   pub scratch : List ℕ
   pub scratch′ : List ℕ
   pub answer : CheckAnswer
-  pub done : CheckWithinDone limit net sheet scratch answer scratch′
+  pub done : CheckDone net sheet scratch answer scratch′
   pub zero : number (plainCheck answer) ≡ 0
-
-abbrev pub Accepted : List ℕ → List ℕ → Type 0
-Accepted = AcceptedWithin scratchLimit

@@ -1,7 +1,7 @@
 -- The tables of worked files and of all that is printed hold: one computation of the definitions for each.
 use Rattle.scan.proofs.Basics.{_≡_, refl}
 use Rattle.scan.specs.Scan.{orElse, when, found, first, all, any, bit, count, passing, least, tabulate, greatest}
-use Rattle.table.specs.Table.{keyAt, valueAt, entryWith, entryOf}
+use Rattle.table.specs.Table.{keyAt, valueAt, entryOf}
 use Rattle.table.specs.Keys.{keyFails}
 use Rattle.refusal.specs.Finding.{foundAt, foundBy, finding}
 use Rattle.automaton.specs.Reach.{arcInto, arcFrom, reachedIn, leadsIn}
@@ -34,7 +34,7 @@ unfolding isLong isRagged
 table-tails = refl
 
 pub samples-printed : SamplesPrinted
-unfolding orElse when found first all any bit count passing least tabulate greatest keyAt valueAt entryWith entryOf arcInto arcFrom reachedIn leadsIn
+unfolding orElse when found first all any bit count passing least tabulate greatest keyAt valueAt entryOf arcInto arcFrom reachedIn leadsIn
     placeCount transitionCount netKeyLimit entryWeight weightAt taken put start capacity takesNothing isSource hasSource weightCount keyFails foundAt foundBy
     finding sizesPass weightFails netReply tests.holdsEnough tests.holdsTaken tests.roomAt tests.hasRoom petri.firedCount tests.takesNothing tests.isSource
     tests.takesAlike tests.takesSame tests.bothDraw tests.sharesPlace tests.sharesAlike tests.freeChoice tests.sameChoice

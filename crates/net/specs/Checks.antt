@@ -22,10 +22,6 @@ pub record WeightPasses (net : List ℕ) (i : ℕ) : Type 0 where
   pub some : 1 ≤ entryWeight net i
   pub most : entryWeight net i ≤ mostCount
 
--- §2.11
-abbrev pub StartWithin : List ℕ → ℕ → Type 0
-StartWithin net p = Within (capacity net p) (start net p)
-
 -- §2.9
 abbrev pub HasSource : List ℕ → Type 0
 HasSource net = (t : ℕ) × (t < transitionCount net) × ((p : ℕ) → p < placeCount net → taken net t p ≡ 0)
@@ -37,7 +33,7 @@ netChecks net =
     ∷ once (NetSizesPass net) 2
     ∷ once (length net ≡ 3 + 2 * weightCount net) 1
     ∷ each (weightCount net) Entry (KeyPasses net 3 (netKeyLimit net) else 3 ∷ WeightPasses net else 4 ∷ [])
-    ∷ each (placeCount net) Place (StartWithin net else 26 ∷ [])
+    ∷ each (placeCount net) Place ((λ p. Within (capacity net p) (start net p)) else 26 ∷ [])
     ∷ once (HasSource net) 5
     ∷ []
 

@@ -1,32 +1,37 @@
 -- Keyed words whose keys rise: at most one entry has a key, each is found at its key, and a key that no entry has is absent.
-use Rattle.scan.proofs.Basics.{ℕ, suc, _<_, arith, _≡_, eqb, none, some, List}
+use Rattle.scan.proofs.Basics.{ℕ, suc, _<_, arith, _≡_, eqb, Option, none, some, List}
 use native.Mathlib.Numerals.{add-one}
 use native.Mathlib.Decide.{le-ind, decLt}
+use Rattle.scan.specs.Scan.{when}
 use Rattle.scan.proofs.Tests.{eqb-true, eqb-false, eq-eqb, ne-eqb}
 use Rattle.scan.proofs.First.{when-some, when-none, when-hit, when-miss, first-at, first-all, first-hit, first-empty}
-use Rattle.table.specs.Table.{keyAt, entryWith, entryOf, Rising}
+use Rattle.table.specs.Table.{keyAt, entryOf, Rising}
 
 module _ (words : List ℕ) (offset : ℕ) where
   abbrev key : ℕ → ℕ
   key = keyAt words offset
 
+  -- index i where its entry has the key k
+  abbrev has : ℕ → ℕ → Option ℕ
+  has k i = when (eqb (key i) k) i
+
   -- ---- an entry that is found, whatever the keys
 
   pub entry-some : (entries k i : ℕ) → entryOf words offset entries k ≡ some i → (i < entries) × (key i ≡ k)
-  unfolding entryOf entryWith
+  unfolding entryOf
   entry-some entries k i e =
-      let (j, l, h, b) = first-at (entryWith words offset k) entries i e in
+      let (j, l, h, b) = first-at (has k) entries i e in
       let (t, q) = when-some (eqb (key j) k) j i h in
       (omega arith, rw (← q) (eqb-true (key j) k t))
 
   pub entry-none : (entries k : ℕ) → entryOf words offset entries k ≡ none → (i : ℕ) → i < entries → key i ≡ k → ⊥
-  unfolding entryOf entryWith
-  entry-none entries k e i l = eqb-false (key i) k (when-none (eqb (key i) k) i (first-all (entryWith words offset k) entries e i l))
+  unfolding entryOf
+  entry-none entries k e i l = eqb-false (key i) k (when-none (eqb (key i) k) i (first-all (has k) entries e i l))
 
   -- a key that no entry has is absent
   pub entry-absent : (entries k : ℕ) → ((i : ℕ) → i < entries → key i ≡ k → ⊥) → entryOf words offset entries k ≡ none
-  unfolding entryOf entryWith
-  entry-absent entries k h = first-empty (entryWith words offset k) entries (λ i l. when-miss (eqb (key i) k) i (ne-eqb (key i) k (h i l)))
+  unfolding entryOf
+  entry-absent entries k h = first-empty (has k) entries (λ i l. when-miss (eqb (key i) k) i (ne-eqb (key i) k (h i l)))
 
   -- ---- keys that rise
 
@@ -46,8 +51,8 @@ module _ (words : List ℕ) (offset : ℕ) where
 
     -- an entry is found at its key
     pub entry-at : (i k : ℕ) → i < entries → key i ≡ k → entryOf words offset entries k ≡ some i
-    unfolding entryOf entryWith
+    unfolding entryOf
     entry-at i k l e =
-        first-hit (entryWith words offset k) i i
-        (first-empty (entryWith words offset k) i (λ j m. when-miss (eqb (key j) k) j (ne-eqb (key j) k (λ q. let a = rising j i m l in omega arith))))
+        first-hit (has k) i i
+        (first-empty (has k) i (λ j m. when-miss (eqb (key j) k) j (ne-eqb (key j) k (λ q. let a = rising j i m l in omega arith))))
         (when-hit (eqb (key i) k) i (eq-eqb (key i) k e)) entries l

@@ -13,12 +13,9 @@ module _ (words : List ℕ) (offset : ℕ) where
   unfoldable pub valueAt : ℕ → ℕ → ℕ
   valueAt entries i = getD words (offset + entries + i) 0
 
-  unfoldable pub entryWith : ℕ → ℕ → Option ℕ
-  entryWith key i = when (eqb (keyAt i) key) i
-
   -- the first of the entries with a key, or none
   unfoldable pub entryOf : ℕ → ℕ → Option ℕ
-  entryOf entries key = first (entryWith key) entries
+  entryOf entries key = first (λ i. when (eqb (keyAt i) key) i) entries
 
   -- the keys rise strictly
   pub record Rising (entries : ℕ) : Type 0 where

@@ -1,7 +1,7 @@
 -- The rows of trimmed schedules hold: one computation of the definitions.
 use Rattle.scan.proofs.Basics.{refl}
 use Rattle.scan.specs.Scan.{orElse, when, found, first, all, any, bit, count, passing, least, tabulate}
-use Rattle.table.specs.Table.{keyAt, valueAt, entryWith, entryOf}
+use Rattle.table.specs.Table.{keyAt, valueAt, entryOf}
 use Rattle.table.specs.Keys.{keyFails}
 use Rattle.refusal.specs.Finding.{foundAt, foundBy, finding}
 use Rattle.automaton.specs.Reach.{arcInto, arcFrom, reachedIn}
@@ -15,7 +15,7 @@ use Rattle.trimmed.specs.Trim.{isKept, oldNumbers, newNumber, trimmedGra
 use Rattle.trimmed.specs.Examples.{TrimmedExamples}
 
 pub examples : TrimmedExamples
-unfolding orElse when found first all any bit count passing least tabulate keyAt valueAt entryWith entryOf arcInto arcFrom reachedIn
+unfolding orElse when found first all any bit count passing least tabulate keyAt valueAt entryOf arcInto arcFrom reachedIn
     placeCount transitionCount netKeyLimit entryWeight weightAt taken put start capacity takesNothing isSource hasSource weightCount keyFails foundAt foundBy
     finding sizesPass weightFails netReply
     words.entryKey words.entryValue words.entryWithKey words.arcKeys words.keyLimit words.arcEntry words.arc words.countAt words.marking
