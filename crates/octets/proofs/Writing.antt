@@ -1,18 +1,19 @@
 -- Numbers written as bytes, and read from them again.
-use Rattle.scan.proofs.Basics.{ℕ, zero, suc, _+_, _*_, _/_, _%_, _≤_, _<_, arith, _≡_, refl, sym, ap, _∙_, List, length, getD}
+use Rattle.scan.proofs.Basics.{ℕ, zero, suc, _+_, _*_, _/_, _%_, _≤_, _<_, arith, _≡_, refl, sym, ap, _∙_, List, length, getD, set}
 use Prim.Native.Nat.{_^_, min}
 use native.Mathlib.Nat.{div-div-eq-div-mul, div-one, div-eq-of-lt, mod-eq-of-lt, mul-add-div, mul-add-mod-self-left, add-zero, mul-suc, mul-le-mul-left}
 use native.Mathlib.Omega.{pow-step}
 use lib.Pow.{pow-add}
-use lib.Seq.{ext-getD, take-all}
+use lib.Seq.{ext-getD, take-all, set-out}
 use Rattle.scan.proofs.Tests.{byLess}
 use Rattle.scan.specs.Scan.{tabulate}
 use Rattle.scan.specs.Placed.{placed}
 use Rattle.scan.proofs.Placed.{placed-front, row-full}
 use Rattle.scan.proofs.Tabulate.{tabulate-length, tabulate-at, take-tabulate}
 use Rattle.octets.specs.Words.{wordFrom, allWords}
+use Rattle.octets.specs.Writing.{wordPut}
 use Rattle.octets.specs.Bytes.{byteOf, byteAt, bytesOf, bytesOver, numberFrom, numberAt}
-use Rattle.octets.proofs.Decoding.{words-count, word-there}
+use Rattle.octets.proofs.Decoding.{words-count, word-there, front-more}
 
 -- ---- the loops that write
 
@@ -45,6 +46,35 @@ module _ (width : ℕ) (numbers : List ℕ) where
   pub bytes-over : (out : List ℕ) → width * length numbers ≤ length out → placed out 0 (bytesOf width numbers) ≡ bytesOver width numbers out
   unfolding bytesOver
   bytes-over out l = placed-front (bytesOf width numbers) out (rw bytes-length l) ∙ rw bytes-length
+
+-- byte j of word i more
+byte-more : (words out : List ℕ) (i j : ℕ) → j < 4
+    → set (placed out 0 (tabulate (byteAt 4 words) (4 * i + j))) (4 * i + j) (byteOf (getD words i 0) j) ≡ placed out 0 (tabulate (byteAt 4 words) (4 * i + (j + 1)))
+unfolding byteAt
+byte-more words out i j l =
+    let q : (4 * i + j) / 4 ≡ i = omega arith in
+    let r : (4 * i + j) % 4 ≡ j = omega arith in
+    let e : 4 * i + j + 1 ≡ 4 * i + (j + 1) = omega arith in
+    rw (q, r, e) at (front-more (byteAt 4 words) (4 * i + j) out)
+
+-- all four of them
+pub word-more : (words out : List ℕ) (i : ℕ) → wordPut (placed out 0 (tabulate (byteAt 4 words) (4 * i))) (4 * i) (getD words i 0) ≡ placed out 0 (tabulate (byteAt 4 words) (4 * (i + 1)))
+word-more words out i =
+    let x = getD words i 0 in
+    let e : 4 * i + 4 ≡ 4 * (i + 1) = omega arith in
+    ap (λ (o : List ℕ). set (set (set o (4 * i + 1) (byteOf x 1)) (4 * i + 2) (byteOf x 2)) (4 * i + 3) (byteOf x 3)) (rw (add-zero (4 * i)) at (byte-more words out i 0 (omega arith)))
+    ∙ ap (λ (o : List ℕ). set (set o (4 * i + 2) (byteOf x 2)) (4 * i + 3) (byteOf x 3)) (byte-more words out i 1 (omega arith))
+    ∙ ap (λ (o : List ℕ). set o (4 * i + 3) (byteOf x 3)) (byte-more words out i 2 (omega arith))
+    ∙ byte-more words out i 3 (omega arith)
+    ∙ rw e refl
+
+-- past the end nothing is put
+pub word-out : (out : List ℕ) (at x : ℕ) → length out ≤ at → out ≡ wordPut out at x
+word-out out at x l =
+    sym (ap (λ (o : List ℕ). set (set (set o (at + 1) (byteOf x 1)) (at + 2) (byteOf x 2)) (at + 3) (byteOf x 3)) (set-out out at (byteOf x 0) l)
+    ∙ ap (λ (o : List ℕ). set (set o (at + 2) (byteOf x 2)) (at + 3) (byteOf x 3)) (set-out out (at + 1) (byteOf x 1) (omega arith))
+    ∙ ap (λ (o : List ℕ). set o (at + 3) (byteOf x 3)) (set-out out (at + 2) (byteOf x 2) (omega arith))
+    ∙ set-out out (at + 3) (byteOf x 3) (omega arith))
 
 -- ---- read again
 

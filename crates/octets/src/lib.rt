@@ -1,10 +1,11 @@
 // Bytes as words and numbers, the least significant byte first: read for the program's files and the calls over bytes, written for the latter.
 ghost use mathlib.Core.Path.{_≡_};
 ghost use Prim.Native.Nat.{_+_, _<_, min};
-ghost use lib.ListN.{length, getD};
+ghost use lib.ListN.{length, getD, set};
 ghost use Rattle.scan.specs.Placed.{placed};
 ghost use Rattle.octets.specs.Words.{wordFrom, wordCount, isRagged, allWords, FileRead};
 ghost use Rattle.octets.specs.Bytes.{byteOf, bytesOf};
+ghost use Rattle.octets.specs.Writing.{wordPut};
 
 // ---- bytes as words
 
@@ -99,14 +100,43 @@ fn lesser(a: usize, b: usize) -> usize
     b
 }
 
+// Byte j of a number, put at an index; past the buffer's end it is dropped.
+fn write_byte(x: usize, j: usize, out: &mut [u8], at: usize)
+    requires { ⌜ j < 8 ⌝ }
+    ensures { λ _. ⌜ now (out .exit) ≡ set (now (out .entry)) at (byteOf x j) ⌝ }
+{
+    if at < out.len() {
+        out[at] = byte_of(x, j);
+    }
+}
+
+// The four bytes of a word, put at an index; those past the buffer's end are dropped. Where all four have room the compiler makes them one store.
+fn write_word(x: usize, out: &mut [u8], at: usize)
+    ensures { λ _. ⌜ now (out .exit) ≡ wordPut (now (out .entry)) at x ⌝ }
+{
+    if out.len() <= at {
+        return;
+    }
+    if 4 <= out.len() - at {
+        out[at] = byte_of(x, 0);
+        out[at + 1] = byte_of(x, 1);
+        out[at + 2] = byte_of(x, 2);
+        out[at + 3] = byte_of(x, 3);
+        return;
+    }
+    write_byte(x, 0, out, at);
+    write_byte(x, 1, out, at + 1);
+    write_byte(x, 2, out, at + 2);
+    write_byte(x, 3, out, at + 3);
+}
+
 // Words over the front of a buffer, four bytes each; bytes past the buffer's end are dropped.
 pub fn write_words(words: &[u32], out: &mut [u8])
     ensures { λ _. ⌜ now (out .exit) ≡ placed (now (out .entry)) 0 (bytesOf 4 (now (words .entry))) ⌝ }
 {
-    let end = lesser(4 * words.len(), out.len());
     let mut i = 0;
-    while i < end {
-        out[i] = byte_of(wide(words[i / 4]), i % 4);
+    while i < words.len() {
+        write_word(wide(words[i]), out, 4 * i);
         i += 1;
     }
 }

@@ -1,45 +1,43 @@
--- `octets::write_words` meets its contract: when the counter is i the first i bytes are the words'.
-use Rattle.scan.proofs.Basics.{_-_, _*_, _≤_, arith, _≡_, refl, _∙_, length, length-set}
-use Prim.Native.Nat.{min}
+-- `octets::write_words` meets its contract: when the counter is i the first 4 × i bytes are the words'.
+use Rattle.scan.proofs.Basics.{_-_, _*_, _≤_, arith, _≡_, refl, length, length-set}
 use borrow.Author.Needs.{needs}
 use Rattle.scan.specs.Scan.{tabulate}
 use Rattle.scan.specs.Placed.{placed}
 use Rattle.scan.proofs.Placed.{placed-none}
-use Rattle.octets.specs.Bytes.{byteAt}
-use Rattle.octets.proofs.Decoding.{front-more}
-use Rattle.octets.proofs.Writing.{bytes-placed}
+use Rattle.octets.specs.Bytes.{byteAt, bytesOf}
+use Rattle.octets.proofs.Writing.{word-more}
 use Rattle.octets.proofs.write_words.Statement.{statement}
 use Rattle.octets.proofs.write_words.Tie as tie
 
 abbrev Inv-loop : tie.InvT-loop
-Inv-loop words out₀ end i₀ out i =
-    (i ≤ end) × (end ≡ min (4 * length words) (length out₀)) × (out ≡ placed out₀ 0 (tabulate (byteAt 4 words) i)) × (length out ≡ length out₀)
+Inv-loop words out₀ i₀ out i = (i ≤ length words) × (out ≡ placed out₀ 0 (tabulate (byteAt 4 words) (4 * i))) × (length out ≡ length out₀)
 
 abbrev μ-loop : tie.MeasureT-loop
-μ-loop words out₀ end i₀ out i = end - i
+μ-loop words out₀ i₀ out i = length words - i
 
 loop-holds : tie.Need-loop-holds Inv-loop μ-loop
 unfolding tabulate
-loop-holds c = (omega arith, c .lesser .ensures, placed-none _ 0, refl)
+loop-holds c = (omega arith, placed-none _ 0, refl)
 
 loop-again : tie.Need-loop-again Inv-loop μ-loop
-unfolding byteAt
 loop-again c =
-    let w = c .before .before .before .before .loop in
-    let a = c .before .before .before .before .before .before .before .before .args in (
+    let d = c .before .before in
+    let w = d .before .before .before .before .before .loop in
+    let x = d .before .before .wide .ensures in (
       omega arith,
-      w .inv .1,
-      rw (w .inv .2, c .byte-of .ensures, c .before .wide .ensures) (front-more (byteAt 4 (a .words .now)) (w .i) (a .out .now)),
-      simp length-set (w .inv .3),
+      rw (d .write-word .ensures, x, w .inv .1) (word-more _ _ (w .i)),
+      rw (d .write-word .ensures) (simp length-set (w .inv .2)),
     )
 
 returns : tie.Need-returns Inv-loop μ-loop
+unfolding bytesOf
 returns c =
     let w = c .before .loop in
-    w .inv .2 ∙ bytes-placed 4 _ _ (w .i) (omega arith)
+    let e : w .i ≡ length (c .before .before .before .before .args .words .now) = omega (arith, c .loop-test .left, w .inv .0) in
+    rw e at (w .inv .1)
 
 pub write-words-spec : {M : Type 1} → statement M
 write-words-spec =
     tie.close
-    (tie.spec Inv-loop μ-loop (λ c. omega arith) (λ c κs. search needs) loop-holds (λ c. omega arith) (λ c. omega arith) (λ c κs. search needs)
-    (λ c κs. omega arith) (λ c. omega arith) (λ c. omega arith) (λ c. omega arith) loop-again (λ c. search needs) returns)
+    (tie.spec Inv-loop μ-loop loop-holds (λ c. omega arith) (λ c. omega arith) (λ c κs. search needs) (λ c. omega arith) (λ c κs. search needs) (λ c. omega arith)
+    (λ c. omega arith) loop-again (λ c. search needs) returns)
