@@ -2,10 +2,10 @@
 use Rattle.scan.proofs.Basics.{ℕ, _≤_, _<_, arith, _≡_, refl, subst, sym, ap, _∙_, true, false, cond, ltb, eqb, List, length, getD, set}
 use Prim.Native.Nat.{min}
 use lib.Seq.{getD-set-same, getD-set-other}
-use Rattle.scan.proofs.Tests.{lt-ltb, le-ltb, eqb-true, eqb-false, eq-eqb, ne-eqb, byTest, iff→eq, true-false, not-true→false}
+use Rattle.scan.proofs.Tests.{ltb-true, ltb-false, lt-ltb, le-ltb, eqb-true, eqb-false, eq-eqb, ne-eqb, byTest, iff→eq, true-false, not-true→false}
 use Rattle.scan.specs.Scan.{all, least}
-use Rattle.scan.proofs.Every.{all-out}
-use Rattle.scan.proofs.Least.{least-hit, least-of, least-ext}
+use Rattle.scan.proofs.Every.{all-out, all-in, all-fails}
+use Rattle.scan.proofs.Least.{least-hit, least-low, least-of, least-ext}
 use Rattle.net.specs.Net.{placeCount}
 use Rattle.net.specs.Accessors.{takenRowReply}
 use Rattle.automaton.specs.Equivalence.{leaderBy, sameClass}
@@ -43,6 +43,35 @@ module _ (net : List ℕ) (places : ℕ) (all-of : places ≡ min (placeCount ne
   pub source-told : (t : ℕ) (row : List ℕ) → row ≡ takenRowReply net t → all (zeroAt row) places ≡ isSource (netByRows net) t
   unfolding netByRows isSource takesNothing zeroAt
   source-told t row e = rw (all-of, e)
+
+  -- a transition draws on no place first exactly if it takes nothing
+  pub none-first : {firsts : List ℕ} → FirstPlaces net firsts → (t : ℕ) → t < netByRows net .transitions → places ≤ getD firsts t 0
+      → (p : ℕ) → p < places → getD (takenRowReply net t) p 0 ≡ 0
+  unfolding netByRows weighsAt
+  none-first f t l h p k =
+      let q = f .first t l in
+      let low : getD (takenRowReply net t) p 0 ≤ 0 = ltb-false 0 (getD (takenRowReply net t) p 0) (least-low (weighsAt (takenRowReply net t)) (min (placeCount net) 32) p (omega (arith, q))) in
+      omega arith
+
+  pub source-first : {firsts : List ℕ} → FirstPlaces net firsts → (t : ℕ) → t < netByRows net .transitions → places ≤ getD firsts t 0 → isSource (netByRows net) t ≡ true
+  unfolding netByRows isSource takesNothing
+  source-first f t l h = all-in _ _ (λ p k. eq-eqb _ _ (none-first f t l h p (omega (arith, all-of))))
+
+  pub drawing-first : {firsts : List ℕ} → FirstPlaces net firsts → (t : ℕ) → t < netByRows net .transitions → getD firsts t 0 < places → isSource (netByRows net) t ≡ false
+  unfolding netByRows isSource takesNothing weighsAt
+  drawing-first f t l h =
+      let q = f .first t l in
+      let i = least (weighsAt (takenRowReply net t)) (min (placeCount net) 32) in
+      let m : i < min (placeCount net) 32 = omega (arith, q, all-of) in
+      let hit : 0 < getD (takenRowReply net t) i 0 = ltb-true 0 (getD (takenRowReply net t) i 0) (least-hit (weighsAt (takenRowReply net t)) (min (placeCount net) 32) m) in
+      all-fails _ _ i m (ne-eqb (getD (takenRowReply net t) i 0) 0 (λ e. omega (arith, hit)))
+
+  -- those that take nothing take the same
+  pub sources-alike : {firsts : List ℕ} → FirstPlaces net firsts → (t u : ℕ) → t < netByRows net .transitions → u < netByRows net .transitions
+      → places ≤ getD firsts t 0 → places ≤ getD firsts u 0 → takesSame (netByRows net) t u ≡ true
+  unfolding netByRows takesSame takesAlike
+  sources-alike f t u l m h k =
+      all-in _ _ (λ p i. let e = none-first f t l h p (omega (arith, all-of)) in let d = none-first f u m k p (omega (arith, all-of)) in eq-eqb _ _ (e ∙ sym d))
 
 pub none-removed : (net : List ℕ) (t : ℕ) → netByRows net .kept t ≡ true
 unfolding netByRows

@@ -111,13 +111,12 @@ fn first_places(net: &[u32]) -> [u32; 32]
     firsts
 }
 
-// The least transition that takes the same as t. Only those are looked at that draw on the same place first.
+// The least transition that takes the same as t. Only those are looked at that draw on the same place first; sources draw on none, and take the same.
 fn least_alike(net: &[u32], firsts: &[u32; 32], t: u32) -> u32
     requires { ⌜ FirstPlaces (now net) (now firsts) ⌝ }
     requires { ⌜ t < netByRows (now net) .transitions ⌝ }
     ensures { λ r. ⌜ r ≡ leaderBy (takesSame (netByRows (now (net .entry)))) t ⌝ }
 {
-    let taken = net::taken_row(net, t);
     let places = places(net);
     let first = firsts[t as usize];
     let mut u = 0;
@@ -125,7 +124,10 @@ fn least_alike(net: &[u32], firsts: &[u32; 32], t: u32) -> u32
         let v = u;
         u += 1;
         if firsts[v as usize] == first {
-            if rows_equal(net::taken_row(net, v), taken, places) {
+            if places as u32 <= first {
+                return v;
+            }
+            if rows_equal(net::taken_row(net, v), net::taken_row(net, t), places) {
                 return v;
             }
         }
@@ -148,15 +150,16 @@ fn row_empty(row: [u32; 32], places: usize) -> bool
     true
 }
 
-// The least source (§2.9), or T where there is none.
-fn first_source(net: &[u32]) -> u32
+// The least source (§2.9), or T where there is none: a source draws on no place first.
+fn first_source(net: &[u32], firsts: &[u32; 32]) -> u32
+    requires { ⌜ FirstPlaces (now net) (now firsts) ⌝ }
     ensures { λ r. ⌜ r ≡ firstSource (netByRows (now (net .entry))) ⌝ }
 {
     let places = places(net);
     let transitions = transitions(net) as u32;
     let mut t = 0;
     while t < transitions {
-        if row_empty(net::taken_row(net, t), places) {
+        if places as u32 <= firsts[t as usize] {
             return t;
         }
         t += 1;
@@ -229,7 +232,7 @@ pub(crate) fn choices_of(net: &[u32]) -> Choices
     }
     Choices {
         leaders,
-        source: first_source(net),
+        source: first_source(net, &firsts),
     }
 }
 

@@ -62,7 +62,7 @@ loop-again c =
 
 returns : tie.Need-returns Inv-loop μ-loop
 returns c =
-    let l = c .before .before in
+    let l = c .before .before .before in
     record {
       leaders-are = λ t k. (l .loop .inv .3) t (omega (arith, l .loop .inv .5));
       source-is = c .first-source .ensures;
@@ -73,4 +73,4 @@ choices-of-spec =
     tie.close
     (tie.spec Inv-loop μ-loop (λ c κs. search needs) (λ c κs. search needs) loop-holds (λ c. search needs) least-alike-requires (λ c. search needs) (λ c. search needs)
     array-read-noted (λ c. search needs) noted-requires (λ c. search needs) array-write-notes (λ c. search needs) (λ c κs. search needs)
-    (λ c. search needs) (λ c. search needs) (λ c. search needs) (λ c. search needs) loop-again (λ c κs. search needs) returns)
+    (λ c. search needs) (λ c. search needs) (λ c. search needs) (λ c. search needs) loop-again (λ c κs. c .before .before .before .first-places .ensures) returns)

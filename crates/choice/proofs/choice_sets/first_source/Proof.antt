@@ -7,34 +7,36 @@ use Rattle.scan.proofs.Least.{least-found, least-none}
 use Rattle.sequential.specs.Tests.{isSource}
 use Rattle.choice.specs.Rows.{netByRows}
 use Rattle.choice.specs.Choices.{firstSource}
-use Rattle.choice.proofs.Choices.{source-told}
+use Rattle.choice.proofs.Choices.{few-by-rows, source-first, drawing-first}
 use Rattle.choice.proofs.choice_sets.first_source.Statement.{statement}
 use Rattle.choice.proofs.choice_sets.first_source.Tie as tie
 
 abbrev Inv-loop : tie.InvT-loop
-Inv-loop net places transitions t₀ t = (t ≤ transitions) × (any (isSource (netByRows net)) t ≡ false) × (transitions ≡ netByRows net .transitions)
+Inv-loop net firsts places transitions t₀ t = (t ≤ transitions) × (any (isSource (netByRows net)) t ≡ false) × (transitions ≡ netByRows net .transitions)
 
 abbrev μ-loop : tie.MeasureT-loop
-μ-loop net places transitions t₀ t = transitions - t
+μ-loop net firsts places transitions t₀ t = transitions - t
 
 loop-holds : tie.Need-loop-holds Inv-loop μ-loop
 unfolding netByRows
 loop-holds c = (omega arith, any-none-yet _, c .transitions .ensures)
 
+element-copy-out-if1 : tie.Need-element-copy-out-if1 Inv-loop μ-loop
+element-copy-out-if1 c = omega (arith, c .before .loop .inv .2, few-by-rows (c .before .before .before .before .before .args .net .now))
+
 returns : tie.Need-returns Inv-loop μ-loop
 unfolding firstSource
 returns c =
-    let l = c .before .before .before .before in
-    sym (least-found _ _ _ (l .loop .inv .1)
-    (sym (c .before .row-empty .ensures ∙ source-told _ _ (l .before .before .places .ensures) _ _ (c .before .before .taken-row .ensures)) ∙ c .if1 .taken)
-    (rw (l .loop .inv .2) at (c .before .before .before .loop-test .taken)))
+    let l = c .before .before .before in
+    let below = rw (l .loop .inv .2) at (c .before .before .loop-test .taken) in
+    sym (least-found _ _ _ (l .loop .inv .1) (source-first _ _ (l .before .before .places .ensures) (l .before .before .before .before .pre) _ below (c .if1 .taken)) below)
 
 loop-again : tie.Need-loop-again Inv-loop μ-loop
 loop-again c =
-    let l = c .before .before .before .before in (
+    let l = c .before .before .before in
+    let below = rw (l .loop .inv .2) at (c .before .before .loop-test .taken) in (
       omega arith,
-      any-more _ _ (l .loop .inv .1)
-          (sym (c .before .row-empty .ensures ∙ source-told _ _ (l .before .before .places .ensures) _ _ (c .before .before .taken-row .ensures)) ∙ c .if1 .left),
+      any-more _ _ (l .loop .inv .1) (drawing-first _ _ (l .before .before .places .ensures) (l .before .before .before .before .pre) _ below (omega arith)),
       l .loop .inv .2,
     )
 
@@ -52,10 +54,9 @@ first-source-spec =
     (tie.spec Inv-loop μ-loop (λ c κs. search needs) (λ c κs. search needs)
     (λ c. omega (arith, c .transitions .ensures))
     loop-holds
-    (λ c κs. search needs)
-    (λ c κs. omega (arith, c .before .before .before .before .places .ensures))
-    returns
-    (λ c. omega (arith, c .before .before .before .before .before .transitions .ensures))
+    (λ c. omega (arith, c .before .before .before .places .ensures))
+    (λ c. search needs) (λ c. search needs) element-copy-out-if1 returns
+    (λ c. omega (arith, c .before .before .before .before .transitions .ensures))
     (λ c. search needs)
     loop-again
     returns-2)
