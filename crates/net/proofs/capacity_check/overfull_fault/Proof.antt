@@ -29,32 +29,36 @@ row-or-zeros-requires-2 : tie.Need-row-or-zeros-requires-2 Inv-loop μ-loop
 unfolding transitionCount
 row-or-zeros-requires-2 c κs = λ h. omega arith
 
+returns : tie.Need-returns Inv-loop μ-loop
+returns c = ap verdictOf (sym (c .before .unlimited .ensures (c .if1 .taken)))
+
 loop-holds : tie.Need-loop-holds Inv-loop μ-loop
 unfolding placeCount transitionCount
-loop-holds c = (omega arith, first-none _, overfull-told (c .before .before .before .before .before .pre .1) (c .before .row-or-zeros .ensures) (c .row-or-zeros2 .ensures))
-
-returns : tie.Need-returns Inv-loop μ-loop
-unfolding placeCount
-returns c =
-    let w = c .before .before .before .before .loop in
-    let l = c .before .before .before .loop-test .taken in
-    (c .refuse .ensures) ∙ ap verdictOf (sym (first-hit _ _ _ (w .inv .1) (w .inv .2 _ l ∙ when-hit _ _ (rw (← (c .before .before .allows .ensures)) (c .before .if1 .taken))) _ l))
-
-loop-again : tie.Need-loop-again Inv-loop μ-loop
-loop-again c =
-    let w = c .before .before .before .loop in
-    (omega arith, first-more _ _ (w .inv .1) (w .inv .2 _ (c .before .before .loop-test .taken) ∙ when-miss _ _ (rw (← (c .before .allows .ensures)) (c .if1 .left))), w .inv .2)
+loop-holds c =
+    (omega arith, first-none _, overfull-told (c .before .before .before .before .before .before .before .pre .1) (c .before .row-or-zeros .ensures) (c .row-or-zeros2 .ensures))
 
 returns-2 : tie.Need-returns-2 Inv-loop μ-loop
 unfolding placeCount
 returns-2 c =
-    let e : c .before .loop .p ≡ getD (c .before .before .before .before .before .before .before .args .net .now) 0 0 = omega arith in
+    let w = c .before .before .before .before .loop in
+    let l = c .before .before .before .loop-test .taken in
+    (c .refuse .ensures) ∙ ap verdictOf (sym (first-hit _ _ _ (w .inv .1) (w .inv .2 _ l ∙ when-hit _ _ (rw (← (c .before .before .allows .ensures)) (c .before .if2 .taken))) _ l))
+
+loop-again : tie.Need-loop-again Inv-loop μ-loop
+loop-again c =
+    let w = c .before .before .before .loop in
+    (omega arith, first-more _ _ (w .inv .1) (w .inv .2 _ (c .before .before .loop-test .taken) ∙ when-miss _ _ (rw (← (c .before .allows .ensures)) (c .if2 .left))), w .inv .2)
+
+returns-3 : tie.Need-returns-3 Inv-loop μ-loop
+unfolding placeCount
+returns-3 c =
+    let e : c .before .loop .p ≡ getD (c .before .before .before .before .before .before .before .before .before .args .net .now) 0 0 = omega arith in
     ap verdictOf (sym (rw e at (c .before .loop .inv .1)))
 
 pub overfull-fault-spec : {M : Type 1} → statement M
 overfull-fault-spec =
     tie.close
-    (tie.spec Inv-loop μ-loop (λ c. search needs) (λ c. search needs) (λ c. search needs) (λ c. search needs) (λ c. search needs)
+    (tie.spec Inv-loop μ-loop (λ c κs. search needs) returns (λ c. search needs) (λ c. search needs) (λ c. search needs) (λ c. search needs) (λ c. search needs)
     row-or-zeros-requires (λ c. search needs) (λ c. search needs) row-or-zeros-requires-2 loop-holds (λ c. search needs) (λ c. search needs)
-    (λ c. search needs) (λ c. search needs) (λ c κs. search needs) (λ c κs. search needs) returns (λ c. search needs) (λ c. search needs) loop-again
-    returns-2)
+    (λ c. search needs) (λ c. search needs) (λ c κs. search needs) (λ c κs. search needs) returns-2 (λ c. search needs) (λ c. search needs) loop-again
+    returns-3)
