@@ -1,7 +1,8 @@
 -- What a quotient keeps: where lists lead, the lists allowed, reduced nodes, arcs that land and fire, ways to a goal.
-use Rattle.scan.proofs.Basics.{ℕ, _<_, _≡_, refl, sym, ap, _∙_, Option, none, some, Option·map, List, [], _∷_}
+use Rattle.scan.proofs.Basics.{ℕ, _<_, _≡_, refl, sym, ap, _∙_, some, Option·map, List, [], _∷_}
 use mathlib.Core.Option.{map-eq-some-iff}
 use Rattle.scan.specs.Scan.{found}
+use Rattle.scan.proofs.First.{found-map}
 use Rattle.automaton.specs.Automaton.{Automaton, Closed, follow, allows, SameLists}
 use Rattle.automaton.specs.Reach.{Reachable}
 use Rattle.automaton.specs.Equivalence.{Equivalent, Fires}
@@ -9,11 +10,6 @@ use Rattle.automaton.specs.Quotient.{Quotient, Reduced}
 use Rattle.automaton.proofs.Automaton.{arc-cases, follow-arc, follow-no-arc}
 use Rattle.automaton.proofs.Reach.{reachable-node, root-reachable, arc-reachable}
 use Rattle.automaton.proofs.Equivalence.{equivalent-sym, equivalent-trans}
-
-found-map : (f : ℕ → ℕ) (o : Option ℕ) → found (Option·map f o) ≡ found o
-unfolding found
-found-map f none = refl
-found-map f (some a) = refl
 
 -- ---- what a quotient keeps
 

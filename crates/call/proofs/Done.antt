@@ -14,13 +14,13 @@ use Rattle.refusal.specs.declared.Position.the-variants.{Nothing, Entry, Place,
 use Rattle.refusal.specs.declared.Refusal.{Refusal}
 use Rattle.refusal.specs.declared.Verdict.{Verdict}
 use Rattle.refusal.specs.declared.Verdict.the-variants.{Accepted, Refused}
-use Rattle.refusal.proofs.Verdicts.{then-accepted}
+use Rattle.refusal.proofs.Verdicts.{then-accepted, accepted-refused}
 use Rattle.refusal.proofs.Judges.{Judges, properly, fails-number}
 use Rattle.call.specs.Call.{Core, CallDone, buffer, scratchFault, outputFault, wordsVerdict, callVerdict, answerOf, outsAfter, writtenOver, writtenAt}
 use Rattle.call.specs.Demands.{number, own, callChecks, ByChecks, ScratchLeft}
 use Rattle.call.proofs.Lent.{Room, scratch-kept, scratch-cleared}
 use Rattle.call.proofs.Laws.{call-small}
-use Rattle.call.proofs.Judged.{Lawful, accepted-refused, output-judged, call-judged, answer-number, refusal-number}
+use Rattle.call.proofs.Judged.{Lawful, output-judged, call-judged, answer-number, refusal-number}
 
 -- ---- an answer by its checks
 

@@ -10,12 +10,10 @@ use Rattle.refusal.specs.declared.Refusal.{Refusal}
 use Rattle.refusal.specs.declared.Verdict.{Verdict}
 use Rattle.refusal.specs.declared.Verdict.the-variants.{Accepted, Refused}
 use Rattle.refusal.proofs.Judges.{Judges, judges-then, properly, proper-append, fails-number}
+use Rattle.refusal.proofs.Verdicts.{accepted-refused}
 use Rattle.call.specs.Call.{Core, scratchFault, outputFault, wordsVerdict, callVerdict, answerOf}
 use Rattle.call.specs.Demands.{number, callChecks}
 use Rattle.call.proofs.Lent.{Room, scratch-small, scratch-enough, output-room, output-short, output-cases}
-
-pub accepted-refused {ℓ} : {C : Type ℓ} (v : Verdict) (r : Refusal) → v ≡ Accepted → v ≡ Refused r → C
-accepted-refused v r p q = let z : _≡_ {A = ℕ} 0 1 = cc in absurd (omega arith)
 
 -- ---- one check that is asked once
 

@@ -1,8 +1,9 @@
 -- The answer on a schedule's nodes is what it is promised to be.
-use Rattle.scan.proofs.Basics.{ℕ, _<_, arith, _≡_, refl, sym, ap, _∙_, _↔_, Bool, true, false, none, List, getD}
+use Rattle.scan.proofs.Basics.{ℕ, _<_, _≡_, sym, ap, _∙_, _↔_, none, List, getD}
 use Rattle.scan.proofs.Tests.{not-false}
 use Rattle.scan.specs.Scan.{orElse, when, first, bit}
 use Rattle.scan.proofs.First.{orElse-left, orElse-right, when-none, first-all, first-empty}
+use Rattle.scan.proofs.Count.{bit-one}
 use Rattle.refusal.specs.Finding.{lineFinds, foundAt}
 use Rattle.refusal.specs.Verdict.{verdictOf}
 use Rattle.refusal.specs.declared.Verdict.the-variants.{Accepted}
@@ -44,11 +45,6 @@ module _ (N : PetriNet) (sheet : List ℕ) where
     λ e. (λ n l. node↔ n .0 (first-all (nodeFault N sheet) (nodeCount sheet) (orElse-left _ _ e) n l), root↔ .0 (orElse-right _ _ e)),
     λ (h, a). unfold orElse in (rw (first-empty (nodeFault N sheet) (nodeCount sheet) (λ n l. node↔ n .1 (h n l)), root↔ .1 a)),
   )
-
-bit-one : (b : Bool) → (bit b ≡ 1) ↔ (b ≡ true)
-unfolding bit
-bit-one true = (λ e. refl, λ e. refl)
-bit-one false = (λ e. absurd (omega arith), λ e. absurd (let z : _≡_ {A = ℕ} 0 1 = cc in omega arith))
 
 module _ (N : PetriNet) (sheet : List ℕ) {answer : NodesAnswer} (told : answer .verdict ≡ verdictOf (orElse (first (nodeFault N sheet) (nodeCount sheet)) (rootFault N sheet)))
     (marked : answer .verdict ≡ Accepted → (n : ℕ) → n < nodeCount sheet → getD (answer .awaits) n 0 ≡ bit (isAwait N (graph N sheet) n)) where

@@ -147,6 +147,3 @@ module _ (N : PetriNet) (T : 0 < N .transitions) (some-source : (t : ℕ) × (t 
         λ (c, p). let (s, (few, (i, (l, u)))) = f p in record { count = c; sheets = sheets↔ number .0 s; few = few; independent = i; limits = l },
         λ C. (C .count, g (sheets↔ number .1 (C .sheets), (C .few, (C .independent, (C .limits, tt))))),
       )
-
-  pub compose-exactly : (composeFault N number sheet ≡ none) ↔ Composes N number sheet
-  compose-exactly = (λ e. composes↔ .0 (compose-tells .passes .0 e), λ C. compose-tells .passes .1 (composes↔ .1 C))

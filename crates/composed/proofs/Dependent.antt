@@ -140,9 +140,6 @@ module _ (N : PetriNet) (X : Tasks) (H : OnePerSource N X) where
     pub relabelled-independent : Independent N X
     relabelled-independent s t m r e = rw (agree s r .equal) at (fires s t m r e)
 
-    pub relabelled-same : (s : ℕ) → Reachable (product N X) s → label (trimmedNumber (product N X) s) ≡ marking N X s
-    relabelled-same s r = agree s r .equal
-
   -- 30 is given exactly when no counts make a schedule of the composed graph
   pub independent↔composable : Independent N X ↔ Composable N X
   independent↔composable = (

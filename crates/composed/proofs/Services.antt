@@ -4,11 +4,11 @@ use native.Mathlib.Omega.{arith}
 use mathlib.Core.Path.{_≡_, refl, sym, ap, _∙_}
 use mathlib.Core.Logic.{⊎-elim}
 use mathlib.Core.List.{List, [], _∷_}
-use mathlib.Core.Option.{Option, none, some, Option·map}
+use mathlib.Core.Option.{Option·map}
 use lib.ListN.{length, getD}
 use Rattle.scan.specs.Scan.{found}
 use Rattle.scan.proofs.Tests.{byEqual, true-false}
-use Rattle.scan.proofs.First.{none-some}
+use Rattle.scan.proofs.First.{none-some, found-map}
 use Rattle.automaton.specs.Automaton.{Automaton, follow, allows}
 use Rattle.automaton.proofs.Automaton.{arc-cases, allows-arc, allows-no-arc}
 use Rattle.automaton.proofs.Reach.{root-reachable}
@@ -65,7 +65,3 @@ module _ (N : PetriNet) (X : Tasks) (H : OnePerSource N X) (i : ℕ) (l : i < X 
       ∙ unfold allows in (ap found (part-follow (product N X) M f R σ 0 (root-reachable (product N X))) ∙ found-map f (follow (product N X) 0 σ))
       ∙ own-allows σ 0 (root-state N X H) (all-others X 0 i (root-waits N X H)) (own-list σ h)
       ∙ ap (λ (n : ℕ). allows (X .task i) n σ) (root-node N X H i)
-    where
-      found-map : (f : ℕ → ℕ) (o : Option ℕ) → found (Option·map f o) ≡ found o
-      found-map f none = unfold found in refl
-      found-map f (some n) = unfold found in refl

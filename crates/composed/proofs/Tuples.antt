@@ -1,6 +1,6 @@
 -- Tuples as numbers: a component is what was put there, the others stay, and equal components make equal tuples.
 use Prim.Native.Nat.{ℕ, zero, suc, _+_, _*_, _/_, _%_, _≤_, _<_}
-use native.Mathlib.Nat.{add-zero, add-mul, mul-assoc, mul-comm, mul-pos, zero-div, zero-mod, mod-lt, mod-eq-of-lt, div-eq-of-lt}
+use native.Mathlib.Nat.{add-mul, mul-assoc, mul-comm, mul-pos, zero-div, zero-mod, mod-lt, mod-eq-of-lt}
 use native.Mathlib.Nat.{div-add-mod', mul-add-div-right, mul-add-mod-self-right, div-div-eq-div-mul, div-lt-iff-lt-mul}
 use native.Mathlib.Omega.{arith}
 use mathlib.Core.Path.{_≡_, refl, sym, ap, _∙_}
@@ -8,14 +8,8 @@ use mathlib.Core.Logic.{⊎-elim}
 use lib.Dec.{ltb}
 use borrow.Author.Tests.{ltb-true, ltb-false}
 use Rattle.scan.proofs.Tests.{byTest, lt-suc-cases}
+use Rattle.sequential.proofs.Entries.{row-div, row-mod}
 use Rattle.composed.specs.Tuples.{tuples, component, replaced}
-
--- a quotient and a remainder
-quotient : (x b r : ℕ) → r < b → (x * b + r) / b ≡ x
-quotient x b r l = mul-add-div-right {m = b} (omega arith) x r ∙ rw (div-eq-of-lt l) (add-zero x)
-
-remainder : (x b r : ℕ) → r < b → (x * b + r) % b ≡ r
-remainder x b r l = mul-add-mod-self-right x b r ∙ mod-eq-of-lt l
 
 module _ (size : ℕ → ℕ) where
   pub component-zero : (i : ℕ) → component size i 0 ≡ 0
@@ -77,20 +71,20 @@ module _ (size : ℕ → ℕ) where
 
     assembled-shift : (hi n lo : ℕ) → lo < tuples size i → assembled hi n lo / tuples size i ≡ hi * size i + n
     unfolding assembled
-    assembled-shift hi n lo l = quotient (hi * size i + n) (tuples size i) lo l
+    assembled-shift hi n lo l = row-div (hi * size i + n) (tuples size i) lo l
 
     -- the component itself
     pub component-replaced : (n s : ℕ) → n < size i → component size i (replaced size i n s) ≡ n
     unfolding component
     component-replaced n s l =
-        rw (replaced-assembled n s, assembled-shift (above s) n (below s) (below-lt s)) (remainder (above s) (size i) n l)
+        rw (replaced-assembled n s, assembled-shift (above s) n (below s) (below-lt s)) (row-mod (above s) (size i) n l)
 
     -- what stands above stays
     above-replaced : (n s : ℕ) → n < size i → replaced size i n s / tuples size (suc i) ≡ s / tuples size (suc i)
     unfolding tuples above
     above-replaced n s l =
         sym (div-div-eq-div-mul (replaced size i n s) (tuples size i) (size i)) ∙
-        rw (replaced-assembled n s, assembled-shift (above s) n (below s) (below-lt s)) (quotient (above s) (size i) n l) ∙
+        rw (replaced-assembled n s, assembled-shift (above s) n (below s) (below-lt s)) (row-div (above s) (size i) n l) ∙
         div-div-eq-div-mul s (tuples size i) (size i)
 
     pub replaced-below : (n s k : ℕ) → n < size i → i < k → s < tuples size k → replaced size i n s < tuples size k

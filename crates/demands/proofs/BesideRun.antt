@@ -1,6 +1,6 @@
 -- A replay beside the run of its transitions: the checks that 20 stands between, and the first index at which both refuse by it.
 use Rattle.scan.proofs.Basics.{ℕ, suc, _<_, arith, _≡_, sym, ap, _∙_, _⊎_, inl, inr, ⊎-elim, _↔_, true, List, [], _∷_, _++_, length, getD, take}
-use Rattle.scan.proofs.Tabulate.{tabulate-length, take-tabulate}
+use Rattle.scan.proofs.Tabulate.{take-tabulate}
 use Rattle.automaton.specs.Automaton.{allows}
 use Rattle.refusal.specs.Refusal.{refusal, told, kindOf, indexOf}
 use Rattle.refusal.specs.Checks.{_else_, Check, once, FailFirst, AllPass, FirstFails}
@@ -15,6 +15,7 @@ use Rattle.call.specs.Demands.{number, ByChecks}
 use Rattle.schedule.specs.Walker.{runChecks}
 use Rattle.replay.specs.Log.{firingCount, firedAt, firingsTo, firings}
 use Rattle.replay.specs.Checks.{logChecks, FiringOffered, NodeReached, replayChecks}
+use Rattle.replay.proofs.Following.{firings-long}
 
 at-record : (p : Position) (i : ℕ) → kindOf p ≡ 4 → indexOf p ≡ i → p ≡ Record i
 at-record Nothing i k e = absurd (omega arith)
@@ -62,10 +63,6 @@ module _ (N : PetriNet) (sheet log : List ℕ) (i : ℕ) where
   unfolding firingsTo
   prefix j l = take-tabulate (firedAt log) (suc j) (firingCount log) l
 
-  log-long : length (firings log) ≡ firingCount log
-  unfolding firingsTo
-  log-long = tabulate-length (firedAt log) (firingCount log)
-
   abbrev Offered : ℕ → Type 0
   Offered j = allows (graph N sheet) 0 (take (suc j) (firings log)) ≡ true
 
@@ -75,7 +72,7 @@ module _ (N : PetriNet) (sheet log : List ℕ) (i : ℕ) where
       let l = s .within in
       record {
         index = s .index;
-        within = rw log-long l;
+        within = rw (firings-long log) l;
         below = λ j m. (rw (prefix j (omega arith)) (s .below j m .0), tt);
         there = ⊎-elim (λ (n, e). inl (λ a. n (rw (prefix (s .index) l) at a), e))
             (λ (o, t). ⊎-elim (λ (n, e). let z : _≡_ {A = ℕ} 20 24 = ap (λ (r : Refusal). r .number) e in absurd (omega arith)) (λ (a, b). absurd b) t) (s .there);
@@ -84,7 +81,7 @@ module _ (N : PetriNet) (sheet log : List ℕ) (i : ℕ) where
   stops-in : ((j : ℕ) → j < i → NodeReached N sheet log j) → FailFirst (length (firings log)) Record (Offered else 20 ∷ []) (refusal 20 (Record i))
       → FailFirst (firingCount log) Record (FiringOffered N sheet log else 20 ∷ NodeReached N sheet log else 24 ∷ []) (refusal 20 (Record i))
   stops-in h s =
-      let l : s .index < firingCount log = rw log-long at (s .within) in
+      let l : s .index < firingCount log = rw (firings-long log) at (s .within) in
       ⊎-elim
       (λ (n, e).
       let q : i ≡ s .index = ap (λ (r : Refusal). indexOf (r .at)) e in

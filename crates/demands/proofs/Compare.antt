@@ -1,7 +1,8 @@
 -- What is promised of the comparison of two schedules, proved: what every call does, and what the postcondition says in the words of demand 3.
-use Rattle.scan.proofs.Basics.{ℕ, _≤_, arith, _≡_, refl, sym, subst, _∙_, _↔_, Bool, true, false, List, [], _∷_, length}
+use Rattle.scan.proofs.Basics.{ℕ, _≤_, arith, _≡_, refl, sym, subst, _∙_, _↔_, List, [], _∷_, length}
 use mathlib.Core.Logic.{Iff·rfl, Iff·trans}
 use Rattle.scan.specs.Scan.{bit}
+use Rattle.scan.proofs.Count.{bit-one, bit-le}
 use Rattle.automaton.specs.Automaton.{SameLists}
 use Rattle.refusal.specs.Limits.{scratchLimit}
 use Rattle.refusal.specs.declared.Verdict.the-variants as verdict
@@ -33,17 +34,6 @@ use Rattle.demands.proofs.ToldIndex.{index-told}
 same-number : (a : CompareAnswer) → number (plainCompared a) ≡ number (plainCompare a)
 same-number (Compared c) = refl
 same-number (Refused f) = refl
-
--- one where a test holds
-bit-one : (b : Bool) → (bit b ≡ 1) ↔ (b ≡ true)
-unfolding bit
-bit-one true = (λ e. refl, λ e. refl)
-bit-one false = (λ e. absurd (omega arith), λ e. let z : _≡_ {A = ℕ} 0 1 = cc in absurd (omega arith))
-
-bit-most : (b : Bool) → bit b ≤ 1
-unfolding bit
-bit-most true = omega arith
-bit-most false = omega arith
 
 -- ---- every call
 
@@ -115,7 +105,7 @@ compare-demand = record {
       unread-two (compare-law net x y) _ _ refl o₁ o₂ t₁ t₂ s₁ s₂ o₁′ o₂′ t₁′ t₂′ s₁′ s₂′ a₁ a₂ lo lt ls (c .call) (d .call);
   same = same-lists;
   words = λ net x y c. rw (first-is net x y c, second-is net x y c) (same-words net x y c);
-  one-or-none = λ net x y c. rw (same-is net x y c) (bit-most (sameForms net x y));
+  one-or-none = λ net x y c. rw (same-is net x y c) (bit-le (sameForms net x y));
   first = λ net x y c. form-of-sheet net x (accepted-both net x y c .0) (first-is net x y c) (answered net x y c .room 0) (answered net x y c .written 0);
   second = λ net x y c. form-of-sheet net y (accepted-both net x y c .1) (second-is net x y c) (answered net x y c .room 1) (answered net x y c .written 1);
   there-is = λ net x y one two s hx hy l m n.

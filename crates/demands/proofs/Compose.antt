@@ -16,6 +16,7 @@ use Rattle.refusal.specs.declared.Position.the-variants.{Nothing}
 use Rattle.refusal.specs.declared.Refusal.{Refusal}
 use Rattle.refusal.specs.declared.Verdict.the-variants as verdict
 use Rattle.refusal.proofs.Judges.{pass-append, fail-append}
+use Rattle.refusal.proofs.Verdicts.{accepted-refused}
 use Rattle.net.specs.Checks.{netChecks}
 use Rattle.net.specs.Check.{netReply}
 use Rattle.net.proofs.Checks.{net-judged}
@@ -28,7 +29,7 @@ use Rattle.sequential.proofs.Accepted.{accepted-exactly}
 use Rattle.call.specs.Call.{CallDone}
 use Rattle.call.specs.Demands.{number, own, ByChecks}
 use Rattle.call.proofs.Lent.{Room}
-use Rattle.call.proofs.Judged.{accepted-refused, words-judged}
+use Rattle.call.proofs.Judged.{words-judged}
 use Rattle.call.proofs.Done.{by-checks, done-zero}
 use Rattle.call.proofs.Demands.{every-call-one}
 use Rattle.composed.specs.Product.{Tasks, OnePerSource, heldAt, heldByAll, product}

@@ -15,13 +15,14 @@ use Rattle.call.specs.declared.Index.the-variants.{Known}
 use Rattle.call.specs.Demands.{number, own}
 use Rattle.call.proofs.Judged.{Lawful}
 use Rattle.call.proofs.Done.{done-zero, own-answered, own-refused}
+use Rattle.sequential.proofs.Entries.{entry-of}
 use Rattle.schedule.specs.Calls.{FireDone, RunDone}
 use Rattle.schedule.specs.Plain.{plainFire, plainRun}
 use Rattle.schedule.specs.Firing.{nodeAfter, entryAfter, lastEntry}
 use Rattle.schedule.specs.declared.Walker.{Walker}
 use Rattle.schedule.specs.declared.FireAnswer.{FireAnswer}
 use Rattle.schedule.specs.declared.RunAnswer.{RunAnswer}
-use Rattle.schedule.proofs.Walks.{entry-at, entry-key, entry-fired}
+use Rattle.schedule.proofs.Walks.{entry-key, entry-fired}
 use Rattle.schedule.proofs.Following.{LastFiring, last-firing}
 use Rattle.schedule.proofs.Folded.{along-chain}
 use Rattle.schedule.proofs.Done.{fire-law, run-law}
@@ -58,7 +59,7 @@ module _ (net sheet s s′ : List ℕ) (w next : Walker) (t : ℕ) (a : FireAnsw
   fired-entry : number (plainFire a) ≡ 0
       → (k : ℕ) × (arcEntry (petriNet net) sheet (w .node) t ≡ some k) × (entryValue sheet k ≡ next .node) × (own (plainFire a) 0 ≡ plainIndex (Known k))
   fired-entry z =
-      let (k, e, v) = entry-at (petriNet net) sheet (w .node) t (next .node) (demand2 .fires net sheet s s′ w next t a d z .arc) in
+      let (k, e, v) = entry-of (petriNet net) sheet (w .node) t (next .node) (demand2 .fires net sheet s s′ w next t a d z .arc) in
       (k, e, v, own-answered (fire-law net sheet w t) d z 0 ∙ ap (λ (i : ℕ). plainIndex (Known i)) (entry-fired (petriNet net) sheet w t k e))
 
   fire-missing : (own (plainFire a) 0 ≡ 0) ↔ (number (plainFire a) ≡ 0 → ⊥)

@@ -6,6 +6,7 @@ use Rattle.scan.proofs.Tests.{byLess, lt-ltb, le-ltb, eqb-true, eq-eqb}
 use Rattle.scan.proofs.Least.{least-of, least-hit}
 use Rattle.scan.proofs.Count.{count-ext}
 use Rattle.scan.proofs.Sum.{sum-ext, sum-distinct}
+use Rattle.scan.proofs.First.{found-map}
 use Rattle.automaton.specs.Automaton.{Automaton, Closed, follow, allows, SameLists}
 use Rattle.automaton.specs.Reach.{Reachable}
 use Rattle.automaton.specs.Quotient.{Confined, Renumbering}
@@ -16,11 +17,6 @@ use Rattle.encoding.specs.Encoding.{gatherRows, keyOfArc, held, keyOfCount, key
 use Rattle.encoding.proofs.Gather.{finds, rows-length}
 use Rattle.encoding.proofs.Encoding.{found-when}
 use Rattle.demands.specs.Shortest.{Renumbers, renumbered}
-
-found-map : (f : ℕ → ℕ) (o : Option ℕ) → found (Option·map f o) ≡ found o
-unfolding found
-found-map f none = refl
-found-map f (some a) = refl
 
 module _ (A : Automaton) (to from : ℕ → ℕ) (r : Renumbers (A .nodes) to from) (c : Closed A) where
   abbrev M : Automaton

@@ -11,6 +11,7 @@ use Rattle.refusal.specs.declared.Refusal.{Refusal}
 use Rattle.refusal.specs.declared.Verdict.{Verdict}
 use Rattle.refusal.specs.declared.Verdict.the-variants as verdict
 use Rattle.refusal.proofs.Judges.{Judges, pass-append, fail-append}
+use Rattle.refusal.proofs.Verdicts.{accepted-refused}
 use Rattle.net.specs.Checks.{netChecks, IsNet}
 use Rattle.net.proofs.Checks.{net-judged}
 use Rattle.sequential.specs.Petri.{petriNet}
@@ -22,7 +23,7 @@ use Rattle.call.specs.Demands.{own, callChecks}
 use Rattle.call.specs.Index.{plainIndex}
 use Rattle.call.specs.declared.Index.the-variants.{Known, Missing}
 use Rattle.call.proofs.Lent.{Room}
-use Rattle.call.proofs.Judged.{accepted-refused, words-judged, call-judged}
+use Rattle.call.proofs.Judged.{words-judged, call-judged}
 use Rattle.compare.specs.Compare.{ofSchedule, about, plainCompare, compareCore}
 use Rattle.compare.specs.Means.{CompareDone}
 use Rattle.compare.specs.declared.CompareAnswer.{CompareAnswer}

@@ -10,5 +10,6 @@ pub mod Decoded
 pub mod Recoded
 -- its rows, one behind the other
 pub mod Rows
+pub mod Sections
 -- nodes that are kept under new numbers
 pub mod Kept

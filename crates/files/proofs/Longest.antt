@@ -33,11 +33,11 @@ use Rattle.sequential.specs.Check.{arcCount, awaitCount}
 use Rattle.sequential.specs.Bounds.{heldAt, bound, bounds}
 use Rattle.sequential.proofs.Entries.{count-most}
 use Rattle.sequential.proofs.Accepted.{accepts}
+use Rattle.sequential.proofs.Bounds.{bounds-length}
 use Rattle.graph.specs.Readable.{Sizes}
 use Rattle.graph.proofs.Readable.{known}
 use Rattle.judge.specs.Answer.{countsOf}
 use Rattle.judge.proofs.Judged.{accepted-readable}
-use Rattle.schedule.proofs.BoundRows.{bounds-length}
 use Rattle.minimal.specs.Minimal.{minimalForm}
 use Rattle.minimal.proofs.Minimal.{form-accepted, form-short}
 use Rattle.judge.specs.declared.CheckAnswer.{CheckAnswer}

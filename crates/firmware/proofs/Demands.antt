@@ -13,7 +13,8 @@ use Rattle.minimal.specs.Minimal.{minimalForm}
 use Rattle.octets.specs.Words.{allWords}
 use Rattle.firmware.specs.Calls.{runBytes}
 use Rattle.firmware.specs.Demands.{Whole, decodedChecks, BytesDemand}
-use Rattle.firmware.proofs.Judged.{bytes-law, every-bytes, as-words, unread}
+use Rattle.firmware.proofs.Judged.{bytes-law, every-bytes}
+use Rattle.firmware.proofs.WordCalls.{as-words, unread}
 use Rattle.firmware.proofs.Fires.{fires-by-number, every-firing, fires-as-words}
 use Rattle.firmware.proofs.Forms.{room-bytes, form-six-law, form-judged, check-judged, made-accepted, made-lists, forms-same, form-there}
 

@@ -13,6 +13,7 @@ use Rattle.refusal.specs.declared.Verdict.{Verdict}
 use Rattle.refusal.specs.declared.Verdict.the-variants.{Accepted, Refused}
 use Rattle.refusal.proofs.Checks.{Tells}
 use Rattle.refusal.proofs.Judges.{Judges, judges-found, judges-then, pass-append, without-spared, spared-never}
+use Rattle.refusal.proofs.Verdicts.{accepted-refused}
 use Rattle.net.specs.Checks.{netChecks}
 use Rattle.sequential.specs.Petri.{petriNet}
 use Rattle.sequential.specs.Words.{nodeCount, countAt, graph}
@@ -27,7 +28,7 @@ use Rattle.judge.proofs.Judged.{accepted-readable}
 use Rattle.call.specs.Call.{Core, outputFault, wordsVerdict, callVerdict, answerOf}
 use Rattle.call.proofs.Lent.{scratch-kept, scratch-cleared}
 use Rattle.call.proofs.Laws.{call-enough}
-use Rattle.call.proofs.Judged.{accepted-refused, words-judged-none, call-judged}
+use Rattle.call.proofs.Judged.{words-judged-none, call-judged}
 use Rattle.schedule.specs.Firing.{stepFault, follows}
 use Rattle.schedule.specs.declared.FireAnswer.{FireAnswer}
 use Rattle.schedule.specs.declared.Walker.{Walker}
@@ -37,7 +38,8 @@ use Rattle.firmware.specs.Bytes.{scratchBytes, brokenFault, bytesVerdict
 use Rattle.firmware.specs.Calls.{ownWalker, ownCore, fireBytes, oneNumber, BytesFired}
 use Rattle.firmware.specs.Demands.{Whole, decodedChecks, firingChecks, FiresByNumber, EveryFiring, FiresAsWords}
 use Rattle.firmware.proofs.Early.{answer-same}
-use Rattle.firmware.proofs.Judged.{broken-judged, words-verdict}
+use Rattle.firmware.proofs.Judged.{broken-judged}
+use Rattle.firmware.proofs.WordCalls.{words-verdict}
 use Rattle.firmware.proofs.Forms.{accepted-passes}
 
 -- ---- of words: with the node's own counts 19 has nothing to find

@@ -8,6 +8,7 @@ pub mod Numbers
 pub mod Firing
 -- what is promised: by checks, demand 3, the firing both ways
 pub mod Judged
+pub mod WordCalls
 pub mod Forms
 pub mod Fires
 pub mod Demands

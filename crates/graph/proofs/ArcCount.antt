@@ -3,26 +3,26 @@ use Rattle.scan.proofs.Basics.{ℕ, _≤_, _<_, arith, _≡_, sym, ap, true, fa
 use Rattle.scan.proofs.Tests.{lt-ltb, le-ltb}
 use Rattle.scan.proofs.Count.{count-prefix}
 use Rattle.table.specs.Bisection.{lowerBound}
-use Rattle.table.proofs.Bisection.{LowerBound, lower-bound}
+use Rattle.table.proofs.Bisection.{LowerBound}
 use Rattle.sequential.specs.Petri.{petriNet}
 use Rattle.sequential.specs.Words.{nodeCount, entryCount, entryKey, arcKeys, isArc}
 use Rattle.sequential.specs.Check.{arcCount}
-use Rattle.sequential.proofs.Words.{words-rise, words-fit}
 use Rattle.graph.specs.Readable.{ArcsReadable}
 use Rattle.graph.specs.Rows.{arcCountReply}
-use Rattle.graph.proofs.Starts.{arcs-end, counts-start}
+use Rattle.graph.proofs.Starts.{counts-start-is}
 use Rattle.graph.proofs.HasRow.{has-row}
+use Rattle.graph.proofs.Bounds.{start-bound}
 
 module _ (net sheet : List ℕ) (r : ArcsReadable net sheet) where
-  bound-is : arcCountReply net sheet ≡ lowerBound sheet 2 (entryCount sheet) (arcKeys (petriNet net) sheet)
+  pub arc-count-is : arcCountReply net sheet ≡ lowerBound sheet 2 (entryCount sheet) (arcKeys (petriNet net) sheet)
   unfolding arcCountReply arcKeys
-  bound-is =
+  arc-count-is =
       let s = r .sizes in
-      rw (has-row net sheet 0 r (s .some-node), ← counts-start net (nodeCount sheet) 0 (omega arith) (s .few-places), ← arcs-end net (nodeCount sheet) (s .few-nodes) (s .few-transitions))
+      rw (has-row net sheet 0 r (s .some-node), counts-start-is net (nodeCount sheet) 0 (s .few-nodes) (omega arith) (s .few-transitions) (s .few-places))
       (ap (lowerBound sheet 2 (entryCount sheet)) (omega arith))
 
   bound : LowerBound sheet 2 (entryCount sheet) (arcKeys (petriNet net) sheet) (arcCountReply net sheet)
-  bound = rw bound-is (lower-bound sheet 2 (entryCount sheet) (arcKeys (petriNet net) sheet) (words-rise (petriNet net) sheet (r .holds)) (words-fit (petriNet net) sheet (r .holds)))
+  bound = rw arc-count-is (start-bound r (arcKeys (petriNet net) sheet))
 
   pub arcs-within : arcCountReply net sheet ≤ entryCount sheet
   arcs-within = bound .within

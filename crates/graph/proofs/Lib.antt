@@ -3,6 +3,7 @@ pub mod Pass
 pub mod Readable
 -- a node's rows and arcs
 pub mod Starts
+pub mod Bounds
 pub mod HasRow
 pub mod Rows
 pub mod LookUp

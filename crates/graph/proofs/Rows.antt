@@ -1,5 +1,5 @@
 -- The rows that the code answers are, on readable words, the node's marking and the entries of its arcs and counts.
-use Rattle.scan.proofs.Basics.{ℕ, _+_, _*_, _≤_, _<_, arith, _≡_, refl, sym, _∙_, Bool, true, false, cond, _&&_, ltb, Option, none, List}
+use Rattle.scan.proofs.Basics.{ℕ, _+_, _*_, _≤_, _<_, arith, _≡_, refl, Bool, true, false, cond, _&&_, ltb, Option, none, List}
 use Rattle.scan.proofs.Tests.{lt-ltb, byTest}
 use Rattle.scan.specs.Scan.{foundOr, tabulate}
 use Rattle.table.specs.Row.{entryCode}
@@ -11,7 +11,7 @@ use Rattle.sequential.specs.Known.{ArcsHold}
 use Rattle.sequential.proofs.Words.{words-rise, words-fit}
 use Rattle.graph.specs.Readable.{ArcsReadable}
 use Rattle.graph.specs.Rows.{arcsStart, countsStart, countEntry, arcEntryCode, countEntryCode, markingRow, arcEntryRow, countEntryRow}
-use Rattle.graph.proofs.Starts.{arcs-end, arcs-start-is, counts-start}
+use Rattle.graph.proofs.Starts.{arcs-start-is, counts-start-is}
 use Rattle.graph.proofs.HasRow.{has-row}
 
 -- ---- an entry that is told
@@ -40,7 +40,7 @@ module _ (net sheet : List ℕ) (r : ArcsReadable net sheet) (n : ℕ) (l : n < 
   first-arc = let s = r .sizes in arcs-start-is net n (omega arith) (s .some-transition) (s .few-transitions)
 
   first-count : countsStart net (nodeCount sheet) n ≡ nodeCount sheet * transitionCount net + n * placeCount net
-  first-count = sym (counts-start net (nodeCount sheet) n few (r .sizes .few-places)) ∙ rw (← arcs-end net (nodeCount sheet) (r .sizes .few-nodes) (r .sizes .few-transitions)) refl
+  first-count = let s = r .sizes in counts-start-is net (nodeCount sheet) n (s .few-nodes) few (s .few-transitions) (s .few-places)
 
   pub marking-right : markingRow net sheet n ≡ tabulate (countAt (petriNet net) sheet n) 32
   unfolding markingRow countAt entryValue entryWithKey arcKeys

@@ -1,5 +1,5 @@
 -- The first keys of a node's rows: small numbers on any words, and where the sizes are in range those of §3.5 and §3.6.
-use Rattle.scan.proofs.Basics.{ℕ, _+_, _*_, _≤_, _<_, arith, _≡_, refl, _&&_, leb, List}
+use Rattle.scan.proofs.Basics.{ℕ, _+_, _*_, _≤_, _<_, arith, _≡_, refl, sym, _∙_, _&&_, leb, List}
 use native.Mathlib.Nat.{mul-le-mul}
 use Rattle.scan.proofs.Tests.{leb-true, le-leb, byTest, and-left, and-right}
 use Rattle.row_starts.proofs.Page.{start-is}
@@ -28,6 +28,11 @@ module _ (net : List ℕ) (nodes n : ℕ) where
       byTest (leb n 128 && leb (placeCount net) 32)
       (λ e. rw e (omega (arith, arcs-end-low net nodes, mul-le-mul (leb-true n 128 (and-left _ _ e)) (leb-true (placeCount net) 32 (and-right (leb n 128) _ e)))))
       (λ e. rw e (omega arith))
+
+-- the first key of a node's counts is V × T + n × P
+pub counts-start-is : (net : List ℕ) (nodes n : ℕ) → nodes ≤ 128 → n ≤ 128 → transitionCount net ≤ 32 → placeCount net ≤ 32
+    → countsStart net nodes n ≡ nodes * transitionCount net + n * placeCount net
+counts-start-is net nodes n h k t p = sym (counts-start net nodes n k p) ∙ rw (← arcs-end net nodes h t) refl
 
 -- the first key of a node's arcs is n × T
 pub arcs-start-is : (net : List ℕ) (n : ℕ) → n < 128 → 1 ≤ transitionCount net → transitionCount net ≤ 32 → arcsStart net n ≡ n * transitionCount net

@@ -2,7 +2,7 @@
 use Rattle.scan.proofs.Basics.{ℕ, arith, _≡_, refl, subst, sym, ap, _∙_, ltb, Option, none, some, List}
 use Rattle.scan.proofs.Tests.{le-ltb}
 use Rattle.scan.specs.Scan.{orElse, first, count}
-use Rattle.scan.proofs.Count.{count-ext}
+use Rattle.scan.proofs.Count.{count-ext, bit-mark}
 use Rattle.scan.proofs.First.{orElse-left, orElse-right, orElse-assoc}
 use Rattle.refusal.proofs.Verdicts.{answer-none, verdict-next, then-next, then-accepted}
 use Rattle.refusal.specs.Verdict.{verdictOf, andThen}
@@ -26,7 +26,7 @@ use Rattle.choice.specs.Nodes.{taskNodesReply}
 use Rattle.choice.specs.declared.NodesAnswer.{NodesAnswer}
 use Rattle.choice.proofs.Right.{task-verdict-right, task-awaits-right}
 use Rattle.reach.specs.Reach.{isMarked, AwaitMarks, pathsReply}
-use Rattle.reach.proofs.Meaning.{bit-mark, returnTo}
+use Rattle.reach.proofs.Meaning.{returnTo}
 use Rattle.reach.proofs.Demands.{paths-to}
 use Rattle.judge.specs.Answer.{Judged}
 

@@ -1,10 +1,11 @@
 -- The checks in their order, and what they and the places' counts say of 25.
-use Rattle.scan.proofs.Basics.{ℕ, _-_, _≤_, _<_, arith, _≡_, refl, sym, ap, _∙_, Bool, true, false, not, ltb, Option, none, some, List, length, getD}
+use Rattle.scan.proofs.Basics.{ℕ, _-_, _≤_, _<_, arith, _≡_, refl, sym, ap, _∙_, true, not, ltb, Option, none, some, List, length, getD}
 use Rattle.scan.proofs.Tests.{le-leb, eq-eqb, not-false, not-true→false, and-both}
-use Rattle.scan.specs.Scan.{orElse, when, first, bit}
+use Rattle.scan.specs.Scan.{orElse, when, first}
 use Rattle.scan.proofs.First.{orElse-left, orElse-right, when-hit, when-miss, when-none, first-all}
 use Rattle.scan.proofs.Every.{all-in}
 use Rattle.scan.proofs.Tabulate.{tabulate-at}
+use Rattle.scan.proofs.Count.{bit-mark}
 use Rattle.refusal.specs.Limits.{mostEntries}
 use Rattle.refusal.specs.Refusal.{refusal}
 use Rattle.refusal.specs.Finding.{foundAt, lineFinds}
@@ -46,11 +47,6 @@ use Rattle.mend.proofs.Reading.{closed}
 use Rattle.mend.proofs.Writes.{count-keys}
 
 -- ---- 11 to 13, 16 and 17, as they are asked
-
-bit-mark : (b : Bool) → ltb 0 (bit b) ≡ b
-unfolding bit
-bit-mark true = refl
-bit-mark false = refl
 
 module _ (net sheet : List ℕ) where
   pub words-refused : {v : Verdict} {r : Refusal} → v ≡ arcsReply net sheet → v ≡ Refused r → v ≡ arcsVerdict net sheet

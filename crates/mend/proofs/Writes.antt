@@ -14,7 +14,7 @@ use Rattle.table.specs.Table.{keyAt, valueAt}
 use Rattle.graph.specs.Readable.{ArcsReadable}
 use Rattle.graph.specs.Rows.{countsStart, markingRow}
 use Rattle.graph.proofs.Rows.{marking-right}
-use Rattle.graph.proofs.Starts.{arcs-end, counts-start}
+use Rattle.graph.proofs.Starts.{counts-start-is}
 use Rattle.encoding.specs.Encoding.{gather, gatherRows, held, keyOfCount, valueOfCount}
 use Rattle.encoding.specs.Rows.{wordOf, filledAt, columnWord, rowWords, Appended, RowOf}
 use Rattle.encoding.specs.declared.Row.{Row}
@@ -99,9 +99,6 @@ module _ (net sheet : List ℕ) (r : ArcsReadable net sheet) where
   abbrev M : Automaton
   M = mendedGraph (petriNet net) (graph (petriNet net) sheet)
 
-  first-at : (nodes n : ℕ) → nodes ≤ 128 → n ≤ 128 → countsStart net nodes n ≡ nodes * N .transitions + n * N .places
-  first-at nodes n h k = sym (counts-start net nodes n k (r .sizes .few-places)) ∙ rw (← arcs-end net nodes h (r .sizes .few-transitions)) refl
-
   -- ---- node n's rows
 
   module _ (n : ℕ) (l : n < nodeCount sheet) where
@@ -115,7 +112,7 @@ module _ (net sheet : List ℕ) (r : ArcsReadable net sheet) where
     counts-row : RowOf N M section.Counts n (partRow net sheet Counts n)
     unfolding mendedGraph
     counts-row = record {
-      first = first-at (nodeCount sheet) n (r .sizes .few-nodes) few;
+      first = let s = r .sizes in counts-start-is net (nodeCount sheet) n (s .few-nodes) few (s .few-transitions) (s .few-places);
       entry = λ p k. row-at N sheet n p (omega (arith, r .sizes .few-places)) ∙ sym (held-at p);
       past = λ p k m. row-at N sheet n p m ∙ new-past N sheet n p k;
     }
@@ -141,7 +138,7 @@ module _ (net sheet : List ℕ) (r : ArcsReadable net sheet) where
         → rowWords (partRow net sheet Changes n) section ≡ gather f (N .places)
     unfolding rowWords columnWord filledAt
     changes-words section f h =
-        let q : countsStart net 0 n ≡ n * N .places = first-at 0 n (omega arith) few ∙ omega arith in
+        let q : countsStart net 0 n ≡ n * N .places = counts-start-is net 0 n (omega arith) few (r .sizes .few-transitions) (r .sizes .few-places) ∙ omega arith in
         gather-cut (columnWord section (countsStart net 0 n) (partRow net sheet Changes n .cells)) f (N .places) 32 (r .sizes .few-places)
         (λ p k. rw (q, cell-at p (omega (arith, r .sizes .few-places))) (h p))
         (λ p k m. column-miss section (countsStart net 0 n) (partRow net sheet Changes n .cells) p (omega (arith, cell-past p k m)))

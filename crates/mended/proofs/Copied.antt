@@ -12,14 +12,12 @@ use Rattle.scan.proofs.Count.{count-prefix}
 use Rattle.scan.proofs.Least.{least-le, least-hit, least-low}
 use Rattle.scan.proofs.Tabulate.{tabulate-at, tabulate-length}
 use Rattle.table.specs.Table.{keyAt, valueAt, Rising}
-use Rattle.table.proofs.Table.{rising}
 use Rattle.automaton.specs.Automaton.{Automaton}
 use Rattle.sequential.specs.Petri.{PetriNet}
 use Rattle.sequential.specs.Words.{nodeCount, entryCount, entryKey, entryValue, arcKeys, graph, isArc, arcNode, arcTransition}
 use Rattle.sequential.specs.Check.{arcCount}
 use Rattle.sequential.specs.Known.{ArcsHold}
-use Rattle.sequential.proofs.Words.{words-rise}
-use Rattle.sequential.proofs.Entries.{arc-entry, entry-arc, entry-node}
+use Rattle.sequential.proofs.Entries.{arc-entry, entry-arc, entry-node, key-rises}
 use Rattle.encoding.specs.Encoding.{gatherRows, keyOfArc, held, keyOfCount, valueOfCount, keys, values, encode}
 use Rattle.encoding.proofs.Encoding.{Says}
 use Rattle.encoding.proofs.Entries.{Entered, same-words}
@@ -48,15 +46,11 @@ module _ (N : PetriNet) (sheet : List ℕ) (T : 0 < N .transitions) (w : ArcsHol
   unfoldable noArc : ℕ → Bool
   noArc i = not (isArc N sheet i)
 
-  key-rises : (i j : ℕ) → i < j → j < entryCount sheet → entryKey sheet i < entryKey sheet j
-  unfolding entryKey
-  key-rises i j h l = rising sheet 2 (entryCount sheet) (words-rise N sheet w) i j h l
-
   -- an entry that is an arc has none before it that is not
   down : (i j : ℕ) → i ≤ j → j < entryCount sheet → isArc N sheet j ≡ true → isArc N sheet i ≡ true
   unfolding isArc
   down i j h l e =
-      byTest (ltb i j) (λ q. lt-ltb (entryKey sheet i) (arcKeys N sheet) (omega (arith, key-rises i j (ltb-true i j q) l, ltb-true (entryKey sheet j) (arcKeys N sheet) e)))
+      byTest (ltb i j) (λ q. lt-ltb (entryKey sheet i) (arcKeys N sheet) (omega (arith, key-rises N sheet w i j (ltb-true i j q) l, ltb-true (entryKey sheet j) (arcKeys N sheet) e)))
       (λ q. let z : i ≡ j = omega (arith, ltb-false i j q) in rw z e)
 
   abbrev first-count : ℕ
@@ -127,7 +121,7 @@ module _ (N : PetriNet) (sheet : List ℕ) (T : 0 < N .transitions) (w : ArcsHol
   x-rising = record { above = λ i l. above i (rw x-entries at l) }
     where
       above : (i : ℕ) → i + 1 < arcCount N sheet → entryKey x i < entryKey x (i + 1)
-      above i l = rw (x-key i (omega arith), x-key (i + 1) l) (key-rises i (i + 1) (omega arith) (omega (arith, arcs-within)))
+      above i l = rw (x-key i (omega arith), x-key (i + 1) l) (key-rises N sheet w i (i + 1) (omega arith) (omega (arith, arcs-within)))
 
   -- ---- it says the arcs, and nothing else
 

@@ -4,7 +4,6 @@ use Rattle.scan.specs.Scan.{orElse, when, first}
 use Rattle.scan.proofs.Tests.{decides-not}
 use Rattle.scan.proofs.First.{first-one}
 use Rattle.automaton.specs.Automaton.{Automaton, Closed}
-use Rattle.automaton.proofs.Automaton.{arc-transition}
 use Rattle.refusal.specs.Refusal.{refusal}
 use Rattle.refusal.specs.Checks.{AllPass}
 use Rattle.refusal.specs.Finding.{foundBy, lineFinds, finding}
@@ -17,15 +16,14 @@ use Rattle.net.proofs.Checks.{net-judged}
 use Rattle.net.proofs.Laws.{sizes}
 use Rattle.sequential.specs.Petri.{PetriNet, petriNet}
 use Rattle.sequential.specs.Words.{nodeCount, graph}
-use Rattle.sequential.specs.Tests.{offersSome}
-use Rattle.sequential.specs.Schedule.{Offers, OneChoiceSet, IsSchedule}
+use Rattle.sequential.specs.Schedule.{OneChoiceSet, IsSchedule}
 use Rattle.sequential.specs.Checks.{arcWordChecks, sheetChecks}
 use Rattle.sequential.specs.Check.{nodeFault, rootFault, reachFault, returnFault}
 use Rattle.sequential.specs.Known.{ArcsHold, WordsHold}
 use Rattle.sequential.proofs.Words.{arcs-hold, arcs-tell as words-tell}
 use Rattle.sequential.proofs.Entries.{graph-closed}
-use Rattle.sequential.proofs.Clauses.{await↔, some-out, some-in, one-out, one-some, one-in}
-use Rattle.sequential.proofs.Faults.{reached↔, leads↔}
+use Rattle.sequential.proofs.Clauses.{await↔, some-out, one-out, one-some, one-in}
+use Rattle.sequential.proofs.Faults.{reached↔, leads↔, offers-in}
 use Rattle.sequential.proofs.Accepted.{sheet-schedule}
 use Rattle.encoding.specs.Encoding.{encode}
 use Rattle.encoding.proofs.Encoded.{encoded-passes}
@@ -99,15 +97,12 @@ module _ (N : PetriNet) (T : 0 < N .transitions) (P : 0 < N .places) (sheet : Li
 
 module _ (N : PetriNet) (T : 0 < N .transitions) (P : 0 < N .places) (sheet : List ℕ) where
   module _ (w : ArcsHold N sheet) where
-    offers-in : (n t : ℕ) → Offers N (graph N sheet) n t → offersSome N (graph N sheet) n ≡ true
-    offers-in n t (m, e) = some-in N (graph N sheet) n t (arc-transition (graph N sheet) (graph-closed N sheet T w) n t m e) (m, e)
-
     arcs-lawful : Lawful Unit (arcChecks N sheet) (arcTests N sheet)
     unfolding Lawful Decided Decides
     arcs-lawful = (
       λ h n l. (
-        decides-not _ (λ e. let (t, k, o) = some-out N (graph N sheet) n e in (t, o)) (λ (t, o). offers-in n t o),
-        λ (t, o). (decides-not _ (one-out N (graph N sheet) n (offers-in n t o)) (one-in N (graph N sheet) n), λ x. tt),
+        decides-not _ (λ e. let (t, k, o) = some-out N (graph N sheet) n e in (t, o)) (λ (t, o). offers-in N sheet T w n t o),
+        λ (t, o). (decides-not _ (one-out N (graph N sheet) n (offers-in N sheet T w n t o)) (one-in N (graph N sheet) n), λ x. tt),
       ),
       (
         λ h n l. (decides-not _ (await↔ N (graph N sheet) n .0) (await↔ N (graph N sheet) n .1), λ x. tt),

@@ -1,5 +1,5 @@
 -- The mended graph: a schedule where the counts fit, and the only one with these arcs.
-use Rattle.scan.proofs.Basics.{ℕ, _≤_, _<_, _≡_, refl, sym, ap, _∙_, true, ltb, some, List, [], _∷_, length, getD}
+use Rattle.scan.proofs.Basics.{ℕ, _≤_, _<_, _≡_, refl, sym, ap, _∙_, true, ltb, some, List, [], length, getD}
 use Rattle.scan.proofs.Tests.{ltb-true, ltb-false, lt-ltb, le-ltb, leb-true, le-leb, eqb-true, eq-eqb, byTest, and-left, and-right, and-both}
 use Rattle.scan.specs.Scan.{all}
 use Rattle.scan.proofs.Every.{all-in, all-out}
@@ -16,7 +16,7 @@ use Rattle.sequential.specs.Schedule.{Await, OneChoiceSet, ToAwait, IsSchedule}
 use Rattle.sequential.specs.Known.{ArcsHold}
 use Rattle.sequential.proofs.Clauses.{enabled↔}
 use Rattle.sequential.proofs.Entries.{graph-closed}
-use Rattle.sequential.proofs.Runs.{from-root}
+use Rattle.sequential.proofs.Runs.{from-root, fire-all-length}
 use Rattle.encoding.specs.Encoding.{held, keys, Encodable}
 use Rattle.encoding.proofs.Reading.{graph-confined}
 use Rattle.mended.specs.Arcs.{SameArcs}
@@ -27,15 +27,10 @@ use Rattle.mended.proofs.Bare.{same-sym, same-follow, same-reachable, s
 
 -- ---- rows
 
-fired-length : (N : PetriNet) (σ m : List ℕ) → length m ≡ N .places → length (fireAll N m σ) ≡ N .places
-unfolding fireAll fire
-fired-length N [] m e = e
-fired-length N (t ∷ σ) m e = fired-length N σ (fire N m t) (tabulate-length (firedCount N m t) (N .places))
-
 module _ (N : PetriNet) (A : Automaton) where
   pub worked-length : (n : ℕ) → length (workedOut N A n) ≡ N .places
   unfolding workedOut
-  worked-length n = fired-length N (route A n) (initial N) (unfold initial in (tabulate-length (N .start) (N .places)))
+  worked-length n = fire-all-length N (initial N) (route A n) (unfold initial in (tabulate-length (N .start) (N .places)))
 
   pub worked-root : Closed A → workedOut N A 0 ≡ initial N
   unfolding workedOut fireAll

@@ -1,8 +1,9 @@
 -- The words of the minimal automaton have no more entries: each of its nodes has as many as the old one that stands for it.
-use Rattle.scan.proofs.Basics.{ℕ, _+_, _≤_, _<_, arith, _≡_, refl, sym, ap, _∙_, Bool, ltb, Option, none, some, Option·map, List, length, length-append}
+use Rattle.scan.proofs.Basics.{ℕ, _+_, _≤_, _<_, arith, _≡_, sym, ap, _∙_, Bool, ltb, List, length, length-append}
 use Rattle.scan.specs.Scan.{found, count, sum}
 use Rattle.scan.proofs.Count.{count-ext}
 use Rattle.scan.proofs.Sum.{sum-ext, sum-plus}
+use Rattle.scan.proofs.First.{found-map}
 use Rattle.automaton.specs.Automaton.{Automaton, Closed}
 use Rattle.automaton.specs.Equivalence.{Fires}
 use Rattle.automaton.specs.Quotient.{minimal, number, representative}
@@ -12,11 +13,6 @@ use Rattle.sequential.specs.Petri.{PetriNet}
 use Rattle.encoding.specs.Encoding.{gatherRows, keyOfArc, held, keyOfCount, keys}
 use Rattle.encoding.proofs.Gather.{finds, rows-length}
 use Rattle.encoding.proofs.Encoding.{found-when}
-
-found-map : (f : ℕ → ℕ) (o : Option ℕ) → found (Option·map f o) ≡ found o
-unfolding found
-found-map f none = refl
-found-map f (some a) = refl
 
 -- ---- how many arcs and counts above 0 the nodes have together
 

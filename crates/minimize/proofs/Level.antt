@@ -1,39 +1,30 @@
 -- Level rows: where two nodes have arcs by the same transitions, their entries go in step, and the rows agree where the targets do, entry by entry.
-use Rattle.scan.proofs.Basics.{ℕ, zero, suc, _+_, _-_, _≤_, _<_, arith, _≡_, refl, sym, ap, _∙_, Bool, true, false, cond, _&&_, none, some, List, length, getD}
+use Rattle.scan.proofs.Basics.{ℕ, zero, suc, _+_, _-_, _≤_, _<_, arith, _≡_, refl, sym, ap, _∙_, Bool, true, false, cond, none, some, List, length, getD}
 use native.Mathlib.Nat.{add-zero, add-assoc, suc-mul}
 use native.Mathlib.Numerals.{add-one}
-use Rattle.scan.proofs.Tests.{byTest, byLess, lt-ltb, eq-eqb, and-both}
+use Rattle.scan.proofs.Tests.{byTest, byLess, lt-ltb, eq-eqb, and-both, and-true}
 use Rattle.scan.specs.Scan.{all, found}
+use Rattle.scan.proofs.Every.{all-next}
 use Rattle.table.specs.Table.{keyAt, Rising}
 use Rattle.table.specs.Bisection.{lowerBound}
-use Rattle.table.proofs.Bisection.{LowerBound, lower-bound}
+use Rattle.table.proofs.Bisection.{LowerBound}
 use Rattle.automaton.specs.Equivalence.{equalArcs}
 use Rattle.sequential.specs.Petri.{PetriNet, petriNet}
 use Rattle.sequential.specs.Words.{nodeCount, entryCount, entryValue, graph}
-use Rattle.sequential.proofs.Words.{words-rise, words-fit}
+use Rattle.sequential.proofs.Words.{words-rise}
 use Rattle.graph.specs.Readable.{Readable}
 use Rattle.graph.proofs.Readable.{words}
+use Rattle.graph.proofs.Bounds.{start-bound}
 use Rattle.minimize.specs.Tables.{classIn}
 use Rattle.minimize.specs.Agree.{hasKey, valuesAgree, keysAgree, Valued, rowKey, rowWidth, firstEntry, SameOffers, StartsOf, targetsAgree, LevelRows, TwoRows}
 use Rattle.minimize.specs.Leaders.{rowsAlike}
-use Rattle.minimize.proofs.Agree.{value-at-bound, bound-hit, bound-miss, first-arc, row-valued, arc-value, start-low, walked}
+use Rattle.minimize.proofs.Agree.{value-at-bound, bound-hit, bound-miss}
+use Rattle.minimize.proofs.NodeRows.{first-arc, row-valued, arc-value, start-low, walked}
 
 found-cond : (h : Bool) (v : ℕ) → found (cond h (some v) none) ≡ h
 unfolding found
 found-cond true v = refl
 found-cond false v = refl
-
-all-next : (f : ℕ → Bool) (n : ℕ) → all f (n + 1) ≡ (all f n && f n)
-unfolding all
-all-next f n = rw add-one refl
-
-and-true : (b : Bool) → (b && true) ≡ b
-and-true true = refl
-and-true false = refl
-
--- an index more that passes changes nothing
-pub all-stays : (f : ℕ → Bool) (n : ℕ) → f n ≡ true → all f n ≡ all f (n + 1)
-all-stays f n e = sym (all-next f n ∙ rw e (and-true (all f n)))
 
 module _ (sheet : List ℕ) where
   -- a key has one lower bound
@@ -57,9 +48,7 @@ module _ {net sheet : List ℕ} (readable : Readable net sheet) where
   Bound k x = LowerBound sheet 2 (entryCount sheet) k x
 
   bound : (k : ℕ) → Bound k (lowerBound sheet 2 (entryCount sheet) k)
-  bound k =
-      let w = words net sheet readable in
-      lower-bound sheet 2 (entryCount sheet) k (words-rise N sheet (w .arcs)) (words-fit N sheet (w .arcs))
+  bound k = start-bound (readable .arcs) k
 
   rises : Rising sheet 2 (entryCount sheet)
   rises = words-rise N sheet (words net sheet readable .arcs)

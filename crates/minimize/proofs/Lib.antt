@@ -1,5 +1,6 @@
 -- classes
 pub mod Agree
+pub mod NodeRows
 pub mod Level
 pub mod Leaders
 -- numbers
@@ -7,5 +8,6 @@ pub mod SearchArcs
 pub mod SearchOrder
 -- words
 pub mod Runs
+pub mod NewRows
 pub mod Writing
 pub mod TwoForms

@@ -7,7 +7,7 @@ use Rattle.scan.specs.Scan.{orElse, first, found, count, bit}
 use Rattle.scan.proofs.First.{first-ext}
 use Rattle.scan.proofs.Every.{all-ext}
 use Rattle.scan.proofs.Tests.{lt-ltb, le-ltb, byLess}
-use Rattle.table.proofs.Table.{rising, entry-some, entry-none}
+use Rattle.table.proofs.Table.{entry-some, entry-none}
 use Rattle.refusal.specs.Finding.{lineFinds, foundAt}
 use Rattle.automaton.specs.Automaton.{Automaton}
 use Rattle.sequential.specs.Petri.{PetriNet}
@@ -15,8 +15,7 @@ use Rattle.sequential.specs.Words.{nodeCount, entryCount, entryKey, entryValue,
 use Rattle.sequential.specs.Tests.{offers}
 use Rattle.sequential.specs.Check as fast
 use Rattle.sequential.specs.Known.{ArcsHold}
-use Rattle.sequential.proofs.Words.{words-rise}
-use Rattle.sequential.proofs.Entries.{entry-target, marking-at}
+use Rattle.sequential.proofs.Entries.{entry-target, marking-at, key-rises}
 use Rattle.sequential.proofs.Faults.{arc-fault, no-arc-fault, graph-fault, isArc↔}
 use Rattle.sequential.proofs.Numbers.{arcs-counted}
 use Rattle.plainly.specs.Clauses.{startFault, nodeFault, rootFault, landsAt, lands, arcFault, offersKey, cellFault, keyFault, reachFault, returnFault, clausesFault, arcTotal, awaitTotal}
@@ -89,10 +88,6 @@ module _ (N : PetriNet) (sheet : List ℕ) (T : 0 < N .transitions) (w : ArcsHol
   unfolding count bit
   no-arc k e = rw e (omega arith)
 
-  rise : (i j : ℕ) → i < j → j < entryCount sheet → entryKey sheet i < entryKey sheet j
-  unfolding entryKey
-  rise i j l m = rising sheet 2 (entryCount sheet) (words-rise N sheet w) i j l m
-
   step-none : (k : ℕ) → k < arcKeys N sheet → entryWithKey sheet k ≡ none → Step k → Step (suc k)
   unfolding first found entryWithKey entryKey
   step-none k l e s =
@@ -112,14 +107,14 @@ module _ (N : PetriNet) (sheet : List ℕ) (T : 0 < N .transitions) (w : ArcsHol
       record {
         within = rw q (omega (arith, at));
         below = λ n m. let m′ : n < before k + 1 = rw q at m in byLess n (before k) (λ h. let z = s .below n h in omega arith) (λ h. let x : n ≡ i = omega (arith, at) in rw (x, f) (omega arith));
-        above = λ n m h. let m′ : before k + 1 ≤ n = rw q at m in let z = rise i n (omega (arith, at)) h in omega (arith, f);
+        above = λ n m h. let m′ : before k + 1 ≤ n = rw q at m in let z = key-rises N sheet w i n (omega (arith, at)) h in omega (arith, f);
         same = rw (q, add-one, key-some k i l e, s .same, at) (ap (orElse (first (fast.arcFault N sheet) i)) (sym (same-fault k i j l f)));
       }
     where
       place : before k ≡ i
       place =
           byLess i (before k) (λ h. absurd (let z = s .below i h in omega (arith, f)))
-          (λ h. byLess (before k) i (λ g. absurd (let a = rise (before k) i g j in let b = s .above (before k) (omega arith) (omega arith) in omega (arith, f))) (λ g. omega arith))
+          (λ h. byLess (before k) i (λ g. absurd (let a = key-rises N sheet w (before k) i g j in let b = s .above (before k) (omega arith) (omega arith) in omega (arith, f))) (λ g. omega arith))
 
   step : (k : ℕ) → k < arcKeys N sheet → Step k → Step (suc k)
   step k l s = go (entryWithKey sheet k) refl

@@ -1,7 +1,8 @@
 -- Marks and paths are what they are promised to be.
-use Rattle.scan.proofs.Basics.{ℕ, _<_, arith, _≡_, refl, sym, ap, _∙_, _↔_, Bool, true, false, List, getD}
+use Rattle.scan.proofs.Basics.{ℕ, _<_, arith, _≡_, refl, sym, ap, _∙_, Bool, List, getD}
 use Rattle.scan.specs.Scan.{orElse, first, bit}
 use Rattle.scan.proofs.Tabulate.{tabulate-at}
+use Rattle.scan.proofs.Count.{bit-one}
 use Rattle.refusal.specs.Finding.{lineFinds, foundAt}
 use Rattle.refusal.specs.Verdict.{verdictOf}
 use Rattle.refusal.proofs.Verdicts.{then-next}
@@ -15,11 +16,6 @@ use Rattle.graph.proofs.Readable.{arcs-readable, arcs-accepted}
 use Rattle.reach.specs.Reach.{isMarked, isReached, reachedMark, pathsFault, reachedReply, pathsReply}
 use Rattle.reach.specs.Demands.{PathsRight, PathsMean}
 use Rattle.reach.proofs.Meaning.{returnTo, reached↔, return-by-marks}
-
-bit-one : (b : Bool) → (bit b ≡ 1) ↔ (b ≡ true)
-unfolding bit
-bit-one true = (λ e. cc, λ e. cc)
-bit-one false = (λ e. cc, λ e. cc)
 
 module _ (net sheet : List ℕ) (r : ArcsReadable net sheet) where
   mark-is : (n : ℕ) → n < nodeCount sheet → getD (reachedReply net sheet) n 0 ≡ bit (isReached (petriNet net) sheet n)

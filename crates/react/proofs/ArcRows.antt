@@ -6,42 +6,29 @@ use lib.Seq.{getD-set-same, getD-set-other}
 use Rattle.table.specs.Table.{keyAt, Rising}
 use Rattle.table.specs.Bisection.{lowerBound}
 use Rattle.table.proofs.Table.{rising, entry-at}
-use Rattle.table.proofs.Bisection.{LowerBound, lower-bound}
+use Rattle.table.proofs.Bisection.{LowerBound}
 use Rattle.automaton.specs.Automaton.{Closed}
 use Rattle.automaton.proofs.Automaton.{arc-cases, arc-transition}
 use Rattle.net.specs.Net.{transitionCount}
 use Rattle.sequential.specs.Petri.{petriNet}
-use Rattle.sequential.specs.Words.{nodeCount, entryCount, entryKey, entryValue, entryWithKey, arcEntry, arc, arcNode, arcTransition}
+use Rattle.sequential.specs.Words.{nodeCount, entryCount, entryKey, entryValue, entryWithKey, arcEntry, arc, arcNode, arcTransition, arcKeys}
 use Rattle.sequential.proofs.Words.{words-rise}
 use Rattle.sequential.proofs.Entries.{arc-entry}
 use Rattle.sequential.proofs.Accepted.{closed}
 use Rattle.graph.specs.Readable.{ArcsReadable}
 use Rattle.graph.specs.Rows.{arcsStart, arcCountReply}
-use Rattle.graph.proofs.Starts.{arcs-end, counts-start, arcs-start-is}
-use Rattle.graph.proofs.HasRow.{has-row}
+use Rattle.graph.proofs.Starts.{arcs-start-is}
+use Rattle.graph.proofs.Bounds.{start-bound}
+use Rattle.graph.proofs.ArcCount.{arc-count-is}
 use Rattle.judge.proofs.Judged.{accepted-readable}
 use Rattle.reaction.specs.Call.{sheetGraph}
 use Rattle.react.specs.Rows.{IsNode, Starts, ArcOf, HasEntry, Rows, Mapped}
 
--- ---- bounds
-
-arc-count-is : (net sheet : List ℕ) → ArcsReadable net sheet → arcCountReply net sheet ≡ lowerBound sheet 2 (entryCount sheet) (nodeCount sheet * transitionCount net)
-unfolding arcCountReply
-arc-count-is net sheet r =
-    let s = r .sizes in
-    rw (has-row net sheet 0 r (s .some-node), ← counts-start net (nodeCount sheet) 0 (omega arith) (s .few-places), ← arcs-end net (nodeCount sheet) (s .few-nodes) (s .few-transitions))
-    (ap (lowerBound sheet 2 (entryCount sheet)) (omega arith))
-
-pub start-bound : {net sheet : List ℕ} → ArcsReadable net sheet → (key : ℕ) → LowerBound sheet 2 (entryCount sheet) key (lowerBound sheet 2 (entryCount sheet) key)
-start-bound {net} {sheet} r key = lower-bound sheet 2 (entryCount sheet) key (words-rise (petriNet net) sheet (r .holds)) (omega (arith, r .sizes .long))
-
 module _ {net sheet : List ℕ} (r : ArcsReadable net sheet) where
-  pub start-low : (key : ℕ) {x : ℕ} → x ≡ lowerBound sheet 2 (entryCount sheet) key → x ≤ 4096
-  start-low key e = omega (arith, start-bound r key .within, r .sizes .few-entries)
-
   -- every node has its start, and behind the last one all arcs end
   pub starts-all : (starts : List ℕ) → length starts ≡ 129 → ((n : ℕ) → n < nodeCount sheet → getD starts n 0 ≡ lowerBound sheet 2 (entryCount sheet) (n * transitionCount net))
       → {last : ℕ} → last ≡ arcCountReply net sheet → Starts net sheet (set starts (nodeCount sheet) last)
+  unfolding arcKeys
   starts-all starts long h {last} e = record {
     at = λ n l. byEqual n (nodeCount sheet)
         (λ q. rw q (getD-set-same starts (nodeCount sheet) last 0 (omega (arith, r .sizes .few-nodes)) ∙ e ∙ arc-count-is net sheet r))

@@ -2,6 +2,7 @@
 pub mod Lasting
 -- the arcs of a node
 pub mod ArcRows
+pub mod RowWalks
 -- loops
 pub mod StopMarks
 pub mod Spreading

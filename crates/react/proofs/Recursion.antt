@@ -1,5 +1,5 @@
 -- What the needs of the recursion come down to: a node that is await, kept, begun or closed, and the turns over its arcs.
-use Rattle.scan.proofs.Basics.{ℕ, _+_, _*_, _-_, _≤_, _<_, arith, _≡_, sym, _∙_, Bool, true, false, List, none, some, getD, set, length-set}
+use Rattle.scan.proofs.Basics.{ℕ, _+_, _-_, _≤_, _<_, arith, _≡_, sym, _∙_, Bool, true, false, List, none, getD, set, length-set}
 use Prim.Native.Nat.{min, max}
 use Rattle.net.specs.Net.{transitionCount}
 use Rattle.sequential.specs.Words.{nodeCount, entryKey, entryValue}
@@ -15,10 +15,11 @@ use Rattle.reaction.proofs.Unique.{depth-falls}
 use Rattle.reaction.proofs.Turns.{turn-start, turn-skip, turn-arc, turn-end}
 use Rattle.reaction.proofs.Memo.{unvisited-falls, unvisited-after, noted-hit, noted-begun, noted-lower, noted-after, after-none, after-trans, after-closed}
 use Rattle.reaction.proofs.Times.{way, node-times}
-use Rattle.react.specs.Rows.{IsNode, ArcOf, HasEntry, Mapped}
+use Rattle.react.specs.Rows.{IsNode}
 use Rattle.react.specs.Times.{durationOf, pickOf, startOf, timeOf, depthOf, Ready, Entered, Opened, Worked}
-use Rattle.react.proofs.ArcRows.{whole, few-nodes, key-low, key-high, arc-at, rows, first-key, has-entry, passes, Walked, walk-start, walk-end, walk-reach, walk-gap, walk-more}
+use Rattle.react.proofs.ArcRows.{whole, few-nodes, passes}
 use Rattle.react.proofs.StopMarks.{await-at, busy-at}
+use Rattle.react.proofs.RowWalks.{Walks, walks-start, none-behind, within, reaches, none-between, walks-more, arc, target}
 
 -- ---- the worst time, or the best
 
@@ -102,11 +103,9 @@ module _ {net sheet words starts awaits : List ℕ} (r : Ready net sheet words s
 pub record Going (net sheet words starts awaits : List ℕ) (latest : Bool) (n : ℕ) (old : List ℕ) (first transitions : ℕ) (memo : List ℕ) (time i : ℕ) : Type 0 where
   pub ready : Ready net sheet words starts awaits
   pub opened : Opened net sheet words latest n old
-  pub first-is : first ≡ n * transitionCount net
-  pub size : transitions ≡ transitionCount net
   pub after : After (timeOf net sheet words latest) (depthOf net sheet words) (nodeCount sheet) old memo
   pub upto : ℕ
-  pub walked : Walked net sheet starts n i upto
+  pub walks : Walks net sheet starts n first transitions i upto
   pub value : time ≡ valuesOver (sheetGraph net sheet) (sheetAwait net sheet) (pickOf latest) (durationOf words latest) (timeOf net sheet words latest) (startOf latest) n upto
 
 pub goes-start : {net sheet words starts awaits : List ℕ} {latest : Bool} {n : ℕ} {memo : List ℕ} {first transitions time : ℕ}
@@ -115,19 +114,14 @@ pub goes-start : {net sheet words starts awaits : List ℕ} {latest : Bool} {n :
 goes-start {memo = memo} r o f s v = record {
   ready = r;
   opened = o;
-  first-is = f ∙ first-key (r .judged .mapped) (o .node);
-  size = s;
   after = after-none _ _ _ memo (o .keeps .told);
   upto = 0;
-  walked = walk-start (r .judged .mapped) (o .node);
+  walks = walks-start (r .judged .mapped) (o .node) f s;
   value = v ∙ sym (turn-start _ _ _ _ _ _ _);
 }
 
 module _ {net sheet words starts awaits : List ℕ} {latest : Bool} {n : ℕ} {old : List ℕ} {first transitions : ℕ} {memo : List ℕ} {time i : ℕ}
     (g : Going net sheet words starts awaits latest n old first transitions memo time i) where
-  map : Mapped net sheet starts
-  map = g .ready .judged .mapped
-
   pub goes-fewer : unvisited memo ≤ unvisited old
   goes-fewer = unvisited-after _ _ _ old memo (g .after)
 
@@ -140,67 +134,42 @@ module _ {net sheet words starts awaits : List ℕ} {latest : Bool} {n : ℕ} {o
 
   pub goes-end : getD starts (n + 1) 0 ≤ i → Worked net sheet words latest n old memo time
   goes-end l = record {
-    value = skip (transitionCount net) (g .walked .few) (λ v a b. walk-end map (g .opened .node) (g .walked) l v a)
+    value = skip (transitionCount net) (g .walks .walked .few) (λ v a b. none-behind (g .walks) l v a)
         ∙ turns-end (g .ready) latest (startOf latest) n (g .opened .node) (g .opened .busy);
     after = g .after;
   }
 
-  module _ (k : i < getD starts (n + 1) 0) where
-    here : ArcOf starts n i
-    here = record { begun = g .walked .begun; ends = k }
+  pub shape : ShapePasses words transitions
+  shape = rw (g .walks .size) (g .ready .passed .durations-pass .shape)
 
-    pub goes-entry : HasEntry sheet i
-    goes-entry = has-entry (rows map) (g .opened .node) here
+  module _ (k : i < getD starts (n + 1) 0) {t : ℕ} (e : t ≡ entryKey sheet i - first) {x : ℕ} (q : x ≡ entryValue sheet i) where
+    pub enters : Entered net sheet words latest x memo
+    enters = record {
+      node = target (g .walks) k e q;
+      long = g .after .size ∙ g .opened .long;
+      keeps = noted-lower _ _ _ _ _ memo (noted-after _ _ _ _ old memo (g .opened .keeps) (g .after))
+          (depth-falls (sheetGraph net sheet) (sheetAwait net sheet) (whole (g .walks .mapped)) (g .ready .passed .ending) (way net sheet words (g .ready .passed))
+          n t x (g .opened .node) (g .opened .busy) (arc (g .walks) k e q));
+    }
 
-    pub goes-first : first ≤ entryKey sheet i
-    goes-first = omega (arith, g .first-is, key-low map (g .opened .node) here)
+    module _ {ahead : ℕ} {new : List ℕ} (w : Worked net sheet words latest x memo new ahead) {own : ℕ} (d : own ≡ durationOf words latest t) where
+      pub sum-fits : own + ahead ≤ 128000000
+      sum-fits = sum-most (g .ready .passed) latest (omega (arith, within (g .walks) k e)) (target (g .walks) k e q) d (w .value)
 
-    pub shape : ShapePasses words transitions
-    shape = rw (g .size) (g .ready .passed .durations-pass .shape)
-
-    module _ {t : ℕ} (e : t ≡ entryKey sheet i - first) where
-      key-is : entryKey sheet i ≡ n * transitionCount net + t
-      key-is = omega (arith, e, g .first-is, goes-first)
-
-      pub within : t < transitions
-      within = omega (arith, g .size, key-high map (g .opened .node) here, key-is)
-
-      module _ {x : ℕ} (q : x ≡ entryValue sheet i) where
-        arc : sheetGraph net sheet .arc n t ≡ some x
-        arc = rw q (arc-at map (g .opened .node) here t key-is)
-
-        target-node : IsNode sheet x
-        target-node = whole map .lands n t x (g .opened .node) arc
-
-        pub enters : Entered net sheet words latest x memo
-        enters = record {
-          node = target-node;
-          long = g .after .size ∙ g .opened .long;
-          keeps = noted-lower _ _ _ _ _ memo (noted-after _ _ _ _ old memo (g .opened .keeps) (g .after))
-              (depth-falls (sheetGraph net sheet) (sheetAwait net sheet) (whole map) (g .ready .passed .ending) (way net sheet words (g .ready .passed))
-              n t x (g .opened .node) (g .opened .busy) arc);
-        }
-
-        module _ {ahead : ℕ} {new : List ℕ} (w : Worked net sheet words latest x memo new ahead) {own : ℕ} (d : own ≡ durationOf words latest t) where
-          pub sum-fits : own + ahead ≤ 128000000
-          sum-fits = sum-most (g .ready .passed) latest (omega (arith, within, g .size)) target-node d (w .value)
-
-          pub goes-arc : {next : ℕ} → next ≡ pickOf latest time (own + ahead) → Going net sheet words starts awaits latest n old first transitions new next (i + 1)
-          goes-arc f =
-              let v = w .value in
-              let p = skip t (walk-reach map (g .opened .node) (g .walked) here t key-is) (walk-gap map (g .opened .node) (g .walked) here t key-is) in
-              let z = turn-arc (sheetGraph net sheet) (sheetAwait net sheet) (pickOf latest) (durationOf words latest) (timeOf net sheet words latest) (startOf latest) n t x arc
-              (pick-start latest _ (omega (arith, d, v, sum-fits))) in
-              record {
-                ready = g .ready;
-                opened = g .opened;
-                first-is = g .first-is;
-                size = g .size;
-                after = after-trans _ _ _ old memo new (g .after) (w .after);
-                upto = t + 1;
-                walked = walk-more map (g .opened .node) (g .walked) here t key-is;
-                value = f ∙ rw (d, v, p) (sym z);
-              }
+      pub goes-arc : {next : ℕ} → next ≡ pickOf latest time (own + ahead) → Going net sheet words starts awaits latest n old first transitions new next (i + 1)
+      goes-arc f =
+          let v = w .value in
+          let p = skip t (reaches (g .walks) k e) (none-between (g .walks) k e) in
+          let z = turn-arc (sheetGraph net sheet) (sheetAwait net sheet) (pickOf latest) (durationOf words latest) (timeOf net sheet words latest) (startOf latest) n t x (arc (g .walks) k e q)
+          (pick-start latest _ (omega (arith, d, v, sum-fits))) in
+          record {
+            ready = g .ready;
+            opened = g .opened;
+            after = after-trans _ _ _ old memo new (g .after) (w .after);
+            upto = t + 1;
+            walks = walks-more (g .walks) k e;
+            value = f ∙ rw (d, v, p) (sym z);
+          }
 
 -- ---- a time is small
 

@@ -1,5 +1,5 @@
 -- The report as it is written: the pairs of an await node along its arcs, and the rows of all await nodes.
-use Rattle.scan.proofs.Basics.{ℕ, _+_, _*_, _-_, _≤_, _<_, arith, _≡_, refl, _∙_, true, false, none, some, List, [], _∷_, getD}
+use Rattle.scan.proofs.Basics.{ℕ, _+_, _-_, _≤_, _<_, arith, _≡_, refl, _∙_, true, false, none, List, [], _∷_, getD}
 use Rattle.scan.specs.Placed.{placed}
 use Rattle.net.specs.Net.{transitionCount}
 use Rattle.sequential.specs.Words.{nodeCount, entryKey, entryValue}
@@ -8,32 +8,29 @@ use Rattle.encoding.specs.Rows.{Appended}
 use Rattle.reaction.specs.ToGo.{best, worst}
 use Rattle.reaction.specs.Words.{ShapePasses, strung, rowAt, report}
 use Rattle.reaction.specs.Call.{sheetGraph, reportWords}
-use Rattle.react.specs.Rows.{IsNode, ArcOf, HasEntry}
+use Rattle.react.specs.Rows.{IsNode}
 use Rattle.react.specs.Times.{durationOf, timeOf, Ready, TimesOf}
 use Rattle.react.specs.Report.{Writable}
-use Rattle.react.proofs.ArcRows.{whole, few-nodes, key-low, key-high, arc-at, rows, first-key, has-entry, Walked, walk-start, walk-end, walk-reach, walk-gap, walk-more}
+use Rattle.react.proofs.ArcRows.{few-nodes}
 use Rattle.react.proofs.StopMarks.{await-at, busy-at}
 use Rattle.react.proofs.Recursion.{sum-most}
 use Rattle.react.proofs.RowPairs.{strung-none, strung-hit, strung-miss, pairs, row, skip, row-busy, pair-some, rowsOf}
+use Rattle.react.proofs.RowWalks.{Walks, walks-start, none-behind, within, reaches, none-between, walks-more, arc, target}
 
 -- ---- one row as it is written: the arcs before entry i
 
 pub record RowWriting (net sheet words starts best worst : List ℕ) (n : ℕ) (out₀ : List ℕ) (at first transitions : ℕ) (out : List ℕ) (next i : ℕ) : Type 0 where
   pub writable : Writable net sheet words starts best worst n
-  pub first-is : first ≡ n * transitionCount net
-  pub size : transitions ≡ transitionCount net
   pub upto : ℕ
-  pub walked : Walked net sheet starts n i upto
+  pub walks : Walks net sheet starts n first transitions i upto
   pub written : Appended out₀ at (strung (pairs net sheet words n) upto) next out
 
 pub row-start : {net sheet words starts best worst : List ℕ} {n : ℕ} {out : List ℕ} {at first transitions : ℕ} → Writable net sheet words starts best worst n
     → first ≡ arcsStart net n → transitions ≡ transitionCount net → RowWriting net sheet words starts best worst n out at first transitions out at (getD starts n 0)
 row-start v f s = record {
   writable = v;
-  first-is = f ∙ first-key (v .mapped) (v .node);
-  size = s;
   upto = 0;
-  walked = walk-start (v .mapped) (v .node);
+  walks = walks-start (v .mapped) (v .node) f s;
   written = strung-none _ _ _;
 }
 
@@ -47,59 +44,40 @@ module _ {net sheet words starts best worst : List ℕ} {n : ℕ} {out₀ : List
 
   pub row-end : getD starts (n + 1) 0 ≤ i → Appended out₀ at (row net sheet words n) next out
   unfolding rowAt
-  row-end l = passed-over (transitionCount net) (g .walked .few) (λ u a b. walk-end (v .mapped) (v .node) (g .walked) l u a)
+  row-end l = passed-over (transitionCount net) (g .walks .walked .few) (λ u a b. none-behind (g .walks) l u a)
 
-  module _ (k : i < getD starts (n + 1) 0) where
-    here : ArcOf starts n i
-    here = record { begun = g .walked .begun; ends = k }
+  pub row-shape : ShapePasses words transitions
+  row-shape = rw (g .walks .size) (v .passed .durations-pass .shape)
 
-    pub row-entry : HasEntry sheet i
-    row-entry = has-entry (rows (v .mapped)) (v .node) here
+  module _ (k : i < getD starts (n + 1) 0) {t : ℕ} (e : t ≡ entryKey sheet i - first) {x : ℕ} (q : x ≡ entryValue sheet i) where
+    is-node : IsNode sheet x
+    is-node = target (g .walks) k e q
 
-    pub row-first : first ≤ entryKey sheet i
-    row-first = omega (arith, g .first-is, key-low (v .mapped) (v .node) here)
+    few : t < transitionCount net
+    few = omega (arith, within (g .walks) k e, g .walks .size)
 
-    pub row-shape : ShapePasses words transitions
-    row-shape = rw (g .size) (v .passed .durations-pass .shape)
+    pub row-low : x < 128
+    row-low = omega (arith, is-node, few-nodes (v .mapped))
 
-    module _ {t : ℕ} (e : t ≡ entryKey sheet i - first) where
-      key-is : entryKey sheet i ≡ n * transitionCount net + t
-      key-is = omega (arith, e, g .first-is, row-first)
+    module _ {own : ℕ} where
+      pub early-fits : own ≡ durationOf words false t → own + getD best x 0 ≤ 128000000
+      early-fits d = sum-most (v .passed) false few is-node d (v .best-told .told x is-node)
 
-      pub row-within : t < transitions
-      row-within = omega (arith, g .size, key-high (v .mapped) (v .node) here, key-is)
+      pub late-fits : own ≡ durationOf words true t → own + getD worst x 0 ≤ 128000000
+      late-fits d = sum-most (v .passed) true few is-node d (v .worst-told .told x is-node)
 
-      module _ {x : ℕ} (q : x ≡ entryValue sheet i) where
-        arc : sheetGraph net sheet .arc n t ≡ some x
-        arc = rw q (arc-at (v .mapped) (v .node) here t key-is)
-
-        target : IsNode sheet x
-        target = whole (v .mapped) .lands n t x (v .node) arc
-
-        pub row-low : x < 128
-        row-low = omega (arith, target, few-nodes (v .mapped))
-
-        module _ {own : ℕ} where
-          pub early-fits : own ≡ durationOf words false t → own + getD best x 0 ≤ 128000000
-          early-fits d = sum-most (v .passed) false (omega (arith, row-within, g .size)) target d (v .best-told .told x target)
-
-          pub late-fits : own ≡ durationOf words true t → own + getD worst x 0 ≤ 128000000
-          late-fits d = sum-most (v .passed) true (omega (arith, row-within, g .size)) target d (v .worst-told .told x target)
-
-        pub row-more : {a b : ℕ} → a ≡ durationOf words false t → b ≡ durationOf words true t → {r : ℕ} {out₂ : List ℕ}
-            → Appended out next ((a + getD best x 0) ∷ (b + getD worst x 0) ∷ []) r out₂ → RowWriting net sheet words starts best worst n out₀ at first transitions out₂ r (i + 1)
-        unfolding durationOf timeOf
-        row-more d f h =
-            let p = passed-over t (walk-reach (v .mapped) (v .node) (g .walked) here t key-is) (walk-gap (v .mapped) (v .node) (g .walked) here t key-is) in
-            record {
-              writable = v;
-              first-is = g .first-is;
-              size = g .size;
-              upto = t + 1;
-              walked = walk-more (v .mapped) (v .node) (g .walked) here t key-is;
-              written = strung-hit (pairs net sheet words n) t p (pair-some net sheet words n (v .awaits) t x arc)
-                  (rw (← d, ← f, ← v .best-told .told x target, ← v .worst-told .told x target) h);
-            }
+    pub row-more : {a b : ℕ} → a ≡ durationOf words false t → b ≡ durationOf words true t → {r : ℕ} {out₂ : List ℕ}
+        → Appended out next ((a + getD best x 0) ∷ (b + getD worst x 0) ∷ []) r out₂ → RowWriting net sheet words starts best worst n out₀ at first transitions out₂ r (i + 1)
+    unfolding durationOf timeOf
+    row-more d f h =
+        let p = passed-over t (reaches (g .walks) k e) (none-between (g .walks) k e) in
+        record {
+          writable = v;
+          upto = t + 1;
+          walks = walks-more (g .walks) k e;
+          written = strung-hit (pairs net sheet words n) t p (pair-some net sheet words n (v .awaits) t x (arc (g .walks) k e q))
+              (rw (← d, ← f, ← v .best-told .told x is-node, ← v .worst-told .told x is-node) h);
+        }
 
 -- ---- all rows: the nodes below n
 

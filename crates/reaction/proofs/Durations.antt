@@ -7,7 +7,6 @@ use Rattle.refusal.proofs.Checks.{Decides, Decided, Lawful, Tells, finding-tell
 use Rattle.reaction.specs.Words.{durationCount, early, late, mostDuration, ShapePasses, DurationPasses}
 use Rattle.reaction.specs.Checks.{durationChecks}
 use Rattle.reaction.specs.Tests.{shapePasses, durationFails, durationTests, durationsFault}
-use Rattle.reaction.specs.Known.{DurationsPass}
 
 module _ (words : List ℕ) where
   pub shape↔ : (k : ℕ) → (shapePasses words k ≡ true) ↔ ShapePasses words k
@@ -35,9 +34,6 @@ module _ (words : List ℕ) where
     pub durations-tell : Tells (durationsFault words k) (durationChecks words k)
     unfolding durationsFault
     durations-tell = finding-tells Unit (durationChecks words k) (durationTests words k) durations-lawful tt
-
-    pub durations-pass : durationsFault words k ≡ none → DurationsPass words k
-    durations-pass h = let (s, (e, u)) = durations-tell .passes .0 h in record { shape = s; each = λ t l. e t l .0 }
 
     -- ---- the paths of the code
 

@@ -1,5 +1,5 @@
 -- Verdicts that follow a list of checks, one list after the other, and the numbers that they refuse by.
-use Rattle.scan.proofs.Basics.{ℕ, _≤_, _<_, arith, _≡_, refl, ap, _∙_, _⊎_, inl, inr, ⊎-elim, _↔_, Bool, true, not, _&&_, eqb, Option, List, [], _∷_, _++_}
+use Rattle.scan.proofs.Basics.{ℕ, _≤_, _<_, arith, _≡_, ap, _∙_, _⊎_, inl, inr, ⊎-elim, _↔_, Bool, true, not, _&&_, eqb, Option, List, [], _∷_, _++_}
 use Rattle.scan.proofs.Tests.{eqb-false, not-true, and-left, and-right, and-both}
 use Rattle.scan.specs.Scan.{orElse}
 use Rattle.refusal.specs.Verdict.{verdictOf, andThen}
@@ -60,13 +60,6 @@ judges-then v w cs ds j k = record {
         (⊎-elim (λ a. inl (j .refuses r .0 a)) (λ (a, b). let p = j .accepts .0 a in inr (p, k p .refuses r .0 b)) (then-cases v w r e)),
     λ f. ⊎-elim (λ a. let e = j .refuses r .1 a in then-refused v w r e ∙ e) (λ (p, b). then-next v w (j .accepts .1 p) ∙ k p .refuses r .1 b) (fail-append cs ds r .0 f),
   );
-}
-
--- nothing is asked
-pub judges-nothing : Judges Accepted []
-judges-nothing = record {
-  accepts = (λ e. tt, λ u. refl);
-  refuses = λ r. (λ e. let z : _≡_ {A = ℕ} 0 1 = cc in absurd (omega arith), λ b. absurd b);
 }
 
 -- ---- numbers

@@ -1,5 +1,5 @@
 -- Verdicts and what they tell: a finding that refuses, and one check after the other.
-use Rattle.scan.proofs.Basics.{ℕ, _<_, _≡_, refl, sym, ap, _∙_, _⊎_, inl, inr, Option, none, some, [], _∷_, _++_, replicate}
+use Rattle.scan.proofs.Basics.{ℕ, _<_, arith, _≡_, refl, sym, ap, _∙_, _⊎_, inl, inr, Option, none, some, [], _∷_, _++_, replicate}
 use Rattle.scan.specs.Scan.{orElse, first}
 use Rattle.scan.proofs.First.{first-hit, orElse-hit, orElse-next}
 use Rattle.refusal.specs.Refusal.{positionTold, told, plainOf, numberOf, positionOf, kindOf, indexOf}
@@ -9,6 +9,9 @@ use Rattle.refusal.specs.declared.Position.the-variants.{Nothing, Entry,
 use Rattle.refusal.specs.declared.Refusal.{Refusal}
 use Rattle.refusal.specs.declared.Verdict.{Verdict}
 use Rattle.refusal.specs.declared.Verdict.the-variants.{Accepted, Refused}
+
+pub accepted-refused {ℓ} : {C : Type ℓ} (v : Verdict) (r : Refusal) → v ≡ Accepted → v ≡ Refused r → C
+accepted-refused v r p q = let z : _≡_ {A = ℕ} 0 1 = cc in absurd (omega arith)
 
 -- ---- what is found
 

@@ -7,7 +7,7 @@ use Rattle.refusal.specs.Verdict.{verdictOf}
 use Rattle.refusal.specs.declared.Refusal.{Refusal}
 use Rattle.refusal.specs.declared.Verdict.{Verdict}
 use Rattle.refusal.specs.declared.Verdict.the-variants.{Accepted, Refused}
-use Rattle.refusal.proofs.Verdicts.{answer-left, then-next, then-refused}
+use Rattle.refusal.proofs.Verdicts.{answer-left, then-next, then-refused, accepted-refused}
 use Rattle.refusal.proofs.Judges.{judges-found, judges-then}
 use Rattle.net.specs.Net.{placeCount}
 use Rattle.net.specs.Checks.{netChecks}
@@ -21,7 +21,6 @@ use Rattle.call.proofs.Judged.{Lawful}
 use Rattle.call.specs.Index.{plainIndex}
 use Rattle.call.specs.declared.Index.{Index}
 use Rattle.schedule.specs.Firing.{lastEntry}
-use Rattle.schedule.proofs.Walks.{refused-accepted}
 use Rattle.replay.specs.Log.{firings, moved}
 use Rattle.replay.specs.Checks.{replayChecks}
 use Rattle.replay.specs.Tests.{logFault}
@@ -37,14 +36,14 @@ use Rattle.replay.proofs.Logs.{replay-tells, replay-fault}
 module _ (net sheet log : List ℕ) {v : Verdict} {x : Index} where
   pub sheet-refused : {r : Refusal} → v ≡ scheduleReply net sheet → v ≡ Refused r → LogChecked net sheet log v x
   unfolding replayVerdict
-  sheet-refused e h = record { reply = e ∙ sym (then-refused (scheduleReply net sheet) _ _ (sym e ∙ h)); entry = λ a. refused-accepted _ _ h a }
+  sheet-refused e h = record { reply = e ∙ sym (then-refused (scheduleReply net sheet) _ _ (sym e ∙ h)); entry = λ a. accepted-refused _ _ a h }
 
   module _ (a : scheduleReply net sheet ≡ Accepted) where
     pub log-refused : {r : Refusal} → v ≡ verdictOf (logFault log) → v ≡ Refused r → LogChecked net sheet log v x
     unfolding replayVerdict
     log-refused e h = record {
       reply = answer-left (logFault log) _ v _ e h ∙ ap verdictOf (sym (replay-fault (petriNet net) sheet log)) ∙ sym (then-next _ _ a);
-      entry = λ b. refused-accepted _ _ h b;
+      entry = λ b. accepted-refused _ _ b h;
     }
 
     pub firings-judged : logFault log ≡ none → LogFollowed (petriNet net) sheet log v x → LogChecked net sheet log v x

@@ -10,6 +10,7 @@ use Rattle.refusal.specs.Verdict.{verdictOf}
 use Rattle.refusal.specs.declared.Position.the-variants.{Record}
 use Rattle.refusal.specs.declared.Verdict.{Verdict}
 use Rattle.refusal.specs.declared.Verdict.the-variants.{Accepted, Refused}
+use Rattle.refusal.proofs.Verdicts.{accepted-refused}
 use Rattle.sequential.specs.Petri.{petriNet}
 use Rattle.sequential.specs.Words.{entryValue, arcEntry}
 use Rattle.graph.specs.Readable.{ArcsReadable}
@@ -18,7 +19,7 @@ use Rattle.call.specs.Index.{indexFrom}
 use Rattle.call.specs.declared.Index.{Index}
 use Rattle.call.specs.declared.Index.the-variants.{Known, Missing}
 use Rattle.schedule.specs.Firing.{nodeAfter, entryAfter}
-use Rattle.schedule.proofs.Walks.{refused-accepted, entry-fits, after-none, after-more, entry-none, entry-more}
+use Rattle.schedule.proofs.Walks.{entry-fits, after-none, after-more, entry-none, entry-more}
 use Rattle.graph.proofs.LookUp.{arc-found, arc-missing}
 use Rattle.replay.specs.Log.{firingCount, firedAt, loggedAt, firingsTo, firings}
 use Rattle.replay.specs.Checks.{leads}
@@ -76,7 +77,7 @@ module _ {net sheet log : List ℕ} {n node : ℕ} {entry : Index} {i : ℕ} (w 
         → LogFollowed (petriNet net) sheet log v entry
     stopped number f e = record {
       reply = e ∙ ap verdictOf (sym (first-hit _ i _ (w .passed) f (firingCount log) (omega (arith, w .all))));
-      entry = λ h. refused-accepted _ _ e h;
+      entry = λ h. accepted-refused _ _ h e;
     }
 
     pub not-offered : {v : Verdict} → arcLookUp net sheet node (getD log (1 + i) 0) ≡ Nothing → v ≡ Refused (refusal 20 (Record i))

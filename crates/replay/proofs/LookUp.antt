@@ -6,29 +6,23 @@ use lib.ListN.{getD-replicate}
 use lib.Seq.{getD-set-same, getD-set-other}
 use Rattle.scan.proofs.Tests.{lt-ltb, le-ltb}
 use Rattle.table.specs.Table.{keyAt}
-use Rattle.table.specs.Bisection.{lowerBound, foundOf}
+use Rattle.table.specs.Bisection.{foundOf}
 use Rattle.table.specs.declared.Found.the-variants.{At, Nothing}
 use Rattle.table.proofs.Table.{entry-at}
-use Rattle.table.proofs.Bisection.{LowerBound, lower-bound}
 use Rattle.net.specs.Net.{transitionCount}
 use Rattle.sequential.specs.Petri.{petriNet}
 use Rattle.sequential.specs.Words.{nodeCount, entryCount, entryKey, entryValue, entryWithKey, arcEntry}
-use Rattle.sequential.proofs.Words.{words-rise, words-fit}
+use Rattle.sequential.proofs.Words.{words-rise}
 use Rattle.graph.specs.Readable.{ArcsReadable}
 use Rattle.graph.specs.Rows.{arcsStart}
 use Rattle.graph.specs.LookUp.{arcLookUp}
 use Rattle.graph.proofs.Starts.{arcs-start-is}
 use Rattle.graph.proofs.LookUp.{look-up-right, arc-found}
+use Rattle.graph.proofs.Bounds.{start-bound, bound-low}
 use Rattle.schedule.proofs.Walks.{target-node, entry-key}
 use Rattle.replay.specs.LookUp.{FirstKeys, LooksUp, Ranks, EntryThere}
 
 module _ {net sheet : List ℕ} (r : ArcsReadable net sheet) where
-  arcs-bound : (key : ℕ) → LowerBound sheet 2 (entryCount sheet) key (lowerBound sheet 2 (entryCount sheet) key)
-  arcs-bound key = lower-bound sheet 2 (entryCount sheet) key (words-rise (petriNet net) sheet (r .holds)) (words-fit (petriNet net) sheet (r .holds))
-
-  pub arc-start-low : (key : ℕ) {x : ℕ} → x ≡ lowerBound sheet 2 (entryCount sheet) key → x ≤ 4096
-  arc-start-low key e = omega (arith, arcs-bound key .within, r .sizes .few-entries)
-
   pub first-low : {keys : List ℕ} → FirstKeys net sheet keys → (n : ℕ) → n < nodeCount sheet → getD keys n 0 ≤ 4096
   first-low k n l =
       let s = r .sizes in
@@ -49,7 +43,7 @@ module _ {net sheet keys starts : List ℕ} {transitions node : ℕ} (w : LooksU
   key-low = first-low (w .readable) (w .keys-are) node (w .at-node)
 
   pub start-low : getD starts node 0 ≤ 4096
-  start-low = arc-start-low (w .readable) (arcsStart net node) (w .starts-are .start node (w .at-node))
+  start-low = bound-low (w .readable) (arcsStart net node) (w .starts-are .start node (w .at-node))
 
   module _ (t : ℕ) where
     pub no-transition : transitions ≤ t → Nothing ≡ arcLookUp net sheet node t
@@ -73,7 +67,7 @@ module _ {net sheet keys starts : List ℕ} {transitions node : ℕ} (w : LooksU
     unfolding entryKey
     in-row {e} h =
         let (l, k) = entry-key (petriNet net) sheet node t e (arc-found net sheet (w .readable) node t e h) in
-        let b = arcs-bound (w .readable) (arcsStart net node) in
+        let b = start-bound (w .readable) (arcsStart net node) in
         let q = w .starts-are .start node (w .at-node) in (
           elim (decLt e (getD starts node 0)) [ yes m ↦ absurd (let a = b .below e (omega (arith, q)) in omega (arith, k, first-key)) | no m ↦ omega arith ],
           omega (arith, l, w .readable .sizes .few-entries),

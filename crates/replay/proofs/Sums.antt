@@ -5,7 +5,7 @@ use native.Mathlib.Nat.{add-mul, mul-le-mul, suc-mul, zero-mul, one-mul}
 use lib.Seq.{getD-set-same, getD-set-other}
 use Rattle.scan.proofs.Tests.{eqb-true, eqb-false, eq-eqb, ne-eqb, byTest, lt-suc-cases}
 use Rattle.scan.specs.Scan.{bit, count, sum, tabulate}
-use Rattle.scan.proofs.Sum.{sum-more, sum-ext, sum-plus}
+use Rattle.scan.proofs.Sum.{sum-more, sum-ext, sum-plus, sum-zeros}
 use Rattle.scan.proofs.Count.{count-more, count-le}
 use Rattle.scan.proofs.Tabulate.{tabulate-at, tabulate-ext}
 use Rattle.refusal.specs.Limits.{mostFirings, mostCount}
@@ -23,9 +23,6 @@ pub sum-most : (f : ℕ → ℕ) (b n : ℕ) → ((i : ℕ) → i < n → f i �
 unfolding sum
 sum-most f b zero h = zero-le
 sum-most f b (suc n) h = rw (suc-mul n b) (omega (arith, h n (omega arith), sum-most f b n (λ i l. h i (omega arith))))
-
-sum-zeros : (f : ℕ → ℕ) (n : ℕ) → ((i : ℕ) → i < n → f i ≡ 0) → sum f n ≡ 0
-sum-zeros f n h = omega (arith, sum-most f 0 n (λ i l. omega (arith, h i l)))
 
 -- f at x alone
 one : (ℕ → ℕ) → ℕ → ℕ → ℕ

@@ -1,5 +1,5 @@
 -- How many indices pass: subsets, proper subsets, rows, and the pigeonhole principle.
-use Rattle.scan.proofs.Basics.{ℕ, zero, suc, _+_, _≤_, _<_, arith, _≡_, refl, ⊎-elim, Bool, true, false, eqb}
+use Rattle.scan.proofs.Basics.{ℕ, zero, suc, _+_, _≤_, _<_, arith, _≡_, refl, ⊎-elim, _↔_, Bool, true, false, ltb, eqb}
 use Prim.Native.Nat.{zero-le}
 use native.Mathlib.Nat.{add-zero, add-suc}
 use native.Mathlib.Numerals.{add-one}
@@ -12,6 +12,16 @@ pub bit-le : (b : Bool) → bit b ≤ 1
 unfolding bit
 bit-le true = omega arith
 bit-le false = omega arith
+
+pub bit-one : (b : Bool) → (bit b ≡ 1) ↔ (b ≡ true)
+unfolding bit
+bit-one true = (λ e. refl, λ e. refl)
+bit-one false = (λ e. absurd (omega arith), λ e. true-false false e refl)
+
+pub bit-mark : (b : Bool) → ltb 0 (bit b) ≡ b
+unfolding bit
+bit-mark true = refl
+bit-mark false = refl
 
 bit-mono : (a b : Bool) → (a ≡ true → b ≡ true) → bit a ≤ bit b
 unfolding bit

@@ -1,8 +1,8 @@
 -- Every index passes, some index passes.
-use Rattle.scan.proofs.Basics.{ℕ, zero, suc, _+_, _<_, arith, _≡_, refl, ⊎-elim, Bool, true, false}
+use Rattle.scan.proofs.Basics.{ℕ, zero, suc, _+_, _<_, arith, _≡_, refl, sym, _∙_, ⊎-elim, Bool, true, false, _&&_}
 use native.Mathlib.Numerals.{add-one}
 use Rattle.scan.specs.Scan.{all, any}
-use Rattle.scan.proofs.Tests.{true-false, not-true→false, and-left, and-right, and-both, or-left, or-right, or-cases, lt-suc-cases}
+use Rattle.scan.proofs.Tests.{true-false, not-true→false, and-left, and-right, and-both, and-true, or-left, or-right, or-cases, lt-suc-cases}
 
 pub all-out : (f : ℕ → Bool) (n : ℕ) → all f n ≡ true → (i : ℕ) → i < n → f i ≡ true
 unfolding all
@@ -51,6 +51,14 @@ any-ext f g (suc n) h = cc (h n (omega arith), any-ext f g n (λ i l. h i (omega
 pub all-more : (f : ℕ → Bool) (i : ℕ) → all f i ≡ true → f i ≡ true → all f (i + 1) ≡ true
 unfolding all
 all-more f i h e = rw (add-one) (and-both (all f i) (f i) h e)
+
+pub all-next : (f : ℕ → Bool) (i : ℕ) → all f (i + 1) ≡ (all f i && f i)
+unfolding all
+all-next f i = rw add-one refl
+
+-- an index that passes keeps what all before it say
+pub all-keeps : (f : ℕ → Bool) (i : ℕ) → f i ≡ true → all f i ≡ all f (i + 1)
+all-keeps f i e = sym (all-next f i ∙ rw e (and-true (all f i)))
 
 pub any-none-yet : (f : ℕ → Bool) → any f 0 ≡ false
 unfolding any

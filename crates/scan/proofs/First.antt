@@ -1,5 +1,5 @@
 -- The first finding of a scan: what each turn of a loop shows, what a loop that runs out shows, what one left early shows.
-use Rattle.scan.proofs.Basics.{ℕ, zero, suc, _+_, _≤_, _<_, arith, _≡_, refl, _⊎_, inl, inr, ⊎-elim, Bool, true, false, Option, none, some}
+use Rattle.scan.proofs.Basics.{ℕ, zero, suc, _+_, _≤_, _<_, arith, _≡_, refl, _⊎_, inl, inr, ⊎-elim, Bool, true, false, Option, none, some, Option·map}
 use native.Mathlib.Numerals.{add-one}
 use native.Mathlib.Decide.{le-ind}
 use Rattle.scan.specs.Scan.{orElse, when, found, first}
@@ -8,6 +8,11 @@ use Rattle.scan.proofs.Tests.{lt-suc-cases}
 module _ {A : Type 0} where
   pub none-some {ℓ} : {C : Type ℓ} (o : Option A) (a : A) → o ≡ none → o ≡ some a → C
   none-some o a p q = let z : _≡_ {A = ℕ} 0 1 = cc in absurd (omega arith)
+
+  pub found-map : {B : Type 0} (f : A → B) (o : Option A) → found (Option·map f o) ≡ found o
+  unfolding found
+  found-map f none = refl
+  found-map f (some a) = refl
 
   -- ---- two findings
 

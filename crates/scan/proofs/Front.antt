@@ -1,8 +1,8 @@
 -- A buffer whose front is cleared.
 -- a front that the buffer has
-use Rattle.scan.proofs.Basics.{ℕ, _+_, _≤_, _<_, arith, _≡_, sym, ap, _∙_, List, _++_, length, drop, set, replicate, length-append, length-replicate}
+use Rattle.scan.proofs.Basics.{ℕ, zero, suc, _+_, _≤_, _<_, arith, _≡_, refl, sym, ap, _∙_, List, _++_, length, getD, drop, set, replicate}
 use Prim.Native.Nat.{min}
-use lib.ListN.{length-drop, drop-of-length-le}
+use lib.ListN.{drop-of-length-le}
 use borrow.Author.Fill.{fill-none, fill-more}
 use Rattle.scan.specs.Front.{cleared}
 
@@ -10,9 +10,11 @@ pub cleared-whole : (n : ℕ) (words : List ℕ) → n ≤ length words → clea
 unfolding cleared
 cleared-whole n words l = let e : min n (length words) ≡ n = omega arith in rw e
 
-pub cleared-length : (n : ℕ) (words : List ℕ) → length (cleared n words) ≡ length words
-unfolding cleared
-cleared-length n words = simp (length-append, length-replicate, length-drop) (omega arith)
+-- a row of zeros
+pub zeros : (n i : ℕ) → getD {A = ℕ} (replicate n 0) i 0 ≡ 0
+zeros zero i = refl
+zeros (suc n) zero = refl
+zeros (suc n) (suc i) = zeros n i
 
 -- ---- the turns of the loop
 

@@ -28,11 +28,6 @@ pub placed-one : (xs out : List ℕ) (at v : ℕ) → set (placed out at xs) (at
 unfolding placed
 placed-one xs out at v = sets-append xs (v ∷ []) out at
 
--- two words, then more
-pub placed-two : (xs out : List ℕ) (v k : ℕ) → placed (set (set out 0 v) 1 k) 2 xs ≡ placed out 0 (v ∷ k ∷ xs)
-unfolding placed
-placed-two xs out v k = refl
-
 -- past the buffer's end
 pub placed-past : (xs out : List ℕ) (at : ℕ) → length out ≤ at → placed out at xs ≡ out
 unfolding placed

@@ -23,6 +23,11 @@ unfolding sum
 sum-ext f g zero h = refl
 sum-ext f g (suc n) h = omega (arith, h n (omega arith), sum-ext f g n (λ i l. h i (omega arith)))
 
+pub sum-zeros : (f : ℕ → ℕ) (n : ℕ) → ((i : ℕ) → i < n → f i ≡ 0) → sum f n ≡ 0
+unfolding sum
+sum-zeros f zero h = refl
+sum-zeros f (suc n) h = omega (arith, h n (omega arith), sum-zeros f n (λ i l. h i (omega arith)))
+
 pub sum-plus : (f g : ℕ → ℕ) (n : ℕ) → sum (λ i. f i + g i) n ≡ sum f n + sum g n
 unfolding sum
 sum-plus f g zero = refl

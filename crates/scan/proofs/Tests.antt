@@ -51,6 +51,10 @@ and-right false b e = cc
 pub and-both : (a b : Bool) → a ≡ true → b ≡ true → (a && b) ≡ true
 and-both a b p q = cc
 
+pub and-true : (b : Bool) → (b && true) ≡ b
+and-true true = refl
+and-true false = refl
+
 pub or-left : (a b : Bool) → a ≡ true → (a || b) ≡ true
 or-left a b p = cc
 

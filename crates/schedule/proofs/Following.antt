@@ -12,17 +12,17 @@ use Rattle.refusal.specs.Finding.{Tests, foundAt, foundBy, finding}
 use Rattle.refusal.specs.declared.Refusal.{Refusal}
 use Rattle.refusal.specs.declared.Verdict.the-variants.{Accepted}
 use Rattle.refusal.proofs.Checks.{Decides, Decided, Lawful, Tells, finding-tells}
-use Rattle.sequential.specs.Petri.{PetriNet, petriNet, initial, firedCount, fire, fireAll}
+use Rattle.sequential.specs.Petri.{PetriNet, petriNet, initial}
 use Rattle.sequential.specs.Words.{nodeCount, entryValue, arcEntry, arc, marking, graph}
 use Rattle.sequential.specs.Schedule.{Offers}
 use Rattle.sequential.specs.Check.{scheduleReply}
 use Rattle.sequential.proofs.Accepted.{accepts, closed}
-use Rattle.sequential.proofs.Runs.{from-root}
+use Rattle.sequential.proofs.Runs.{from-root, fire-all-length}
 use Rattle.schedule.specs.Walker.{runChecks}
 use Rattle.call.specs.Index.{indexFrom}
 use Rattle.call.specs.declared.Index.the-variants.{Known}
+use Rattle.sequential.proofs.Entries.{entry-of}
 use Rattle.schedule.specs.Firing.{nodeAfter, entryAfter, lastEntry, firingFault, runFault, endCounts}
-use Rattle.schedule.proofs.Walks.{entry-at}
 
 -- two scans find the same first where their findings agree as long as nothing is found
 first-agree : (f g : ℕ → Option Refusal) (n : ℕ) → ((i : ℕ) → i < n → ((j : ℕ) → j < i → f j ≡ none) → f i ≡ g i) → first f n ≡ first g n
@@ -77,7 +77,7 @@ module _ (N : PetriNet) (sheet firings : List ℕ) where
   last-firing h i l =
       let passes : (j : ℕ) → j < length firings → firingFault N sheet firings j ≡ none = first-all _ _ h in
       let (m, a) = offered i (passes i (omega arith)) in
-      let (k, e, v) = entry-at N sheet (after i) (getD firings i 0) m a in (
+      let (k, e, v) = entry-of N sheet (after i) (getD firings i 0) m a in (
         k,
         record {
           before = leads i (omega arith) (λ j b. passes j (omega arith));
@@ -109,11 +109,6 @@ module _ (N : PetriNet) (sheet firings : List ℕ) where
   )
 
 -- ---- where a run ends
-
-fire-all-length : (N : PetriNet) (m σ : List ℕ) → length m ≡ N .places → length (fireAll N m σ) ≡ N .places
-unfolding fireAll fire
-fire-all-length N m [] h = h
-fire-all-length N m (t ∷ σ) h = fire-all-length N (fire N m t) σ (tabulate-length (firedCount N m t) (N .places))
 
 pub end-length : (net firings : List ℕ) → length (endCounts net firings) ≡ petriNet net .places
 unfolding endCounts initial

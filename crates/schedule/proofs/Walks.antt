@@ -1,5 +1,5 @@
 -- Walks along the arcs: where an arc's entry leads, the faults of a walker, a single firing, and a list of firings from node 0.
-use Rattle.scan.proofs.Basics.{ℕ, _+_, _*_, _≤_, _<_, arith, _≡_, refl, sym, ap, _∙_, not, _&&_, ltb, Option, none, some, Option·map, List, [], getD}
+use Rattle.scan.proofs.Basics.{ℕ, _+_, _*_, _≤_, _<_, arith, _≡_, refl, sym, ap, _∙_, not, _&&_, ltb, none, some, List, [], getD}
 use native.Mathlib.Numerals.{add-one}
 use Rattle.scan.proofs.Tests.{le-leb, lt-leb, eq-eqb, ne-eqb, byTest}
 use Rattle.scan.specs.Scan.{found, first}
@@ -34,9 +34,6 @@ use Rattle.sequential.proofs.Entries.{graph-closed}
 use Rattle.schedule.proofs.Walkers.{step-fault, walker-out, step-passes, follows-is}
 use Rattle.refusal.specs.Finding.{foundAt, foundBy, lineFinds, finding}
 
-pub refused-accepted {ℓ} : {C : Type ℓ} (v : Verdict) (r : Refusal) → v ≡ Refused r → v ≡ Accepted → C
-refused-accepted v r p q = let z : _≡_ {A = ℕ} 0 1 = cc in absurd (omega arith)
-
 -- ---- where the entry of an arc leads
 
 module _ (N : PetriNet) (sheet : List ℕ) (n t : ℕ) where
@@ -50,14 +47,6 @@ module _ (N : PetriNet) (sheet : List ℕ) (n t : ℕ) where
 
   pub target-node : 0 < N .transitions → ArcsHold N sheet → n < nodeCount sheet → (i : ℕ) → arcEntry N sheet n t ≡ some i → entryValue sheet i < nodeCount sheet
   target-node T w l i e = graph-closed N sheet T w .lands n t (entryValue sheet i) l (entry-leads i e)
-
-  pub entry-at : (m : ℕ) → arc N sheet n t ≡ some m → (i : ℕ) × (arcEntry N sheet n t ≡ some i) × (entryValue sheet i ≡ m)
-  unfolding arc
-  entry-at m e = go (arcEntry N sheet n t) refl e
-    where
-      go : (o : Option ℕ) → arcEntry N sheet n t ≡ o → Option·map (entryValue sheet) o ≡ some m → (i : ℕ) × (arcEntry N sheet n t ≡ some i) × (entryValue sheet i ≡ m)
-      go none q e = none-some none m refl e
-      go (some i) q e = (i, q, cc)
 
   -- its key; it is one of the entries, and those are few
   pub entry-key : (i : ℕ) → arcEntry N sheet n t ≡ some i → (i < entryCount sheet) × (entryKey sheet i ≡ n * N .transitions + t)

@@ -122,10 +122,6 @@ module _ (net : List ℕ) (s : ℕ) (sheet : List ℕ) where
   unfolding taskReply
   task-judged = judged-as (only (petriNet net) s) net sheet refl
 
-  pub task-exactly : (taskReply net s sheet ≡ Accepted) ↔ AcceptsAs (only (petriNet net) s) net sheet
-  unfolding taskReply
-  task-exactly = accepted-as (only (petriNet net) s) net sheet refl
-
 -- ---- an accepted schedule
 
 module _ (net sheet : List ℕ) (h : scheduleReply net sheet ≡ Accepted) where

@@ -1,5 +1,5 @@
 -- The entries of arcs and the arcs of the graph are the same thing, and counts are in range.
-use Rattle.scan.proofs.Basics.{ℕ, _+_, _*_, _/_, _%_, _≤_, _<_, arith, _≡_, refl, sym, ap, _∙_, Bool, true, false, cond, _&&_, ltb, Option, none, some, Option·map, List, getD}
+use Rattle.scan.proofs.Basics.{ℕ, _+_, _*_, _/_, _%_, _≤_, _<_, arith, _≡_, refl, sym, ap, subst, _∙_, Bool, true, false, cond, _&&_, ltb, Option, none, some, Option·map, List, getD}
 use native.Mathlib.Nat.{div-lt-iff-lt-mul, mul-add-div-right, mul-add-mod-self-right, div-eq-of-lt, mod-eq-of-lt, mod-lt, add-zero, mul-le-mul-right, div-add-mod'}
 use Rattle.scan.proofs.Tests.{ltb-true, lt-ltb, le-ltb, byTest, byLess}
 use Rattle.scan.specs.Scan.{tabulate, foundOr}
@@ -33,30 +33,43 @@ pub record ArcEntry (N : PetriNet) (sheet : List ℕ) (i n t m : ℕ) : Type 0 w
   pub transition : arcTransition N sheet i ≡ t
   pub target : entryValue sheet i ≡ m
 
+-- what an entry says at which an arc is looked up
+pub entry-told : (N : PetriNet) (sheet : List ℕ) (n t i : ℕ) → arcEntry N sheet n t ≡ some i → ArcEntry N sheet i n t (entryValue sheet i)
+unfolding arcEntry
+entry-told N sheet n t i e = go (ltb n (nodeCount sheet)) refl (ltb t (N .transitions)) refl e
+  where
+    go : (a : Bool) → ltb n (nodeCount sheet) ≡ a → (b : Bool) → ltb t (N .transitions) ≡ b → cond (a && b) (entryWithKey sheet (n * N .transitions + t)) none ≡ some i
+        → ArcEntry N sheet i n t (entryValue sheet i)
+    go true p true q h =
+        let (l, k) = entry-some sheet 2 (entryCount sheet) (n * N .transitions + t) i (unfold entryWithKey in h) in
+        let lt : t < N .transitions = ltb-true t (N .transitions) q in
+        let ln : n < nodeCount sheet = ltb-true n (nodeCount sheet) p in
+        record {
+          entry = l;
+          arc = unfold isArc arcKeys entryKey in (lt-ltb (keyAt sheet 2 i) (nodeCount sheet * N .transitions) (rw k (row-lt n (N .transitions) t (nodeCount sheet) lt ln)));
+          node = unfold arcNode entryKey in (rw k (row-div n (N .transitions) t lt));
+          transition = unfold arcTransition entryKey in (rw k (row-mod n (N .transitions) t lt));
+          target = refl;
+        }
+    go true p false q h = none-some none i refl h
+    go false p b q h = none-some none i refl h
+
+pub entry-of : (N : PetriNet) (sheet : List ℕ) (n t m : ℕ) → arc N sheet n t ≡ some m → (i : ℕ) × (arcEntry N sheet n t ≡ some i) × (entryValue sheet i ≡ m)
+unfolding arc
+entry-of N sheet n t m e = go (arcEntry N sheet n t) refl e
+  where
+    go : (o : Option ℕ) → arcEntry N sheet n t ≡ o → Option·map (entryValue sheet) o ≡ some m → (i : ℕ) × (arcEntry N sheet n t ≡ some i) × (entryValue sheet i ≡ m)
+    go none q e = none-some none m refl e
+    go (some i) q e = (i, q, cc)
+
+pub key-rises : (N : PetriNet) (sheet : List ℕ) → ArcsHold N sheet → (i j : ℕ) → i < j → j < entryCount sheet → entryKey sheet i < entryKey sheet j
+unfolding entryKey
+key-rises N sheet w i j h l = rising sheet 2 (entryCount sheet) (words-rise N sheet w) i j h l
+
 module _ (N : PetriNet) (sheet : List ℕ) (T : 0 < N .transitions) (w : ArcsHold N sheet) where
   -- an arc of the graph stands at an entry
   pub arc-entry : (n t m : ℕ) → arc N sheet n t ≡ some m → (i : ℕ) × ArcEntry N sheet i n t m
-  unfolding arc arcEntry
-  arc-entry n t m e = go (ltb n (nodeCount sheet)) refl (ltb t (N .transitions)) refl (entryWithKey sheet (n * N .transitions + t)) refl e
-    where
-      go : (a : Bool) → ltb n (nodeCount sheet) ≡ a → (b : Bool) → ltb t (N .transitions) ≡ b → (o : Option ℕ) → entryWithKey sheet (n * N .transitions + t) ≡ o
-          → Option·map (entryValue sheet) (cond (a && b) o none) ≡ some m → (i : ℕ) × ArcEntry N sheet i n t m
-      go true p true q none h e = none-some none m refl e
-      go true p true q (some i) h e =
-          let (l, k) = entry-some sheet 2 (entryCount sheet) (n * N .transitions + t) i (unfold entryWithKey in h) in
-          let lt : t < N .transitions = ltb-true t (N .transitions) q in
-          let ln : n < nodeCount sheet = ltb-true n (nodeCount sheet) p in (
-            i,
-            record {
-              entry = l;
-              arc = unfold isArc arcKeys entryKey in (lt-ltb (keyAt sheet 2 i) (nodeCount sheet * N .transitions) (rw k (row-lt n (N .transitions) t (nodeCount sheet) lt ln)));
-              node = unfold arcNode entryKey in (rw k (row-div n (N .transitions) t lt));
-              transition = unfold arcTransition entryKey in (rw k (row-mod n (N .transitions) t lt));
-              target = cc;
-            },
-          )
-      go true p false q o h e = none-some none m refl e
-      go false p b q o h e = none-some none m refl e
+  arc-entry n t m e = let (i, q, v) = entry-of N sheet n t m e in (i, subst (λ (x : ℕ). ArcEntry N sheet i n t x) v (entry-told N sheet n t i q))
 
   -- an entry of an arc is an arc of the graph
   pub entry-arc : (i : ℕ) → i < entryCount sheet → isArc N sheet i ≡ true → arc N sheet (arcNode N sheet i) (arcTransition N sheet i) ≡ some (entryValue sheet i)

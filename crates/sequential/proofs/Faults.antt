@@ -88,7 +88,7 @@ module _ (N : PetriNet) (sheet : List ℕ) where
         let (h, k) = all↔ (landsAt N sheet i) (N .places) (λ p l. eqb↔ _ _) in
         (λ e. g (h e), λ e. k (f e))
 
-    offers-in : (n t : ℕ) → Offers N (graph N sheet) n t → offersSome N (graph N sheet) n ≡ true
+    pub offers-in : (n t : ℕ) → Offers N (graph N sheet) n t → offersSome N (graph N sheet) n ≡ true
     offers-in n t (m, e) = some-in N (graph N sheet) n t (arc-transition (graph N sheet) (graph-closed N sheet T w) n t m e) (m, e)
 
     pub reached↔ : (n : ℕ) → (reachedIn (graph N sheet) (nodeCount sheet - 1) n ≡ true) ↔ Reachable (graph N sheet) n

@@ -1,29 +1,26 @@
 -- A net with one source alone: what is removed with the others, what of a schedule's words and arcs does not ask for it, and which choice sets are left.
-use Rattle.scan.proofs.Basics.{ℕ, _-_, _<_, arith, _≡_, refl, sym, _∙_, ap, inl, inr, ⊎-elim, _↔_, Bool, true, false, not, _&&_, ltb, eqb, List}
+use Rattle.scan.proofs.Basics.{ℕ, _<_, arith, _≡_, refl, sym, _∙_, ap, inl, inr, ⊎-elim, _↔_, Bool, true, false, not, _&&_, ltb, eqb, List}
 use mathlib.Core.Path.{fun-ext}
-use Rattle.scan.proofs.Tests.{ltb-true, le-ltb, eqb-true, eq-eqb, ne-eqb, byTest, true-false, not-true→false, and-left, and-right}
-use Rattle.scan.specs.Scan.{when, least}
+use Rattle.scan.proofs.Tests.{ltb-true, le-ltb, eqb-true, eq-eqb, ne-eqb, byTest, true-false, not-true→false, and-left, and-right, and-true}
+use Rattle.scan.specs.Scan.{least}
 use Rattle.scan.proofs.Decide.{equal↔}
 use Rattle.scan.proofs.Least.{least-unique}
 use Rattle.automaton.specs.Automaton.{Automaton}
 use Rattle.automaton.specs.Equivalence.{leaderBy}
-use Rattle.automaton.specs.Reach.{leadsIn}
 use Rattle.automaton.proofs.Leader.{leader-ext, leader-member}
-use Rattle.refusal.specs.Refusal.{refusal}
-use Rattle.refusal.specs.Finding.{lineFinds, foundAt}
+use Rattle.refusal.specs.Finding.{lineFinds}
 use Rattle.refusal.specs.Verdict.{verdictOf, andThen}
-use Rattle.refusal.specs.declared.Position.the-variants.{Node}
 use Rattle.refusal.specs.declared.Verdict.{Verdict}
 use Rattle.refusal.specs.declared.Verdict.the-variants.{Accepted, Refused}
 use Rattle.net.specs.Net.{transitionCount}
 use Rattle.net.specs.Check.{netReply}
 use Rattle.net.proofs.Laws.{sizes}
-use Rattle.sequential.specs.Petri.{PetriNet, petriNet, initial, Enabled, Source, SharesPlace, SameChoice, fire, firedCount}
+use Rattle.sequential.specs.Petri.{PetriNet, petriNet, initial, Source, SharesPlace, SameChoice, fire, firedCount}
 use Rattle.sequential.specs.Schedule.{Offers, Await, OneChoiceSet}
-use Rattle.sequential.specs.Words.{nodeCount, arcEntry, arc, arcKeys, keyLimit, countAt, marking, graph, isArc, arcNode, arcTransition}
-use Rattle.sequential.specs.Tests.{holdsEnough, holdsTaken, roomAt, hasRoom, takesNothing, isSource, sameChoice, isAwait}
+use Rattle.sequential.specs.Words.{arcEntry, arc, arcKeys, keyLimit, countAt, marking, graph, isArc, arcNode, arcTransition}
+use Rattle.sequential.specs.Tests.{holdsEnough, holdsTaken, roomAt, hasRoom, takesNothing, isSource, sameChoice}
 use Rattle.sequential.specs.Only.{isSourceOf, isRemoved, only}
-use Rattle.sequential.specs.Check.{wordsFault, startFault, arcFault, reachFault, returnFault, arcHolds, arcHasRoom, landsAt, arcLands, arcCount, scheduleFault, scheduleReply, taskReply}
+use Rattle.sequential.specs.Check.{wordsFault, startFault, arcFault, reachFault, arcHolds, arcHasRoom, landsAt, arcLands, scheduleFault, scheduleReply, taskReply}
 use Rattle.sequential.proofs.Choices.{source↔, choice↔, choice-sym, choice-kept, choice-equivalence, source-choice}
 
 alone : (k x e : Bool) → (e ≡ true → (k && x) ≡ true) → ((k && not ((k && x) && not e)) && x) ≡ e
@@ -33,10 +30,6 @@ alone true false true h = h refl
 alone true false false h = refl
 alone false x true h = h refl
 alone false x false h = refl
-
-and-true : (b : Bool) → (b && true) ≡ b
-and-true true = refl
-and-true false = refl
 
 module _ (N : PetriNet) (s : ℕ) where
   -- ---- the whole net
@@ -70,22 +63,11 @@ module _ (N : PetriNet) (s : ℕ) where
     unfolding reachFault lineFinds arc arcEntry marking countAt arcKeys
     reach-only = refl
 
-    pub return-only : (n : ℕ) → returnFault (only N s) sheet n ≡ when (not (leadsIn (graph N sheet) (isAwait (only N s) (graph N sheet)) (nodeCount sheet - 1) n)) (refusal 17 (Node n))
-    unfolding returnFault lineFinds foundAt arc arcEntry marking countAt arcKeys
-    return-only n = refl
-
-    pub arc-count-only : arcCount (only N s) sheet ≡ arcCount N sheet
-    unfolding arcCount isArc arcKeys
-    arc-count-only = refl
-
   -- ---- firing
 
   pub initial-only : initial (only N s) ≡ initial N
   unfolding initial
   initial-only = refl
-
-  pub enabled-only : (m : List ℕ) (t : ℕ) → Enabled (only N s) m t → Enabled N m t
-  enabled-only m t e = record { holds = e .holds; room = e .room }
 
   pub fire-only : (m : List ℕ) (t : ℕ) → fire (only N s) m t ≡ fire N m t
   unfolding fire firedCount

@@ -1,15 +1,22 @@
 -- Lists that a schedule allows: they fire from the initial marking, go on by one choice set, and lead on to an await node.
-use Rattle.scan.proofs.Basics.{ℕ, _<_, _≡_, sym, ap, _∙_, true, some, List, [], _∷_, _++_}
+use Rattle.scan.proofs.Basics.{ℕ, _<_, _≡_, sym, ap, _∙_, true, some, List, [], _∷_, _++_, length}
+use Rattle.scan.proofs.Tabulate.{tabulate-length}
 use Rattle.automaton.specs.Automaton.{Automaton, Closed, follow, allows}
-use Rattle.automaton.proofs.Automaton.{arc-transition, follow-first, follow-on, follow-snoc, follow-lands, allows-follow, follow-allows}
-use Rattle.sequential.specs.Petri.{PetriNet, initial, Transition, SameChoice, fireAll, FiresEnabled, fires-none, fires-first}
-use Rattle.sequential.specs.Schedule.{Await, IsSchedule}
+use Rattle.automaton.proofs.Automaton.{arc-transition, follow-first, follow-snoc, follow-lands, allows-follow, follow-allows}
+use Rattle.sequential.specs.Petri.{PetriNet, initial, Transition, SameChoice, fire, firedCount, fireAll, FiresEnabled, fires-none, fires-first}
+use Rattle.sequential.specs.Schedule.{IsSchedule}
 use Rattle.sequential.specs.Runs.{Runs, GoesOn}
 use Rattle.sequential.proofs.Choices.{choice-refl, choice-kept}
 
 -- only a number of the net's transitions has an arc
 pub arc-below : (N : PetriNet) (A : Automaton) → Closed A → A .transitions ≡ N .transitions → (n t m : ℕ) → A .arc n t ≡ some m → t < N .transitions
 arc-below N A c same n t m e = rw same at (arc-transition A c n t m e)
+
+-- firing keeps a count for each place
+pub fire-all-length : (N : PetriNet) (m σ : List ℕ) → length m ≡ N .places → length (fireAll N m σ) ≡ N .places
+unfolding fireAll fire
+fire-all-length N m [] h = h
+fire-all-length N m (t ∷ σ) h = fire-all-length N (fire N m t) σ (tabulate-length (firedCount N m t) (N .places))
 
 module _ (N : PetriNet) (A : Automaton) (c : Closed A) (same : A .transitions ≡ N .transitions) (s : IsSchedule N A) where
   -- and of a schedule only one that is kept
@@ -61,11 +68,3 @@ module _ (N : PetriNet) (A : Automaton) (c : Closed A) (same : A .transitions �
         );
         goes = by t l (choice-refl N t);
       }
-
-  -- ---- on to an await node
-
-  pub way : (σ : List ℕ) → allows A 0 σ ≡ true → (τ : List ℕ) × (m : ℕ) × (follow A 0 (σ ++ τ) ≡ some m) × Await N A m
-  way σ a =
-      let (n, e) = allows-follow A 0 σ a in
-      let (τ, m, f, w) = s .returns n (follow-lands A c σ 0 n (c .root) e) in
-      (τ, m, follow-on A σ τ 0 n e ∙ f, w)

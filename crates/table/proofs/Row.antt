@@ -81,11 +81,6 @@ module _ (words : List ℕ) (offset entries first width : ℕ) where
 
   -- ---- any words
 
-  -- each of a row of entries is 0, or 1 plus an entry
-  pub row-most : (p : ℕ) → p < 32 → getD (entryRow words offset entries first width) p 0 ≤ entries
-  unfolding entryRow
-  row-most p l = ⊎-elim (λ e. omega arith) (λ (j, a, e). omega (arith, a .entry)) (run-at words offset entries first width entryTold p l)
-
   -- past the width a row is 0
   pub row-past : (p : ℕ) → p < 32 → width ≤ p → getD (entryRow words offset entries first width) p 0 ≡ 0
   unfolding entryRow

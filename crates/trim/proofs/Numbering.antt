@@ -1,18 +1,18 @@
 -- Marked nodes, numbered as they rise, are the kept nodes under their new numbers.
-use Rattle.scan.proofs.Basics.{ℕ, _+_, _≤_, _<_, arith, _≡_, refl, sym, _∙_, ⊎-elim, Bool, true, false, ltb, List, set, replicate, length-set, length-replicate}
+use Rattle.scan.proofs.Basics.{ℕ, _+_, _≤_, _<_, arith, _≡_, refl, sym, _∙_, ⊎-elim, Bool, true, false, List, set, replicate, length-set, length-replicate}
 use native.Mathlib.Numerals.{add-one}
 use lib.Seq.{getD-set-other}
 use Rattle.scan.specs.Scan.{bit, count}
-use Rattle.scan.proofs.Tests.{lt-ltb, le-ltb, lt-suc-cases}
-use Rattle.scan.proofs.Count.{count-ext, count-more}
+use Rattle.scan.proofs.Tests.{lt-suc-cases}
+use Rattle.scan.proofs.Count.{count-ext, count-more, bit-mark}
 use Rattle.scan.proofs.Tabulate.{tabulate-at, stored-more}
+use Rattle.scan.proofs.Front.{zeros}
 use Rattle.automaton.specs.Automaton.{Automaton}
 use Rattle.sequential.specs.Petri.{petriNet}
 use Rattle.sequential.specs.Words.{nodeCount, graph}
 use Rattle.graph.specs.Readable.{Readable}
 use Rattle.graph.proofs.Readable.{arcs-accepted}
 use Rattle.reach.specs.Reach.{isMarked, isReached, reachedMark, reachedReply}
-use Rattle.encoding.proofs.Kept.{zeros}
 use Rattle.trimmed.specs.Trim.{isKept, newNumber}
 use Rattle.trimmed.proofs.Trimmed.{kept-length, trimmed-nodes}
 use Rattle.trim.specs.Tables.{rankCell, Numbered, newCell, NewNodes}
@@ -46,18 +46,13 @@ module _ {p : ℕ → Bool} {n : ℕ} {cells : List ℕ} {found : ℕ} (h : Numb
 
 -- ---- the marks are those of the kept nodes
 
-bit-test : (b : Bool) → ltb 0 (bit b) ≡ b
-unfolding bit
-bit-test true = lt-ltb 0 1 (omega arith)
-bit-test false = le-ltb 0 0 (omega arith)
-
 module _ {net sheet : List ℕ} (r : Readable net sheet) where
   abbrev A : Automaton
   A = graph (petriNet net) sheet
 
   marked-kept : (n : ℕ) → n < 128 → isMarked (reachedReply net sheet) n ≡ isKept (graph (petriNet net) sheet) n
   unfolding isMarked reachedReply reachedMark isReached isKept
-  marked-kept n l = rw (arcs-accepted net sheet (r .arcs), tabulate-at (reachedMark (petriNet net) sheet) 0 128 n l) (bit-test (isKept (graph (petriNet net) sheet) n))
+  marked-kept n l = rw (arcs-accepted net sheet (r .arcs), tabulate-at (reachedMark (petriNet net) sheet) 0 128 n l) (bit-mark (isKept (graph (petriNet net) sheet) n))
 
   few : nodeCount sheet ≤ 128
   few = r .arcs .sizes .few-nodes

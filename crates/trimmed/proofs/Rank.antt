@@ -5,7 +5,7 @@ use lib.ListN.{List·getD-append}
 use lib.Seq.{getD-append-add}
 use Rattle.scan.specs.Scan.{bit, count, passing}
 use Rattle.scan.proofs.Tests.{byTest, byLess, lt-suc-cases}
-use Rattle.scan.proofs.Count.{count-ext}
+use Rattle.scan.proofs.Count.{count-ext, count-full}
 use Rattle.scan.proofs.First.{when-hit, when-miss}
 use Rattle.encoding.specs.Encoding.{gather}
 use Rattle.encoding.proofs.Gather.{finds, gather-length}
@@ -84,8 +84,4 @@ module _ (f : ℕ → Bool) where
 
   -- where all pass, ranks are the indices
   pub listed-all : (n : ℕ) → ((i : ℕ) → i < n → f i ≡ true) → (i : ℕ) → i < n → getD (listed n) i 0 ≡ i
-  listed-all n h i l = rw (count-is i (λ j k. h j (omega arith))) at (listed-at n i l (h i l))
-    where
-      count-is : (i : ℕ) → ((j : ℕ) → j < i → f j ≡ true) → count f i ≡ i
-      count-is zero h = unfold count in refl
-      count-is (suc i) h = count-hit i (h i (omega arith)) ∙ omega (arith, count-is i (λ j k. h j (omega arith)))
+  listed-all n h i l = rw (count-full f i (λ j k. h j (omega arith))) at (listed-at n i l (h i l))

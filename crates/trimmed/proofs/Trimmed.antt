@@ -146,6 +146,3 @@ module _ (A : Automaton) (c : Closed A) where
       arc = λ n t. arc-same n t i;
       label = λ n. label-same n i;
     }
-
-pub trimmed-twice : (A : Automaton) → Closed A → trimmedGraph (trimmedGraph A) ≡ trimmedGraph A
-trimmed-twice A c = trimmed-itself (trimmedGraph A) (trimmed-closed A c) (trimmed-confined A) (trimmed-reached A c)

@@ -1,7 +1,8 @@
 -- What a graph that is cut down to what is reached keeps: where lists lead, the lists allowed, and the clauses of a schedule; all of it is reached.
-use Rattle.scan.proofs.Basics.{ℕ, _<_, _≡_, refl, sym, ap, _∙_, _↔_, Option, none, some, Option·map, List, [], _∷_}
+use Rattle.scan.proofs.Basics.{ℕ, _<_, _≡_, refl, sym, ap, _∙_, _↔_, some, Option·map, List, [], _∷_}
 use mathlib.Core.Option.{map-eq-some-iff}
 use Rattle.scan.specs.Scan.{found}
+use Rattle.scan.proofs.First.{found-map}
 use Rattle.automaton.specs.Automaton.{Automaton, follow, allows, SameLists}
 use Rattle.automaton.specs.Reach.{Reachable}
 use Rattle.automaton.proofs.Automaton.{arc-cases, follow-arc, follow-no-arc}
@@ -10,11 +11,6 @@ use Rattle.sequential.specs.Petri.{PetriNet, fire}
 use Rattle.sequential.specs.Schedule.{Offers, Await, OneChoiceSet, ToAwait, IsSchedule}
 use Rattle.trimmed.specs.Trim.{Trimming}
 use Rattle.trimmed.specs.Clauses.{HoldsOnReached}
-
-found-map : (f : ℕ → ℕ) (o : Option ℕ) → found (Option·map f o) ≡ found o
-unfolding found
-found-map f none = refl
-found-map f (some a) = refl
 
 module _ (A M : Automaton) (f : ℕ → ℕ) (Q : Trimming A M f) where
   trimming-follow : (σ : List ℕ) (n : ℕ) → Reachable A n → follow M (f n) σ ≡ Option·map f (follow A n σ)

@@ -7,16 +7,15 @@ use Rattle.automaton.specs.Reach.{Reachable}
 use Rattle.automaton.specs.Quotient.{Confined}
 use Rattle.automaton.proofs.Automaton.{arc-cases}
 use Rattle.automaton.proofs.Reach.{reachable-node, arc-reachable}
-use Rattle.refusal.specs.declared.Refusal.{Refusal}
 use Rattle.refusal.specs.declared.Verdict.the-variants as verdict
-use Rattle.refusal.proofs.Judges.{Spared, spared-never, spared-append, without-spared}
+use Rattle.refusal.proofs.Judges.{Spared, spared-append, without-spared}
 use Rattle.net.specs.Checks.{netChecks}
 use Rattle.sequential.specs.Petri.{PetriNet, petriNet}
 use Rattle.sequential.specs.Words.{nodeCount, graph}
 use Rattle.sequential.specs.Checks.{wordChecks, graphChecks, sheetChecks}
 use Rattle.sequential.specs.Check.{scheduleReply}
 use Rattle.sequential.specs.Known.{WordsHold}
-use Rattle.sequential.proofs.Accepted.{accepted-exactly, schedule-judged}
+use Rattle.sequential.proofs.Accepted.{accepted-exactly}
 use Rattle.graph.specs.Readable.{wordsReply, Readable}
 use Rattle.graph.proofs.Readable.{reply-readable, words}
 use Rattle.encoding.specs.Encoding.{held, encode, Encodable}
@@ -28,7 +27,7 @@ use Rattle.trimmed.specs.Clauses.{HoldsOnReached, HoldsOnAll}
 use Rattle.trimmed.proofs.Trimming.{trimming-schedule}
 use Rattle.trimmed.proofs.Unique.{Onto, onto-count, onto-rank}
 use Rattle.trimmed.proofs.Trimmed.{kept↔, nodes-few, kept-length, trimmed-nodes, trimmed-transitions, trimmed-label, trimmed-confined, old-node, trimming}
-use Rattle.trimmed.proofs.Trimmed.{lists-reached, trimmed-closed, trimmed-lists, trimmed-reached, all-listed, old-of-new, trimmed-itself, trimmed-twice}
+use Rattle.trimmed.proofs.Trimmed.{lists-reached, trimmed-closed, trimmed-lists, trimmed-reached, all-listed, old-of-new, trimmed-itself}
 use Rattle.trimmed.proofs.Entries.{kept-few}
 
 -- ---- what is cut down is the trimmed graph
@@ -193,16 +192,6 @@ module _ (net sheet : List ℕ) (h : wordsReply net sheet ≡ verdict.Accepted) 
           ),
         ),
       )
-
-  pub result-never-16 : (r : Refusal) → scheduleReply net (trimmedWords net sheet) ≡ verdict.Refused r → r .number ≡ 16 → ⊥
-  result-never-16 r e =
-      spared-never 16 (netChecks net ++ sheetChecks N (trimmedWords net sheet)) r result-spared (schedule-judged net (trimmedWords net sheet) .refuses r .0 e)
-
-  -- ---- twice is once
-
-  pub result-twice : trimmedWords net (trimmedWords net sheet) ≡ trimmedWords net sheet
-  unfolding trimmedWords
-  result-twice = ap (encode N) (ap trimmedGraph result-graph ∙ trimmed-twice A closed)
 
   -- ---- where all is reached, as in an accepted schedule
 

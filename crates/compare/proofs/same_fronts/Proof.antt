@@ -3,8 +3,7 @@ use Rattle.scan.proofs.Basics.{_-_, _≤_, arith, _≡_, refl, sym, _∙_, ⊎-
 use borrow.Author.Needs.{needs}
 use Rattle.scan.proofs.Tests.{eq-eqb, ne-eqb}
 use Rattle.scan.specs.Scan.{all}
-use Rattle.scan.proofs.Every.{all-fails}
-use Rattle.judge.proofs.Run.{all-keeps}
+use Rattle.scan.proofs.Every.{all-fails, all-keeps}
 use Rattle.compare.specs.Compare.{sameAt, sameFronts}
 use Rattle.compare.proofs.same_fronts.Statement.{statement}
 use Rattle.compare.proofs.same_fronts.Tie as tie

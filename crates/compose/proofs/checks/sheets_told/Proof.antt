@@ -3,8 +3,8 @@ use Rattle.scan.proofs.Basics.{ℕ, _-_, _≤_, _<_, arith, _≡_, refl, none}
 use borrow.Author.Needs.{needs}
 use borrow.Author.Count.{below-more}
 use Rattle.refusal.specs.declared.Verdict.the-variants.{Accepted}
+use Rattle.refusal.proofs.Verdicts.{accepted-refused}
 use Rattle.sequential.specs.Petri.{petriNet}
-use Rattle.call.proofs.Judged.{accepted-refused}
 use Rattle.composed.specs.Sheet.{givenSheets}
 use Rattle.composed.specs.Fault.{sheetFault}
 use Rattle.compose.proofs.Paths.{turn-passes, turn-fails}
@@ -22,14 +22,11 @@ loop-holds c = (omega arith, λ j l. absurd (omega arith))
 
 array-read-task-verdict : tie.Need-array-read-task-verdict Inv-loop μ-loop
 array-read-task-verdict c =
-    let s = c .before .before .before .before .before .before .before .before .pre in
-    omega (arith, s .few, c .before .loop-test .taken)
+    omega arith
 
 cast-t17 : tie.Need-cast-t17 Inv-loop μ-loop
 cast-t17 c =
-    let l = c .before .before .before .before .before in
-    let s = l .before .before .before .before .before .before .pre in
-    omega (arith, s .few, c .before .before .before .before .loop-test .taken)
+    omega arith
 
 returns : tie.Need-returns Inv-loop μ-loop
 returns c =
@@ -53,7 +50,7 @@ loop-again c =
 returns-2 : tie.Need-returns-2 Inv-loop μ-loop
 returns-2 c =
     let l = c .before in
-    record { passes = λ e j k. l .loop .inv .1 j (omega (arith, c .loop-test .left)); fails = λ r e. accepted-refused Accepted r refl e }
+    record { passes = λ e j k. l .loop .inv .1 j (omega arith); fails = λ r e. accepted-refused Accepted r refl e }
 
 pub sheets-told-spec : {M : Type 1} → statement M
 sheets-told-spec =

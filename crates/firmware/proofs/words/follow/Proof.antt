@@ -8,10 +8,11 @@ use Rattle.sequential.specs.Words.{nodeCount}
 use Rattle.call.specs.Index.{indexFrom}
 use Rattle.schedule.specs.Firing.{nodeAfter, entryAfter, firingFault, runFault}
 use Rattle.graph.proofs.LookUp.{arc-found, arc-missing}
-use Rattle.schedule.proofs.Walks.{refused-accepted, target-node, entry-fits, after-none, after-more, entry-none, entry-more, firing-passes, firing-fails}
+use Rattle.schedule.proofs.Walks.{target-node, entry-fits, after-none, after-more, entry-none, entry-more, firing-passes, firing-fails}
 use Rattle.octets.specs.Words.{allWords}
 use Rattle.octets.proofs.Decoding.{words-count}
 use borrow.Author.Needs.{needs}
+use Rattle.refusal.proofs.Verdicts.{accepted-refused}
 use Rattle.firmware.proofs.words.follow.Statement.{statement}
 use Rattle.firmware.proofs.words.follow.Tie as tie
 
@@ -24,7 +25,7 @@ abbrev μ-loop : tie.MeasureT-loop
 μ-loop net sheet firings count node₀ entry₀ i₀ node entry i = length firings / 4 - i
 
 loop-holds : tie.Need-loop-holds Inv-loop μ-loop
-loop-holds c = (omega arith, after-none _ _ _, omega (arith, c .before .before .before .pre .arcs .sizes .some-node), first-none _, entry-none _ _ _)
+loop-holds c = (omega arith, after-none _ _ _, omega arith, first-none _, entry-none _ _ _)
 
 cast-entry : tie.Need-cast-t15 Inv-loop μ-loop
 cast-entry c =
@@ -35,26 +36,30 @@ cast-entry c =
 returns : tie.Need-returns Inv-loop μ-loop
 unfolding runFault
 returns c =
-    let w = c .before .before .before .before .before .before in
-    let k = w .before .before .before .before .pre in
-    let l = c .before .before .before .before .before .loop-test .taken in
-    let q = c .before .before .before .before .word .ensures in
+    let at-word = c .before .before .before .before in
+    let w = at-word .before .before in
+    let start = w .before .before .before .before in
+    let k = start .pre in
+    let l = at-word .before .loop-test .taken in
+    let q = at-word .word .ensures in
     let e = rw q at (arc-missing _ _ (k .arcs) _ _ (sym (c .before .before .before .arc .ensures) ∙ (c .before .enum-told .given .1))) in
-    let m = rw (← (words-count (w .before .before .before .before .args .firings .now))) at l in
+    let m = rw (← (words-count (start .args .firings .now))) at l in
     record {
       reply = (c .refuse .ensures) ∙ ap verdictOf (sym (first-hit _ _ _ (w .loop .inv .3) (firing-fails _ _ _ _ _ (w .loop .inv .1) e) _ m));
-      node = λ h. refused-accepted _ _ (c .refuse .ensures) h;
-      entry = λ h. refused-accepted _ _ (c .refuse .ensures) h;
+      node = λ h. accepted-refused _ _ h (c .refuse .ensures);
+      entry = λ h. accepted-refused _ _ h (c .refuse .ensures);
     }
 
 loop-again : tie.Need-loop-again Inv-loop μ-loop
 loop-again c =
-    let w = c .before .before .before .before .before .before .before in
+    let at-arc = c .before .before .before .before in
+    let at-test = at-arc .before .before in
+    let w = at-test .before in
     let k = w .before .before .before .before .pre in
     let r = k .arcs in
-    let l = c .before .before .before .before .before .before .loop-test .taken in
-    let q = c .before .before .before .before .before .word .ensures in
-    let e = rw q at (arc-found _ _ r _ _ _ (sym (c .before .before .before .before .arc .ensures) ∙ (c .before .before .e .given .1))) in (
+    let l = at-test .loop-test .taken in
+    let q = at-arc .before .word .ensures in
+    let e = rw q at (arc-found _ _ r _ _ _ (sym (at-arc .arc .ensures) ∙ (c .before .before .e .given .1))) in (
       omega arith,
       (c .value .ensures) ∙ after-more _ _ _ _ _ (w .loop .inv .1) _ e,
       rw (c .value .ensures) (target-node _ _ _ _ (r .sizes .some-transition) (r .holds) (w .loop .inv .2) _ e),

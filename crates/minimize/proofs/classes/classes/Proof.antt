@@ -2,10 +2,10 @@
 use Rattle.scan.proofs.Basics.{_-_, _≤_, arith, _≡_, refl, sym, _∙_, false, length}
 use borrow.Author.Needs.{needs}
 use Rattle.scan.proofs.Tests.{true-false}
+use Rattle.scan.proofs.Front.{zeros}
 use Rattle.automaton.specs.Equivalence.{sameIn}
 use Rattle.sequential.specs.Petri.{petriNet}
 use Rattle.sequential.specs.Words.{nodeCount, graph}
-use Rattle.encoding.proofs.Kept.{zeros}
 use Rattle.minimize.specs.Agree.{StartsOf}
 use Rattle.minimize.specs.Leaders.{LeadersBy}
 use Rattle.minimize.proofs.Leaders.{by-arcs, by-counts, first-reads, next-reads, round-more, round-last, rounds-done}
@@ -32,7 +32,7 @@ loop-holds : tie.Need-loop-holds Inv-loop μ-loop
 loop-holds c =
     let S = c .before .before .before .before .before .before .starts-of2 .ensures in
     let a = readable-closed (S .readable) in
-    (omega arith, omega (arith, a .root), search needs, S, round-more _ a 0 _ (by-counts _ _ _ (zeros 128) (c .before .before .before .round .ensures)) _ (by-arcs _ _ _ (c .round2 .ensures)))
+    (omega arith, omega arith, search needs, S, round-more _ a 0 _ (by-counts _ _ _ (zeros 128) (c .before .before .before .round .ensures)) _ (by-arcs _ _ _ (c .round2 .ensures)))
 
 round-requires-3 : tie.Need-round-requires-3 Inv-loop μ-loop
 round-requires-3 c κs =
@@ -46,18 +46,19 @@ returns c =
 
 loop-again : tie.Need-loop-again Inv-loop μ-loop
 loop-again c =
-    let (some, l, long, S, is) = c .before .before .before .before .before .before .before .before .loop .inv in (
+    let at-round3 = c .before .before .before .before in
+    let (some, l, long, S, is) = at-round3 .before .before .before .before .loop .inv in (
       omega arith,
-      omega (arith, c .before .before .before .before .before .before .before .loop-test .taken),
+      omega arith,
       search needs,
       S,
-      round-more _ (readable-closed (S .readable)) _ _ is _ (by-arcs _ _ _ (c .before .before .before .before .round3 .ensures)),
+      round-more _ (readable-closed (S .readable)) _ _ is _ (by-arcs _ _ _ (at-round3 .round3 .ensures)),
     )
 
 returns-2 : tie.Need-returns-2 Inv-loop μ-loop
 returns-2 c =
     let (some, l, long, S, is) = c .before .loop .inv in
-    rounds-done _ (readable-closed (S .readable)) _ _ is (omega (arith, c .loop-test .left))
+    rounds-done _ (readable-closed (S .readable)) _ _ is (omega arith)
 
 pub classes-spec : {M : Type 1} → statement M
 classes-spec =

@@ -1,7 +1,7 @@
 -- `minimize::classes::nodes_agree` meets its contract.
 use Rattle.scan.proofs.Basics.{arith, _∙_}
 use borrow.Author.Needs.{needs}
-use Rattle.minimize.proofs.Agree.{rows, walked}
+use Rattle.minimize.proofs.NodeRows.{rows, walked}
 use Rattle.minimize.proofs.Level.{starts-low, end-inside, end-low, even-rows, even-walked}
 use Rattle.minimize.proofs.classes.nodes_agree.Statement.{statement}
 use Rattle.minimize.proofs.classes.nodes_agree.Tie as tie
@@ -13,7 +13,7 @@ cast-j : tie.Need-cast-j
 cast-j c = let p = c .before .before .before .before .pre in omega (arith, starts-low (p .of) _ (p .right))
 
 element-copy-out-end : tie.Need-element-copy-out-end
-element-copy-out-end c = end-inside (c .before .before .before .before .before .pre) (c .if1 .taken)
+element-copy-out-end c = search (end-inside, needs)
 
 cast-end : tie.Need-cast-end
 cast-end c = omega (arith, end-low (c .before .before .before .before .before .before .pre) (c .before .if1 .taken) .1)
@@ -22,7 +22,7 @@ sub-targets-agree : tie.Need-sub-targets-agree
 sub-targets-agree c = omega (arith, end-low (c .before .before .before .before .before .before .before .pre) (c .before .before .if1 .taken) .0)
 
 targets-agree-requires : tie.Need-targets-agree-requires
-targets-agree-requires c κs = even-rows (c .before .before .before .before .before .before .before .pre) (c .before .before .if1 .taken)
+targets-agree-requires c κs = search (even-rows, needs)
 
 returns : tie.Need-returns
 returns c = c .targets-agree .ensures ∙ even-walked (c .before .before .before .before .before .before .before .before .pre) (c .before .before .before .if1 .taken)

@@ -3,10 +3,9 @@ use Rattle.scan.proofs.Basics.{_-_, _≤_, arith, _≡_, sym, _∙_}
 use borrow.Author.Needs.{needs}
 use Rattle.scan.proofs.Tests.{eq-eqb, ne-eqb}
 use Rattle.scan.specs.Scan.{all}
-use Rattle.scan.proofs.Every.{all-in, all-fails}
+use Rattle.scan.proofs.Every.{all-in, all-fails, all-keeps}
 use Rattle.minimize.specs.Tables.{classIn}
 use Rattle.minimize.specs.Leaders.{sameEntry}
-use Rattle.minimize.proofs.Level.{all-stays}
 use Rattle.minimize.proofs.classes.same_tables.Statement.{statement}
 use Rattle.minimize.proofs.classes.same_tables.Tie as tie
 
@@ -22,7 +21,7 @@ loop-again c = (omega arith, sym (all-fails _ _ _ (omega arith) (ne-eqb _ _ (c .
 
 loop-again-2 : tie.Need-loop-again-2 Inv-loop μ-loop
 unfolding sameEntry classIn
-loop-again-2 c = (omega arith, c .before .before .before .before .loop .inv .1 ∙ all-stays _ _ (eq-eqb _ _ (c .if1 .left)))
+loop-again-2 c = (omega arith, c .before .before .before .before .loop .inv .1 ∙ all-keeps _ _ (eq-eqb _ _ (c .if1 .left)))
 
 returns : tie.Need-returns Inv-loop μ-loop
 returns c = let e : (c .before .loop .i) ≡ (c .before .before .args .nodes) = omega arith in rw e at (c .before .loop .inv .1)

@@ -4,7 +4,7 @@ use borrow.Author.Needs.{needs}
 use Rattle.scan.proofs.Tabulate.{stored-more}
 use Rattle.graph.specs.Readable.{Readable}
 use Rattle.minimize.specs.Agree.{firstEntry}
-use Rattle.minimize.proofs.Agree.{start-low}
+use Rattle.minimize.proofs.NodeRows.{start-low}
 use Rattle.minimize.proofs.classes.starts_of.Statement.{statement}
 use Rattle.minimize.proofs.classes.starts_of.Tie as tie
 

@@ -6,9 +6,10 @@ use Rattle.sequential.specs.Petri.{petriNet}
 use Rattle.sequential.specs.Words.{graph}
 use Rattle.encoding.specs.Rows.{sectionTo}
 use Rattle.encoding.specs.declared.Section.the-variants.{ArcKeys, CountKeys}
+use Rattle.encoding.proofs.Sections.{entries-none, entries-all}
 use Rattle.minimize.specs.Tables.{NewNodes}
-use Rattle.minimize.proofs.Runs.{row-few}
-use Rattle.minimize.proofs.Writing.{new-row, rows-count, entries-none, entries-all}
+use Rattle.minimize.proofs.NewRows.{row-few}
+use Rattle.minimize.proofs.Writing.{new-row, rows-count}
 use Rattle.minimize.proofs.writer.entry_count.Statement.{statement}
 use Rattle.minimize.proofs.writer.entry_count.Tie as tie
 
@@ -22,7 +23,7 @@ abbrev μ-loop : tie.MeasureT-loop
 μ-loop net sheet new reps entries₀ i₀ entries i = new .found - i
 
 loop-holds : tie.Need-loop-holds Inv-loop μ-loop
-loop-holds c = let h = c .before .before .before .pre in (h, omega arith, entries-none h, omega arith)
+loop-holds c = let h = c .before .before .before .pre in (h, omega arith, entries-none _ _, omega arith)
 
 row-size-requires : tie.Need-row-size-requires Inv-loop μ-loop
 row-size-requires c κs = let r = new-row (c .before .before .loop .inv .0) (c .if1 .taken) refl in (r .readable, r .old)
@@ -40,23 +41,23 @@ loop-again c =
     let b = rows-count h CountKeys r in (
       h,
       omega arith,
-      omega (arith, a, b, c .row-size2 .ensures, c .before .row-size .ensures),
-      omega (arith, row-few r ArcKeys, row-few r CountKeys, c .row-size2 .ensures, c .before .row-size .ensures),
+      omega (arith, a, b),
+      omega (arith, row-few r ArcKeys, row-few r CountKeys),
     )
 
 add-entries : tie.Need-add-entries Inv-loop μ-loop
-add-entries c = let (h, low, is, most) = loop-again c in omega (arith, h .few)
+add-entries c = let (h, low, is, most) = loop-again c in omega arith
 
 add-entries-2 : tie.Need-add-entries-2 Inv-loop μ-loop
-add-entries-2 c = let (h, low, is, most) = loop-again c in omega (arith, h .few)
+add-entries-2 c = let (h, low, is, most) = loop-again c in omega arith
 
 returns : tie.Need-returns Inv-loop μ-loop
-returns c = let (h, low, is, most) = c .before .before .loop .inv in record { are = is ∙ entries-all h _ (omega arith); few = omega (arith, h .few) }
+returns c = let (h, low, is, most) = c .before .before .loop .inv in record { are = is ∙ entries-all _ _ (h .size) _ (omega arith); few = omega arith }
 
 pub entry-count-spec : {M : Type 1} → statement M
 entry-count-spec =
     tie.close
     (tie.spec Inv-loop μ-loop loop-holds
-    (λ c. omega (arith, c .before .before .loop .inv .0 .few, c .if1 .taken))
+    (λ c. omega arith)
     (λ c. search needs)
     row-size-requires row-size-requires-2 add-entries add-entries-2 (λ c. omega arith) (λ c. omega arith) loop-again returns)

@@ -1,7 +1,7 @@
 -- `minimize::writer::row_size` meets its contract.
 use borrow.Author.Needs.{needs}
 use Rattle.minimize.specs.Runs.{rowSize}
-use Rattle.minimize.proofs.Runs.{row-keyed}
+use Rattle.minimize.proofs.NewRows.{row-keyed}
 use Rattle.minimize.proofs.writer.row_size.Statement.{statement}
 use Rattle.minimize.proofs.writer.row_size.Tie as tie
 

@@ -1,6 +1,7 @@
 -- `minimize::writer::write_form` meets its contract.
 use borrow.Author.Needs.{needs}
-use Rattle.minimize.proofs.Writing.{form-written}
+use Rattle.encoding.proofs.Sections.{words-written}
+use Rattle.minimal.specs.Minimal.{minimalForm}
 use Rattle.minimize.proofs.writer.write_form.Statement.{statement}
 use Rattle.minimize.proofs.writer.write_form.Tie as tie
 
@@ -11,6 +12,7 @@ write-section-requires-4 c κs =
     d .before .before .before .before .before .before .before .before .before .before .before .before .pre .0
 
 returns : tie.Need-returns
+unfolding minimalForm
 returns c =
     let c₁ = c .before .before in
     let c₂ = c₁ .before .before .before .before in
@@ -19,7 +21,7 @@ returns c =
     let c₅ = c₄ .before .before .before .before in
     let c₆ = c₅ .before .before .before .before in
     let p = c₆ .before .before .before .before .before .before .pre in
-    form-written (p .0) _ (p .1 .are) (c₆ .put .ensures) (c₅ .put2 .ensures) (c₄ .write-section .ensures) (c₃ .write-section2 .ensures) (c₂ .write-section3 .ensures)
+    words-written _ _ (p .0 .size) _ (p .1 .are) (c₆ .put .ensures) (c₅ .put2 .ensures) (c₄ .write-section .ensures) (c₃ .write-section2 .ensures) (c₂ .write-section3 .ensures)
     (c₁ .write-section4 .ensures)
 
 pub write-form-spec : {M : Type 1} → statement M

@@ -5,7 +5,7 @@ use Rattle.encoding.specs.Encoding.{gather}
 use Rattle.encoding.specs.Rows.{Appended}
 use Rattle.encoding.proofs.Rows.{appended-none, appended-length}
 use Rattle.minimize.specs.Runs.{entryWord, wordAt, Running}
-use Rattle.minimize.proofs.Runs.{row-keyed, running, running-worded, running-more, running-all}
+use Rattle.minimize.proofs.NewRows.{row-keyed, running, running-worded, running-more, running-all}
 use Rattle.minimize.proofs.writer.write_row.Statement.{statement}
 use Rattle.minimize.proofs.writer.write_row.Tie as tie
 
@@ -24,22 +24,15 @@ run-of-requires c κs =
 
 loop-holds : tie.Need-loop-holds Inv-loop μ-loop
 unfolding gather
-loop-holds c =
-    let w = c .before in
-    let f = w .before .before in
-    let h = f .before .before .before .before .before .pre in (
-      running h (f .before .of-counts .ensures) (f .first-key .ensures) (w .before .new-key .ensures) (w .row-width .ensures) (c .run-of .ensures .0) (c .run-of .ensures .1),
-      omega arith,
-      appended-none _ _,
-    )
+loop-holds c = (search (running, needs), omega arith, appended-none _ _)
 
 add-entry-word : tie.Need-add-entry-word Inv-loop μ-loop
 add-entry-word c =
     let (r, l, a) = c .before .before .before .loop .inv in
-    omega (arith, running-worded r (c .before .if1 .taken) .within, r .row .readable .arcs .sizes .few-entries)
+    omega (arith, running-worded r (c .before .if1 .taken) .within)
 
 entry-word-requires : tie.Need-entry-word-requires Inv-loop μ-loop
-entry-word-requires c κs = let (r, l, a) = c .before .before .before .loop .inv in running-worded r (c .before .if1 .taken)
+entry-word-requires c κs = search (running-worded, needs)
 
 loop-again : tie.Need-loop-again Inv-loop μ-loop
 loop-again c =

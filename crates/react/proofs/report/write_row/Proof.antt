@@ -2,10 +2,11 @@
 use Rattle.scan.proofs.Basics.{_-_, arith}
 use Rattle.encoding.proofs.Rows.{appended-length}
 use Rattle.react.proofs.ArcRows.{few-nodes, rows, start-most, end-most}
-use Rattle.react.proofs.Reporting.{RowWriting, row-start, row-end, row-entry, row-first, row-shape, row-within, row-low, early-fits, late-fits, row-more}
+use Rattle.react.proofs.Reporting.{RowWriting, row-start, row-end, row-shape, row-low, early-fits, late-fits, row-more}
 use borrow.Author.Needs.{needs}
 use Rattle.react.proofs.report.write_row.Statement.{statement}
 use Rattle.react.proofs.report.write_row.Tie as tie
+use Rattle.react.proofs.RowWalks.{entry-there, first-low, within}
 
 abbrev Inv-loop : tie.InvT-loop
 Inv-loop net sheet words starts best worst n out₀ at first transitions end next₀ i₀ out next i = RowWriting net sheet words starts best worst n out₀ at first transitions out
@@ -15,19 +16,13 @@ abbrev μ-loop : tie.MeasureT-loop
 μ-loop net sheet words starts best worst n out₀ at first transitions end next₀ i₀ out next i = end - i
 
 add-end : tie.Need-add-end Inv-loop μ-loop
-add-end c =
-    let p = c .before .before .before .before .before .before .pre in
-    omega (arith, p .node, few-nodes (p .mapped))
+add-end c = omega (arith, few-nodes)
 
 mul-end : tie.Need-mul-end Inv-loop μ-loop
-mul-end c =
-    let p = c .before .before .before .before .before .before .pre in
-    omega (arith, p .node, few-nodes (p .mapped))
+mul-end c = omega (arith, few-nodes)
 
 element-copy-out-end : tie.Need-element-copy-out-end Inv-loop μ-loop
-element-copy-out-end c =
-    let p = c .before .before .before .before .before .before .pre in
-    omega (arith, p .node, few-nodes (p .mapped))
+element-copy-out-end c = omega (arith, few-nodes)
 
 cast-end : tie.Need-cast-end Inv-loop μ-loop
 cast-end c =
@@ -35,14 +30,10 @@ cast-end c =
     omega (arith, end-most (rows (p .mapped)) (p .node))
 
 mul-i : tie.Need-mul-i Inv-loop μ-loop
-mul-i c =
-    let p = c .before .before .before .before .before .before .before .pre in
-    omega (arith, p .node, few-nodes (p .mapped))
+mul-i c = omega (arith, few-nodes)
 
 element-copy-out-i : tie.Need-element-copy-out-i Inv-loop μ-loop
-element-copy-out-i c =
-    let p = c .before .before .before .before .before .before .before .pre in
-    omega (arith, p .node, few-nodes (p .mapped))
+element-copy-out-i c = omega (arith, few-nodes)
 
 cast-i : tie.Need-cast-i Inv-loop μ-loop
 cast-i c =
@@ -50,14 +41,10 @@ cast-i c =
     omega (arith, start-most (rows (p .mapped)) (p .node))
 
 loop-holds : tie.Need-loop-holds Inv-loop μ-loop
-loop-holds c = row-start (c .before .before .before .before .before .before .before .before .pre) (c .before .before .before .arcs-start .ensures .0)
-    (c .before .before .transitions .ensures)
+loop-holds c = search (row-start, needs)
 
 duration-requires : tie.Need-duration-requires Inv-loop μ-loop
-duration-requires c κs =
-    let g = c .before .before .before .loop .inv in
-    let k = c .before .before .loop-test .taken in
-    (row-shape g k, row-within g k (c .before .transition .ensures))
+duration-requires c κs = (search (row-shape, needs), search (within, needs))
 
 mul-early : tie.Need-mul-early Inv-loop μ-loop
 mul-early c = omega (
@@ -81,54 +68,56 @@ add-early c = omega (
 )
 
 duration-requires-2 : tie.Need-duration-requires-2 Inv-loop μ-loop
-duration-requires-2 c κs =
-    let g = c .before .before .before .before .before .loop .inv in
-    let k = c .before .before .before .before .loop-test .taken in
-    (row-shape g k, row-within g k (c .before .before .before .transition .ensures))
+duration-requires-2 c κs = (search (row-shape, needs), search (within, needs))
 
 mul-late : tie.Need-mul-late Inv-loop μ-loop
-mul-late c = omega (
-  arith,
-  row-low (c .before .before .before .before .before .before .loop .inv) (c .before .before .before .before .before .loop-test .taken)
-      (c .before .before .before .before .transition .ensures) (c .before .before .before .leads-to .ensures),
-)
+mul-late c =
+    let at-leads-to = c .before .before .before in
+    omega (
+      arith,
+      row-low (at-leads-to .before .before .before .loop .inv) (at-leads-to .before .before .loop-test .taken)
+          (at-leads-to .before .transition .ensures) (at-leads-to .leads-to .ensures),
+    )
 
 element-copy-out-late : tie.Need-element-copy-out-late Inv-loop μ-loop
-element-copy-out-late c = omega (
-  arith,
-  row-low (c .before .before .before .before .before .before .loop .inv) (c .before .before .before .before .before .loop-test .taken)
-      (c .before .before .before .before .transition .ensures) (c .before .before .before .leads-to .ensures),
-)
+element-copy-out-late c =
+    let at-leads-to = c .before .before .before in
+    omega (
+      arith,
+      row-low (at-leads-to .before .before .before .loop .inv) (at-leads-to .before .before .loop-test .taken)
+          (at-leads-to .before .transition .ensures) (at-leads-to .leads-to .ensures),
+    )
 
 add-late : tie.Need-add-late Inv-loop μ-loop
-add-late c = omega (
-  arith,
-  late-fits (c .before .before .before .before .before .before .before .loop .inv)
-      (c .before .before .before .before .before .before .loop-test .taken) (c .before .before .before .before .before .transition .ensures)
-      (c .before .before .before .before .leads-to .ensures) (c .before .duration2 .ensures),
-)
+add-late c =
+    let at-leads-to = c .before .before .before .before in
+    omega (
+      arith,
+      late-fits (at-leads-to .before .before .before .loop .inv)
+          (at-leads-to .before .before .loop-test .taken) (at-leads-to .before .transition .ensures)
+          (at-leads-to .leads-to .ensures) (c .before .duration2 .ensures),
+    )
 
 add-i : tie.Need-add-i Inv-loop μ-loop
 add-i c =
+    let at-test = c .before .before .before .before .before .before .before .before .before .before in
     let p =
-    c .before .before .before .before .before .before .before .before .before .before .before .before .before .before .before .before .before .before .before .before .pre
+    at-test .before .before .before .before .before .before .before .before .before .before .pre
     in
-    omega (arith, c .before .before .before .before .before .before .before .before .before .before .loop-test .taken, end-most (rows (p .mapped)) (p .node))
+    omega (arith, end-most (rows (p .mapped)) (p .node))
 
 loop-less : tie.Need-loop-less Inv-loop μ-loop
-loop-less c = omega (arith, c .before .before .before .before .before .before .before .before .before .before .loop-test .taken)
+loop-less c = omega arith
 
 loop-again : tie.Need-loop-again Inv-loop μ-loop
-loop-again c = row-more (c .before .before .before .before .before .before .before .before .before .before .before .loop .inv)
-    (c .before .before .before .before .before .before .before .before .before .before .loop-test .taken)
-    (c .before .before .before .before .before .before .before .before .before .transition .ensures)
-    (c .before .before .before .before .before .before .before .before .leads-to .ensures) (c .before .before .before .before .before .before .before .duration .ensures)
-    (c .before .before .before .before .before .duration2 .ensures) (c .before .before .write-pair .ensures)
+loop-again c = search (row-more, needs)
 
 pub write-row-spec : {M : Type 1} → statement M
 write-row-spec =
-    tie.close (tie.spec Inv-loop μ-loop (λ c. let p = c .before .before .before .before .pre in omega (arith, p .node, few-nodes (p .mapped))) (λ c κs. search needs) (λ c κs.
-    search needs) (λ c. search needs) add-end mul-end element-copy-out-end cast-end mul-i element-copy-out-i cast-i loop-holds (λ c κs. let g = c .before .loop .inv in let k =
-    c .loop-test .taken in (row-entry g k, row-first g k)) (λ c κs. row-entry (c .before .before .loop .inv) (c .before .loop-test .taken)) duration-requires mul-early
-    element-copy-out-early add-early duration-requires-2 mul-late element-copy-out-late add-late (λ c κs. search needs) add-i loop-less loop-again (λ c. appended-length
-    (c .before .loop .inv .written)) (λ c. row-end (c .before .loop .inv) (c .loop-test .left)))
+    tie.close
+    (tie.spec Inv-loop μ-loop (λ c. omega (arith, few-nodes)) (λ c κs. search needs) (λ c κs. search needs) (λ c. search needs) add-end mul-end
+    element-copy-out-end cast-end mul-i element-copy-out-i cast-i loop-holds
+    (λ c κs. let g = c .before .loop .inv in let k = c .loop-test .taken in (entry-there (g .walks) k, first-low (g .walks) k))
+    (λ c κs. search (entry-there, needs)) duration-requires mul-early element-copy-out-early add-early duration-requires-2 mul-late
+    element-copy-out-late add-late (λ c κs. search needs) add-i loop-less loop-again (λ c. appended-length (c .before .loop .inv .written))
+    (λ c. row-end (c .before .loop .inv) (c .loop-test .left)))

@@ -5,8 +5,9 @@ use Rattle.table.specs.Bisection.{lowerBound}
 use Rattle.net.specs.Net.{transitionCount}
 use Rattle.graph.proofs.Starts.{arcs-start-is}
 use Rattle.graph.proofs.ArcCount.{arcs-within}
-use Rattle.react.proofs.ArcRows.{start-low, starts-all}
+use Rattle.react.proofs.ArcRows.{starts-all}
 use borrow.Author.Needs.{needs}
+use Rattle.graph.proofs.Bounds.{bound-low}
 use Rattle.react.proofs.rows.starts.Statement.{statement}
 use Rattle.react.proofs.rows.starts.Tie as tie
 
@@ -19,14 +20,13 @@ abbrev μ-loop : tie.MeasureT-loop
 
 cast-starts : tie.Need-cast-starts Inv-loop μ-loop
 cast-starts c =
-    let z = start-low (c .before .before .before .before .before .before .before .before .pre) _ (c .lower-bound .ensures) in
+    let z = bound-low (c .before .before .before .before .before .before .before .before .pre) _ (c .lower-bound .ensures) in
     omega arith
 
 loop-again : tie.Need-loop-again Inv-loop μ-loop
 loop-again c =
     let (a, b, d, f) = c .before .before .before .loop .inv in
-    let s = c .before .before .before .before .before .before .before .before .pre .sizes in
-    let k = c .before .before .loop-test .taken in (
+    let s = c .before .before .before .before .before .before .before .before .pre .sizes in (
       simp length-set a,
       omega arith,
       d,
@@ -38,18 +38,17 @@ cast-starts-3 : tie.Need-cast-starts-3 Inv-loop μ-loop
 cast-starts-3 c =
     let p = c .before .before .before .before .before .before .before .pre in
     let z = arcs-within _ _ p in
-    let s = p .sizes in
-    omega (arith, c .arc-count .ensures)
+    omega arith
 
 returns : tie.Need-returns Inv-loop μ-loop
 returns c =
     let (a, b, d, f) = c .before .before .loop .inv in
-    starts-all (c .before .before .before .before .before .before .before .pre) (c .before .before .loop .starts) a (λ k l. f k (omega (arith, c .before .loop-test .left)))
+    starts-all (c .before .before .before .before .before .before .before .pre) (c .before .before .loop .starts) a (λ k l. f k (omega arith))
     (c .arc-count .ensures)
 
 pub starts-spec : {M : Type 1} → statement M
 starts-spec =
-    tie.close (tie.spec Inv-loop μ-loop (λ c. let s = c .before .before .before .pre .sizes in omega arith) (λ c. let s = c .before .before .before .before .pre .sizes in
-    omega arith) (λ c. search needs) (λ c. (refl, omega arith, c .before .before .before .before .pre .sizes .few-nodes, λ j l. absurd (omega arith))) (λ c κs. search needs)
+    tie.close (tie.spec Inv-loop μ-loop (λ c. omega arith) (λ c. omega arith) (λ c. search needs)
+    (λ c. (refl, omega arith, search needs, λ j l. absurd (omega arith))) (λ c κs. search needs)
     (λ c κs. search needs) cast-starts (λ c. search needs) (λ c. search needs) (λ c. search needs) (λ c. search needs) (λ c. search needs) loop-again (λ c κs. search needs)
     cast-starts-3 (λ c. search needs) (λ c. search needs) (λ c. search needs) returns)

@@ -3,7 +3,7 @@ use Rattle.scan.proofs.Basics.{ℕ, _+_, _*_, _-_, _<_, arith, set}
 use Rattle.reaction.specs.Memo.{unvisited}
 use Rattle.react.proofs.ArcRows.{rows, start-most, end-most}
 use Rattle.react.proofs.Recursion.{few, node-low, worked-await, kept-value, worked-kept, begin-falls, begins, closes, worked-fits}
-use Rattle.react.proofs.Recursion.{Going, goes-start, goes-fewer, goes-end, goes-entry, goes-first, within, shape, enters, sum-fits, goes-arc}
+use Rattle.react.proofs.Recursion.{Going, goes-start, goes-fewer, goes-end, shape, enters, sum-fits, goes-arc}
 use borrow.Author.Needs.{needs}
 use borrow.Fn.Kinds.{In}
 use borrow.Fn.PlainCycle.{Measures, is, falls, and}
@@ -22,6 +22,7 @@ use Rattle.react.proofs.durations.duration.Reads as duration-reads
 use Rattle.react.proofs.times.pick.Reads as pick-reads
 use Rattle.react.proofs.times.+time_of_arcs+time_of_node.{statement}
 use Rattle.react.proofs.times.+time_of_arcs+time_of_node.Tie.{close}
+use Rattle.react.proofs.RowWalks.{entry-there, first-low, within}
 
 abbrev μ-time-of-arcs : Measures 6 time-of-arcs-kinds.ps ℕ
 μ-time-of-arcs κs a = 2 * unvisited (a .1 .1 .1 .1 .1 .1 .0 .now) + 1
@@ -80,72 +81,65 @@ pub +time-of-arcs+time-of-node-spec : {M : Type 1} → statement M
       pick-reads.Asked,
       pick-reads.Learnt,
     ) (time-of-arcs-at t) time-of-arcs.Post time-of-arcs-Inv-loop
-    time-of-arcs-μ-loop (λ c. let p = c .before .before .before .pre in omega (arith, p .1 .1 .node, few (p .1 .0))) (λ c κs. search needs) (λ c κs. search needs) (λ c. search
-    needs) (λ c. let p = c .before .before .before .before .before .pre in omega (arith, p .1 .1 .node, few (p .1 .0))) (λ c. let p =
-    c .before .before .before .before .before .pre in omega (arith, p .1 .1 .node, few (p .1 .0))) (λ c. let p = c .before .before .before .before .before .pre in omega
-    (arith, p .1 .1 .node, few (p .1 .0))) (λ c. let p = c .before .before .before .before .before .before .pre in omega (
+    time-of-arcs-μ-loop (λ c. omega (arith, few))
+    (λ c κs. search needs) (λ c κs. search needs) (λ c. search
+    needs)
+    (λ c. omega (arith, few)) (λ c. omega (arith, few)) (λ c. omega (arith, few))
+    (λ c. let p = c .before .before .before .before .before .before .pre in omega (
       arith,
       end-most (rows (p .1 .0 .judged .mapped)) (p
           .1 .1 .node),
-    )) (λ c κs. search needs) (λ c. let p = c .before .before .before .before .before .before .before .pre in omega (arith, p .1 .1 .node, few (p .1 .0))) (λ c.
-    let p = c .before .before .before .before .before .before .before .pre in omega (arith, p .1 .1 .node, few (p .1 .0))) (λ c. let p =
-    c .before .before .before .before .before .before .before .before .pre in omega (arith, start-most (rows (p .1 .0 .judged .mapped)) (p .1 .1 .node))) (λ c. let p =
-    c .before .before .before .before .before .before .before .before .pre in goes-start (p .1 .0) (p .1 .1) (c .before .before .before .before .arcs-start .ensures .0)
-    (c .before .before .before .transitions .ensures) (c .before .start .ensures)) (λ c κs. let g = c .before .loop .inv in let k = c .loop-test .taken in (
-      goes-entry g k,
-      goes-first g k,
-    )) (λ c κs. goes-entry (c .before .before .loop .inv) (c .before .loop-test .taken)) (λ c κs. let g = c .before .before .before .before .loop .inv in let h :
-    2 * unvisited (c .before .before .before .before .loop .memo) < t = omega (
-      arith,
-      c .before .before .before .before .before .before .before .before .before .before .before .before .before .pre .0,
-      goes-fewer g,
-    ) in (
+    )) (λ c κs. search needs)
+    (λ c. omega (arith, few)) (λ c. omega (arith, few))
+    (λ c. let p =
+    c .before .before .before .before .before .before .before .before .pre in omega (arith, start-most (rows (p .1 .0 .judged .mapped)) (p .1 .1 .node)))
+    (λ c. search (goes-start, needs))
+    (λ c κs. let g = c .before .loop .inv in let k = c .loop-test .taken in (
+      entry-there (g .walks) k,
+      first-low (g .walks) k,
+    ))
+    (λ c κs. search (entry-there, needs))
+    (λ c κs. let g = c .before .before .before .before .loop .inv in let h :
+    2 * unvisited (c .before .before .before .before .loop .memo) < t = omega (arith, goes-fewer g) in (
       h,
       (
         g .ready,
         enters g
             (c .before .before .before .loop-test .taken) (c .before .before .transition .ensures) (c .before .leads-to .ensures),
       ),
-    )) (λ c κs. let g =
-    c .before .before .before .before .before .loop .inv in let k = c .before .before .before .before .loop-test .taken in (
-      shape g k,
-      within g k
-          (c .before .before .before .transition .ensures),
-    )) (λ c. omega (
+    ))
+    (λ c κs. (search (shape, needs), search (within, needs)))
+    (λ c. omega (
       arith,
       sum-fits (c .before .before .before .before .before .before .loop .inv)
           (c .before .before .before .before .before .loop-test .taken) (c .before .before .before .before .transition .ensures) (c .before .before .before .leads-to .ensures)
           (c .before .time-of-node .ensures) (c .duration .ensures),
     )) (λ c κs. search needs) (λ c. let p =
-    c .before .before .before .before .before .before .before .before .before .before .before .before .before .before .before .before .pre in omega (
-      arith,
-      c .before .before .before .before .before .before .loop-test .taken,
-      end-most (rows (p .1 .0 .judged .mapped)) (p .1 .1 .node),
-    )) (λ c. omega (
-      arith,
-      c .before .before .before .before .before .before .loop-test .taken,
-    )) (λ c. goes-arc (c .before .before .before .before .before .before .before .loop .inv)
-    (c .before .before .before .before .before .before .loop-test .taken) (c .before .before .before .before .before .transition .ensures)
-    (c .before .before .before .before .leads-to .ensures) (c .before .before .time-of-node .ensures) (c .before .duration .ensures) (c .pick .ensures)) (λ c. goes-end
+    c .before .before .before .before .before .before .before .before .before .before .before .before .before .before .before .before .pre in
+    omega (arith, end-most (rows (p .1 .0 .judged .mapped)) (p .1 .1 .node))) (λ c. omega arith)
+    (λ c. search (goes-arc, needs))
+    (λ c. goes-end
     (c .before .loop .inv) (c .loop-test .left))) λ t. time-of-node-lts.spec (time-of-arcs-below t, time-of-arcs.Post) (time-of-node-at t) time-of-node.Post (λ c. let p =
-    c .before .before .before .pre in omega (arith, node-low (p .1 .0) (p .1 .1))) (λ c. let p = c .before .before .before .before .before .pre in worked-await (p .1 .0) (p .1
-    .1) (c .if1 .taken)) (λ c. let p = c .before .before .before .before .before .pre in omega (arith, node-low (p .1 .0) (p .1 .1))) (λ c. let p =
+    c .before .before .before .pre in omega (arith, node-low (p .1 .0) (p .1 .1)))
+    (λ c. search (worked-await, needs))
+    (λ c. let p = c .before .before .before .before .before .pre in omega (arith, node-low (p .1 .0) (p .1 .1))) (λ c. let p =
     c .before .before .before .before .before .pre in omega (arith, node-low (p .1 .0) (p .1 .1))) (λ c. let p = c .before .before .before .before .before .before .before .pre
-    in omega (arith, kept-value (p .1 .0) (p .1 .1) (c .if2 .taken))) (λ c. let p = c .before .before .before .before .before .before .before .pre in worked-kept (p .1 .0) (p
-    .1 .1) (c .if2 .taken)) (λ c. let p = c .before .before .before .before .before .before .before .pre in omega (arith, node-low (p .1 .0) (p .1 .1))) (λ c. let p =
+    in omega (arith, kept-value (p .1 .0) (p .1 .1) (c .if2 .taken)))
+    (λ c. search (worked-kept, needs))
+    (λ c. let p = c .before .before .before .before .before .before .before .pre in omega (arith, node-low (p .1 .0) (p .1 .1))) (λ c. let p =
     c .before .before .before .before .before .before .before .pre in omega (arith, node-low (p .1 .0) (p .1 .1))) (λ c κs. let p =
     c .before .before .before .before .before .before .before .before .pre .1 in let z = c .before .if2 .left in let h : 2 * unvisited (set
     (c .before .before .before .before .before .before .before .before .args .memo .now) (c .before .before .before .before .before .before .before .before .args .n) 1) + 1 <
-    t = omega (arith, c .before .before .before .before .before .before .before .before .pre .0, begin-falls (p .0) (p .1) (omega (arith, z))) in (
+    t = omega (arith, begin-falls (p .0) (p .1) (omega (arith, z))) in (
       h,
       (
         p .0,
         begins (p .0) (p
-            .1) (omega (arith, z)) (omega (arith, c .before .before .before .if1 .left)),
+            .1) (omega (arith, z)) (omega arith),
       ),
     )) (λ c. let p =
     c .before .before .before .before .before .before .before .before .before .pre in omega (arith, worked-fits (p .1 .0) (c .time-of-arcs .ensures) (p .1 .1 .node))) (λ c.
     let p = c .before .before .before .before .before .before .before .before .before .pre in omega (arith, node-low (p .1 .0) (p .1 .1))) (λ c. let p =
     c .before .before .before .before .before .before .before .before .before .pre in omega (arith, node-low (p .1 .0) (p .1 .1))) (λ c. let p =
-    c .before .before .before .before .before .before .before .before .before .pre in closes (p .1 .0) (p .1 .1) (omega (arith, c .before .before .if2 .left))
+    c .before .before .before .before .before .before .before .before .before .pre in closes (p .1 .0) (p .1 .1) (omega arith)
     (c .time-of-arcs .ensures))

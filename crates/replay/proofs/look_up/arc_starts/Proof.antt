@@ -4,7 +4,8 @@ use borrow.Author.Needs.{needs}
 use Rattle.scan.proofs.Tabulate.{stored-more}
 use Rattle.table.specs.Bisection.{lowerBound}
 use Rattle.graph.specs.Rows.{arcsStart}
-use Rattle.replay.proofs.LookUp.{arc-start-low, first-low}
+use Rattle.graph.proofs.Bounds.{bound-low}
+use Rattle.replay.proofs.LookUp.{first-low}
 use Rattle.replay.proofs.look_up.arc_starts.Statement.{statement}
 use Rattle.replay.proofs.look_up.arc_starts.Tie as tie
 
@@ -30,7 +31,7 @@ cast-lower-bound-2 c =
     omega (arith, first-low r k (c .before .before .loop .n) (omega arith))
 
 cast-starts : tie.Need-cast-starts Inv-loop μ-loop
-cast-starts c = let z = arc-start-low (c .before .before .before .before .before .before .before .before .pre .0) _ (c .lower-bound .ensures) in omega arith
+cast-starts c = let z = bound-low (c .before .before .before .before .before .before .before .before .pre .0) _ (c .lower-bound .ensures) in omega arith
 
 loop-again : tie.Need-loop-again Inv-loop μ-loop
 loop-again c =

@@ -8,8 +8,9 @@ use Rattle.sequential.specs.Words.{nodeCount}
 use Rattle.call.specs.Index.{indexFrom}
 use Rattle.schedule.specs.Firing.{nodeAfter, entryAfter, firingFault, runFault}
 use Rattle.graph.proofs.LookUp.{arc-found, arc-missing}
-use Rattle.schedule.proofs.Walks.{refused-accepted, target-node, entry-fits, after-none, after-more, entry-none, entry-more, firing-passes, firing-fails}
+use Rattle.schedule.proofs.Walks.{target-node, entry-fits, after-none, after-more, entry-none, entry-more, firing-passes, firing-fails}
 use borrow.Author.Needs.{needs}
+use Rattle.refusal.proofs.Verdicts.{accepted-refused}
 use Rattle.schedule.proofs.firing.follow.Statement.{statement}
 use Rattle.schedule.proofs.firing.follow.Tie as tie
 
@@ -39,8 +40,8 @@ returns c =
     record {
       reply =
           (c .refuse .ensures) ∙ ap verdictOf (sym (first-hit _ _ _ (w .loop .inv .3) (firing-fails _ _ _ _ _ (w .loop .inv .1) e) _ (c .before .before .before .before .before .loop-test .taken)));
-      node = λ h. refused-accepted _ _ (c .refuse .ensures) h;
-      entry = λ h. refused-accepted _ _ (c .refuse .ensures) h;
+      node = λ h. accepted-refused _ _ h (c .refuse .ensures);
+      entry = λ h. accepted-refused _ _ h (c .refuse .ensures);
     }
 
 loop-again : tie.Need-loop-again Inv-loop μ-loop
