@@ -7,9 +7,11 @@ use Rattle.checker.proofs.report.Tie as tie
 
 returns : tie.Need-returns
 returns c =
-    let h = c .before .before .before .before .before .before .before .before .print-files .ensures in
-    let p = c .before .before .before .before .before .before .before .before .before .before .before .before .before .before .before .before .before .before .before .before .before .pre .0 in
-    let a = c .before .before .before .before .before .before .before .before .before .before .before .before .before .before .before .before .before .before .before .before .before .args in (
+    let at-print-files = c .before .before .before .before .before .before .before .before in
+    let start = at-print-files .before .before .before .before .before .before .before .before .before .before .before .before .before in
+    let h = at-print-files .print-files .ensures in
+    let p = start .pre .0 in
+    let a = start .args in (
       λ netFile sheetFile x y. prints-whole _ _ _ _ _ _ _ _ _ _ _ _ _ p h ∙ read-prints netFile sheetFile (a .netbin .now) (a .sheetbin .now) (a .n) (a .s) (p .net-bytes) (p .sheet-bytes) x y,
       text-counted _ _ _ _ _ _ _ _ _ _ _ _ _ p h,
     )
