@@ -19,10 +19,10 @@ loop-holds c = (omega arith, appended-none _ _)
 
 loop-again : tie.Need-loop-again Inv-loop μ-loop
 loop-again c =
-    let w = c .before .before .before .before .before .before .before .loop in (
+    let at-word = c .before .before .before .before in
+    let w = at-word .before .before .before .loop in (
       omega arith,
-      gathered-hit _ _ (w .inv .1) (column-hit _ _ _ _ (c .before .before .before .before .before .if1 .taken))
-          (rw (c .before .before .before .before .word .ensures) at (c .before .before .put .ensures)),
+      gathered-hit _ _ (w .inv .1) (column-hit _ _ _ _ (at-word .before .if1 .taken)) (rw (at-word .word .ensures) at (c .before .before .put .ensures)),
     )
 
 loop-again-2 : tie.Need-loop-again-2 Inv-loop μ-loop
