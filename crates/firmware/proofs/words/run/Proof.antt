@@ -44,28 +44,29 @@ row-fits : tie.Need-array-share-prefix-row
 row-fits c =
     let f = c .before .before .before .before .before .before .before .before in
     let k = known _ _ (accepted-readable _ _ (sym (f .before .before .verdict .ensures) ∙ (f .enum-told .given .1))) in
-    omega (arith, k .few-places, c .before .before .before .before .places .ensures)
+    omega arith
 
 row-part : tie.Need-slice-aggregate-write-words
 row-part c = sym (length-take-le _ _ (row-fits (c .before)))
 
 returns-4 : tie.Need-returns-4
 returns-4 c =
-    let p = c .before .before .before .before .before .before in
-    let f = p .before .before .before .before .before .before in
+    let at-marking = c .before .before .before .before .before in
+    let at-output-fault = at-marking .before .before .before in
+    let f = at-output-fault .before .before .before .before in
     let a = f .before .before .before .before .before .before .before .before in
     let h = sym (f .before .before .before .verdict .ensures) ∙ (f .before .enum-told .given .1) in
-    let e = p .before .before .before .before .enum-told2 .given .1 in
+    let e = at-output-fault .before .before .enum-told2 .given .1 in
     let ok = sym (f .follow .ensures .reply) ∙ e in
     let n = f .follow .ensures .node e in
     let r = accepted-readable _ _ h in
     let z = run-ends _ _ _ h (answer-none _ ok) in
-    let free = sym (p .before .before .output-fault .ensures) ∙ (p .enum-told3 .given .1) in
-    answered-room refl (then-next _ _ h ∙ ok) (rw (z .long, ← (p .before .before .before .places .ensures)) free)
+    let free = sym (at-output-fault .output-fault .ensures) ∙ (at-marking .before .enum-told3 .given .1) in
+    answered-room refl (then-next _ _ h ∙ ok) (rw (z .long, ← (at-output-fault .before .places .ensures)) free)
     (rw (n, f .follow .ensures .entry e, words-count (a .args .firings .now)))
     (c .before .before .write-words .ensures ∙ ap (λ (x : List ℕ). placed (a .args .out .now) 0 (bytesOf 4 x))
-    (ap (λ (k : ℕ). take k (c .before .before .before .before .before .marking .result)) (p .before .before .before .places .ensures)
-    ∙ ap (take (placeCount (a .args .net .now))) (c .before .before .before .before .before .marking .ensures ∙ marking-right _ _ (r .arcs) _ (rw n (z .low)))
+    (ap (λ (k : ℕ). take k (at-marking .marking .result)) (at-output-fault .before .places .ensures)
+    ∙ ap (take (placeCount (a .args .net .now))) (at-marking .marking .ensures ∙ marking-right _ _ (r .arcs) _ (rw n (z .low)))
     ∙ end-row _ _ _ (rw n (z .low)) (known _ _ r .few-places) ∙ ap (marking (petriNet (a .args .net .now)) (a .args .sheet .now)) n ∙ z .counts))
 
 pub run-spec : {M : Type 1} → statement M
