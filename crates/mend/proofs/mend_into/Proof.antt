@@ -16,14 +16,10 @@ ready : (c : tie.After-enum-told) → let s = c .before .before .before .before 
 ready c = c .before .before .measured .ensures .ready (c .enum-told .given .1)
 
 returns-2 : tie.Need-returns-2
-returns-2 c =
-    let b = c .before .before .before .before in
-    sheet-short _ _ _ _ (b .before .before .measured .ensures) (b .enum-told .given .1) (c .before .before .before .output-fault .ensures) (c .before .found2 .given .1)
+returns-2 c = search (sheet-short, needs)
 
 returns-3 : tie.Need-returns-3
-returns-3 c =
-    let b = c .before .before .before .before .before .before .before in
-    list-short _ _ _ _ (b .before .before .measured .ensures) (b .enum-told .given .1) (c .before .before .before .output-fault2 .ensures) (c .before .found3 .given .1)
+returns-3 c = search (list-short, needs)
 
 write-sheet-requires : tie.Need-write-sheet-requires
 write-sheet-requires c κs = let k = ready (c .before .before .before .before .before .before .before .before) in (k .mendable, k .entries-are)
@@ -32,12 +28,7 @@ write-list-requires : tie.Need-write-list-requires
 write-list-requires c κs = let k = ready (c .before .before .before .before .before .before .before .before .before .before .before .before) in (k .mendable, k .changes-are)
 
 returns-4 : tie.Need-returns-4
-returns-4 c =
-    let rooms = c .before .before .before .before .before .before .before .before .before in
-    let sheet = rooms .before .before .before .before .before in
-    let b = sheet .before in
-    both-written _ _ _ _ (b .before .before .measured .ensures) (b .enum-told .given .1) (sheet .output-fault .ensures) (rooms .before .before .before .enum-told2 .given .1)
-    (rooms .before .before .output-fault2 .ensures) (rooms .enum-told3 .given .1) (c .before .before .before .before .before .before .write-sheet .ensures) (c .before .before .write-list .ensures)
+returns-4 c = search (both-written, needs)
 
 pub mend-into-spec : {M : Type 1} → statement M
 mend-into-spec =

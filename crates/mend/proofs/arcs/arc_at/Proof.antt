@@ -12,7 +12,7 @@ cast-transition : tie.Need-cast-t10
 cast-transition c = let (r, a) = c .before .before .before .before .before .pre in let k = arc-read r a (c .before .before .transitions .ensures) in omega arith
 
 returns : tie.Need-returns
-returns c = let (r, a) = c .before .before .before .before .before .before .pre in arc-read r a (c .before .before .before .transitions .ensures)
+returns c = search (arc-read, needs)
 
 cast-target : tie.Need-cast-t18
 cast-target c = let k = returns c in omega arith

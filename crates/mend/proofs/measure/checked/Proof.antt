@@ -15,8 +15,9 @@ returns-2 c =
 
 returns-3 : tie.Need-returns-3
 returns-3 c =
-    paths-judged _ _ (sym (c .before .before .before .before .before .before .before .check-arcs .ensures) ∙ c .before .before .before .before .before .enum-told2 .given .1)
-    (c .before .before .before .before .nodes .ensures) (c .before .before .enum-told4 .given .1) (c .paths .ensures)
+    let at-nodes = c .before .before .before .before in
+    paths-judged _ _ (sym (at-nodes .before .before .before .check-arcs .ensures) ∙ at-nodes .before .enum-told2 .given .1)
+    (at-nodes .nodes .ensures) (c .before .before .enum-told4 .given .1) (c .paths .ensures)
 
 pub checked-spec : {M : Type 1} → statement M
 checked-spec =

@@ -47,14 +47,14 @@ add-entries : tie.Need-add-entries
 add-entries c = omega (arith, are c, entries-most _ _ (mendable (c .before) .fitting .readable))
 
 returns-3 : tie.Need-returns-3
-returns-3 c = entries-measured _ _ (passed (c .before .before .before .before .before .before .before .before)) (omega (arith, are (c .before .before), c .before .if2 .taken)) (c .no-counts2 .ensures)
+returns-3 c = entries-measured _ _ (passed (c .before .before .before .before .before .before .before .before)) (omega (arith, are (c .before .before))) (c .no-counts2 .ensures)
 
 returns-4 : tie.Need-returns-4
 returns-4 c =
     all-measured _ _ (passed (c .before .before .before .before .before .before .before .before)) (record {
       mendable = mendable (c .before .before .before);
       entries-are = are (c .before .before);
-      few-entries = omega (arith, c .before .if2 .left);
+      few-entries = omega arith;
       changes-are = c .counted2 .ensures;
     })
 

@@ -20,7 +20,7 @@ changed-cell-requires c κs = c .before .before .pre _ (c .loop-test .taken)
 
 loop-again : tie.Need-loop-again Inv-loop μ-loop
 unfolding changedCell
-loop-again c = storing-more (c .before .before .loop .inv) (c .before .loop-test .taken) (c .changed-cell .ensures)
+loop-again c = search (storing-more, needs)
 
 returns : tie.Need-returns Inv-loop μ-loop
 returns c = storing-all (c .before .loop .inv) (c .loop-test .left)

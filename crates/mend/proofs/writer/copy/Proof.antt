@@ -20,7 +20,7 @@ unfolding tabulate
 loop-holds c = (omega arith, appended-none _ _)
 
 loop-again : tie.Need-loop-again Inv-loop μ-loop
-loop-again c = let w = c .before .before .before .before .before .before .loop in (omega arith, copied-more _ _ _ (w .inv .1) (c .before .before .put .ensures))
+loop-again c = (omega arith, search (copied-more, needs))
 
 same-length : tie.Need-same-length Inv-loop μ-loop
 same-length c = appended-length (c .before .loop .inv .1)

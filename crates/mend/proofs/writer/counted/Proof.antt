@@ -18,21 +18,18 @@ abbrev μ-loop : tie.MeasureT-loop
 
 loop-holds : tie.Need-loop-holds Inv-loop μ-loop
 unfolding partTo
-loop-holds c = (rows-none (c .before .before .before .before .pre) (c .start-row .ensures), refl)
+loop-holds c = (search (rows-none, needs), refl)
 
 loop-again : tie.Need-loop-again Inv-loop μ-loop
-loop-again c =
-    let d = c .before .before in
-    let (w, e) = d .before .before .before .loop .inv in
-    (rows-more w (d .before .before .loop-test .taken) (d .before .row-of .ensures), part-count _ _ _ CountKeys _ (d .part-row .ensures) e (c .filled .ensures))
+loop-again c = let d = c .before .before in let (w, e) = d .before .before .before .loop .inv in (search (rows-more, needs), part-count _ _ _ CountKeys _ (d .part-row .ensures) e (c .filled .ensures))
 
 add-entries : tie.Need-add-entries Inv-loop μ-loop
-add-entries c = let (w, e) = loop-again c in omega (arith, w .few, w .within, part-few _ _ _ CountKeys _ e)
+add-entries c = let (w, e) = loop-again c in omega (arith, part-few _ _ _ CountKeys _ e)
 
 returns : tie.Need-returns Inv-loop μ-loop
 returns c =
     let (w, e) = c .before .loop .inv in
-    let q : c .before .loop .n ≡ nodeCount (c .before .before .before .before .before .before .args .sheet .now) = omega (arith, w .within, w .all) in
+    let q : c .before .loop .n ≡ nodeCount (c .before .before .before .before .before .before .args .sheet .now) = omega arith in
     rw q at e
 
 pub counted-spec : {M : Type 1} → statement M

@@ -9,7 +9,7 @@ use Rattle.mend.proofs.writer.part_row.Tie as tie
 cast-t13 : tie.Need-cast-t13
 cast-t13 c =
     let a = c .before .before .before .before .before .before .args in
-    omega (arith, c .counts-start .ensures, counts-start-low (a .net .now) (getD (a .sheet .now) 0 0) (a .n))
+    omega (arith, counts-start-low (a .net .now) (getD (a .sheet .now) 0 0) (a .n))
 
 changed-cells-requires : tie.Need-changed-cells-requires
 changed-cells-requires c κs = let (f, k) = c .before .before .before .before .before .before .pre in λ p l. rw (k .is-row) (row-few f _ p (k .low) l)
@@ -17,7 +17,7 @@ changed-cells-requires c κs = let (f, k) = c .before .before .before .before .b
 cast-t14 : tie.Need-cast-t14
 cast-t14 c =
     let a = c .before .before .before .before .before .before .before .args in
-    omega (arith, c .before .before .counts-start2 .ensures, counts-start-low (a .net .now) 0 (a .n))
+    omega (arith, counts-start-low (a .net .now) 0 (a .n))
 
 returns : tie.Need-returns
 returns c = rw (c .before .before .enum-told .given .1, c .counts-start .ensures, c .before .before .before .before .before .before .pre .1 .is-row) refl

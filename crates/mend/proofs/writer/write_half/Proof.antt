@@ -8,7 +8,7 @@ use Rattle.mend.proofs.writer.write_half.Statement.{statement}
 use Rattle.mend.proofs.writer.write_half.Tie as tie
 
 copy-requires : tie.Need-copy-requires
-copy-requires c κs = let (m, l) = c .before .before .before .before .before .pre in omega (arith, c .before .arc-count .ensures, arcs-within _ _ (m .fitting .readable))
+copy-requires c κs = omega (arith, arcs-within)
 
 returns : tie.Need-returns
 unfolding halfOf

@@ -18,13 +18,10 @@ abbrev μ-loop : tie.MeasureT-loop
 μ-loop net sheet finder part section out₀ at nodes counts₀ known₀ next₀ n₀ out counts known next n = nodes - n
 
 loop-holds : tie.Need-loop-holds Inv-loop μ-loop
-loop-holds c = (rows-none (c .before .before .before .before .before .pre) (c .start-row .ensures), part-none _ _ _ _)
+loop-holds c = (search (rows-none, needs), part-none _ _ _ _)
 
 loop-again : tie.Need-loop-again Inv-loop μ-loop
-loop-again c =
-    let d = c .before .before .before .before in
-    let (w, a) = d .before .before .before .loop .inv in
-    (rows-more w (d .before .before .loop-test .taken) (d .before .row-of .ensures), part-more _ _ _ _ _ (d .part-row .ensures) a (c .before .before .append .ensures))
+loop-again c = (search (rows-more, needs), search (part-more, needs))
 
 same-length : tie.Need-same-length Inv-loop μ-loop
 same-length c = appended-length (c .before .loop .inv .1)
@@ -32,7 +29,7 @@ same-length c = appended-length (c .before .loop .inv .1)
 returns : tie.Need-returns Inv-loop μ-loop
 returns c =
     let (w, a) = c .before .loop .inv in
-    let e : c .before .loop .n ≡ nodeCount (c .before .before .before .before .before .before .before .args .sheet .now) = omega (arith, w .within, w .all) in
+    let e : c .before .loop .n ≡ nodeCount (c .before .before .before .before .before .before .before .args .sheet .now) = omega arith in
     rw e at a
 
 pub write-part-spec : {M : Type 1} → statement M
