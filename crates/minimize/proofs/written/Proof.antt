@@ -5,10 +5,10 @@ use Rattle.minimize.proofs.written.Statement.{statement}
 use Rattle.minimize.proofs.written.Tie as tie
 
 classes-requires : tie.Need-classes-requires
-classes-requires c κs = reply-readable _ _ (c .before .before .before .pre)
+classes-requires c κs = search (reply-readable, needs)
 
 numbering-requires : tie.Need-numbering-requires
-numbering-requires c κs = (reply-readable _ _ (c .before .before .before .before .pre), c .classes .ensures)
+numbering-requires c κs = (search (reply-readable, needs), c .classes .ensures)
 
 write-requires : tie.Need-write-requires
 write-requires c κs = (c .before .before .before .before .before .before .pre, c .before .numbering .ensures)

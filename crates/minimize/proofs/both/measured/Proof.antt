@@ -8,7 +8,7 @@ classes-requires : tie.Need-classes-requires
 classes-requires c κs = reply-readable _ _ (c .before .before .pre)
 
 numbering-requires : tie.Need-numbering-requires
-numbering-requires c κs = (reply-readable _ _ (c .before .before .before .pre), c .classes .ensures)
+numbering-requires c κs = (search (reply-readable, needs), c .classes .ensures)
 
 pub measured-spec : {M : Type 1} → statement M
 measured-spec = tie.close (tie.spec classes-requires numbering-requires (λ c κs. search needs) (λ c. search needs))

@@ -5,11 +5,7 @@ use Rattle.minimize.proofs.both.written.Statement.{statement}
 use Rattle.minimize.proofs.both.written.Tie as tie
 
 returns : tie.Need-returns
-returns c =
-    let d = c .before .before .before in
-    let m = d .before .before .before in
-    let s = m .before .before .before .before .before .before .before in
-    first-short (s .pre .0) (s .pre .1) (m .before .measured .ensures) (m .measured2 .ensures) (d .output-fault .ensures) (c .before .found .given .1)
+returns c = search (first-short, needs)
 
 returns-2 : tie.Need-returns-2
 returns-2 c =

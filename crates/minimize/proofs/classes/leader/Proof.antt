@@ -31,7 +31,7 @@ loop-holds c =
     let low = own-class-low r (at .node) in (
       low,
       node-low r (at .node),
-      leader-from _ _ _ _ (λ m l e. let z = r .least m _ (omega (arith, at .node, low)) (at .node) e in omega arith),
+      leader-from _ _ _ _ (λ m l e. let z = r .least m _ (omega (arith, low)) (at .node) e in omega arith),
       λ _. r .own _ (at .node),
     )
 
@@ -39,13 +39,13 @@ nodes-agree-requires : tie.Need-nodes-agree-requires Inv-loop μ-loop
 nodes-agree-requires c κs =
     let (r, at) = c .before .before .before .before .before .pre in
     let less = c .loop-test .taken in
-    let m : c .before .loop .m < nodeCount (c .before .before .before .before .before .args .sheet .now) = omega (arith, at .node, less) in
+    let m : c .before .loop .m < nodeCount (c .before .before .before .before .before .args .sheet .now) = omega (arith, less) in
     record {
       of = r .of;
       long = r .long;
       left = m;
       right = at .node;
-      even = λ e. record { arcs = r .arcs e; inner = omega (arith, at .node, less); offers = r .offers e _ _ m (at .node) (c .before .loop .inv .3 less) };
+      even = λ e. record { arcs = r .arcs e; inner = omega (arith, less); offers = r .offers e _ _ m (at .node) (c .before .loop .inv .3 less) };
     }
 
 returns : tie.Need-returns Inv-loop μ-loop
@@ -65,7 +65,7 @@ loop-again c =
     let here = leader-not _ _ _ none (split-by-rows _ _ _ _ _ (one less) ∙ sym (c .before .before .nodes-agree .ensures) ∙ c .before .if1 .left) in (
       found .high,
       low,
-      leader-skip _ _ _ _ _ _ here (found .low) (λ j a b q e. found .skips j a b (q, at .led .leads j (omega (arith, found .high)) ∙ e)),
+      leader-skip _ _ _ _ _ _ here (found .low) (λ j a b q e. found .skips j a b (q, at .led .leads j (omega arith) ∙ e)),
       found .is,
     )
 
@@ -73,12 +73,12 @@ returns-2 : tie.Need-returns-2 Inv-loop μ-loop
 unfolding leaderBy
 returns-2 c =
     let (l, low, none, one) = c .before .loop .inv in
-    let e : c .before .loop .m ≡ c .before .before .before .before .before .args .n = omega (arith, c .loop-test .left) in
+    let e : c .before .loop .m ≡ c .before .before .before .before .before .args .n = omega arith in
     sym (least-none _ _ (rw e at none))
 
 pub leader-spec : {M : Type 1} → statement M
 leader-spec =
     tie.close
     (tie.spec Inv-loop μ-loop element-copy-out-class cast-m loop-holds nodes-agree-requires returns (λ c. omega arith)
-    (λ c κs. (omega (arith, c .before .before .loop-test .taken), omega (arith, c .before .before .before .loop .inv .1)))
-    (λ c. omega (arith, c .next-least .ensures .low, c .before .before .before .loop-test .taken)) loop-again returns-2)
+    (λ c κs. (omega arith, omega arith))
+    (λ c. omega arith) loop-again returns-2)

@@ -24,19 +24,19 @@ unfolding classIn
 loop-again c =
     let d = c .before .before .before .before in
     let (low, high, few, skips) = d .before .loop .inv in
-    (omega arith, omega (arith, d .loop-test .taken), few, skips-more _ _ _ skips (λ p. c .if2 .left (p .1)))
+    (omega arith, omega arith, few, skips-more _ _ _ skips (λ p. c .if2 .left (p .1)))
 
 loop-again-2 : tie.Need-loop-again-2 Inv-loop μ-loop
 unfolding classIn
 loop-again-2 c =
     let d = c .before .before in
     let (low, high, few, skips) = d .before .loop .inv in
-    (omega arith, omega (arith, d .loop-test .taken), few, skips-more _ _ _ skips (λ p. c .if1 .left (p .0)))
+    (omega arith, omega arith, few, skips-more _ _ _ skips (λ p. c .if1 .left (p .0)))
 
 returns-2 : tie.Need-returns-2 Inv-loop μ-loop
 returns-2 c =
     let (low, high, few, skips) = c .before .loop .inv in
-    record { low = omega arith; high = omega arith; is = λ l. absurd (omega arith); skips = λ j a b. skips j a (omega (arith, c .loop-test .left)) }
+    record { low = omega arith; high = omega arith; is = λ l. absurd (omega arith); skips = λ j a b. skips j a (omega arith) }
 
 pub next-least-spec : {M : Type 1} → statement M
 next-least-spec =

@@ -35,7 +35,7 @@ loop-again c =
     (omega arith, few, simp length-set long, leaders-more _ _ _ _ is (omega arith) (c .leader .ensures))
 
 returns : tie.Need-returns Inv-loop μ-loop
-returns c = record { leads = λ n l. (c .before .loop .inv .3 .leads) n (omega (arith, c .loop-test .left)) }
+returns c = record { leads = λ n l. (c .before .loop .inv .3 .leads) n (omega arith) }
 
 pub round-spec : {M : Type 1} → statement M
 round-spec =

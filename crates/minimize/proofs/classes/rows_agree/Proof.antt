@@ -46,7 +46,7 @@ loop-again-2 c =
 returns-3 : tie.Need-returns-3 Inv-loop μ-loop
 returns-3 c =
     let w = c .before .loop in
-    let e : w .t ≡ c .before .before .before .before .args .width = omega (arith, w .inv .low, c .loop-test .left) in
+    let e : w .t ≡ c .before .before .before .before .args .width = omega arith in
     sym (rw e at (w .inv .agreed))
 
 pub rows-agree-spec : {M : Type 1} → statement M

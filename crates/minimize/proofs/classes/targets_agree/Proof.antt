@@ -14,10 +14,10 @@ abbrev μ-loop : tie.MeasureT-loop
 μ-loop sheet classes size i j s₀ s = size - s
 
 add-values-agree : tie.Need-add-values-agree Inv-loop μ-loop
-add-values-agree c = let v = c .before .before .before .before .pre .left (c .before .loop .s) (c .loop-test .taken) in omega (arith, v .within, v .whole)
+add-values-agree c = let v = c .before .before .before .before .pre .left (c .before .loop .s) (c .loop-test .taken) in omega arith
 
 add-values-agree-2 : tie.Need-add-values-agree-2 Inv-loop μ-loop
-add-values-agree-2 c = let v = c .before .before .before .before .pre .right (c .before .loop .s) (c .loop-test .taken) in omega (arith, v .within, v .whole)
+add-values-agree-2 c = let v = c .before .before .before .before .pre .right (c .before .loop .s) (c .loop-test .taken) in omega arith
 
 values-agree-requires : tie.Need-values-agree-requires Inv-loop μ-loop
 values-agree-requires c κs =
@@ -32,11 +32,11 @@ loop-again : tie.Need-loop-again Inv-loop μ-loop
 unfolding targetsAgree
 loop-again c =
     let (l, is) = c .before .before .before .loop .inv in
-    (omega (arith, c .before .before .loop-test .taken), all-more _ _ is (sym (c .before .values-agree .ensures) ∙ not-false _ (c .if1 .left)))
+    (omega arith, all-more _ _ is (sym (c .before .values-agree .ensures) ∙ not-false _ (c .if1 .left)))
 
 returns-2 : tie.Need-returns-2 Inv-loop μ-loop
 returns-2 c =
-    let e : c .before .loop .s ≡ c .before .before .before .before .args .size = omega (arith, c .before .loop .inv .0, c .loop-test .left) in
+    let e : c .before .loop .s ≡ c .before .before .before .before .args .size = omega arith in
     sym (rw e at (c .before .loop .inv .1))
 
 pub targets-agree-spec : {M : Type 1} → statement M

@@ -24,6 +24,6 @@ values-agree-spec =
     (tie.spec (λ c. search needs) (λ c. omega arith) (λ c. omega arith) (λ c. omega arith) (λ c. omega arith) (λ c. omega arith) (λ c. omega arith)
     (λ c. omega arith) (λ c. omega arith) (λ c. omega arith) returns
     (λ c. omega (arith, target-read (c .before .before .before .before .pre .0) (c .if1 .left)))
-    (λ c. target-read (c .before .before .before .before .before .pre .0) (c .before .if1 .left))
+    (λ c. search (target-read, needs))
     (λ c. omega (arith, target-read (c .before .before .before .before .before .pre .1) (c .before .if1 .left)))
-    (λ c. target-read (c .before .before .before .before .before .before .pre .1) (c .before .before .if1 .left)) returns-2)
+    (λ c. search (target-read, needs)) returns-2)

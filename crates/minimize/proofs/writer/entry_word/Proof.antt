@@ -11,7 +11,7 @@ use Rattle.minimize.proofs.writer.entry_word.Tie as tie
 element-copy-out-wide : tie.Need-element-copy-out-wide
 element-copy-out-wide c =
     let t = c .before .before .before .before .pre .target (c .before .enum-told3 .given .1) in
-    omega (arith, c .entry-value .ensures)
+    omega arith
 
 returns : tie.Need-returns
 unfolding entryWord entryKey keyAt

@@ -11,7 +11,7 @@ unfolding runFrom
 sub-size c =
     let s = c .before .before .before .before in
     let p = s .pre in
-    omega (arith, runs-rise (p .rising) (p .fits) (s .args .key) (s .args .width), c .lower-bound2 .ensures, c .before .lower-bound .ensures)
+    omega (arith, runs-rise (p .rising) (p .fits) (s .args .key) (s .args .width))
 
 returns : tie.Need-returns
 unfolding runFrom runSize
