@@ -7,37 +7,37 @@ use Rattle.plainly.proofs.answered.Statement.{statement}
 use Rattle.plainly.proofs.answered.Tie as tie
 
 returns : tie.Need-returns
-returns c = (refused-answer _ _ _ (c .before .before .before .check .ensures) (c .before .found .given .1), record { same-length = refl; past = λ k l. refl })
+returns c = (search (refused-answer, needs), record { same-length = refl; past = λ k l. refl })
 
 shared-slice-read-spread-net : tie.Need-shared-slice-read-spread-net
-shared-slice-read-spread-net c = let r = reply-readable _ _ (sym (c .before .before .before .check .ensures) ∙ c .before .enum-told .given .1) in omega (arith, r .arcs .sizes .long)
+shared-slice-read-spread-net c =
+    let r = reply-readable _ _ (sym (c .before .before .before .check .ensures) ∙ c .before .enum-told .given .1) in omega arith
 
 cast-spread-net : tie.Need-cast-spread-net
-cast-spread-net c = let r = reply-readable _ _ (sym (c .before .before .before .check .ensures) ∙ c .before .enum-told .given .1) in omega (arith, r .arcs .sizes .few-nodes)
+cast-spread-net c = let r = reply-readable _ _ (sym (c .before .before .before .check .ensures) ∙ c .before .enum-told .given .1) in omega arith
 
 spread-net-requires : tie.Need-spread-net-requires
 spread-net-requires c κs = reply-readable _ _ (sym (c .before .before .before .check .ensures) ∙ c .before .enum-told .given .1) .arcs .accepted
 
 spread-sheet-requires : tie.Need-spread-sheet-requires
-spread-sheet-requires c κs = (
-  reply-readable _ _ (sym (c .before .before .before .before .before .check .ensures)
-      ∙ c .before .before .before .enum-told .given .1),
-  c .before .before .before .before .before .before .before .before .before .pre,
-)
+spread-sheet-requires c κs = (reply-readable _ _ (sym (c .before .before .before .before .before .check .ensures) ∙ c .before .before .before .enum-told .given .1), search needs)
 
 judged-requires : tie.Need-judged-requires
 judged-requires c κs =
-    let r = reply-readable _ _ (sym (c .before .before .before .before .before .before .before .before .before .check .ensures)
-    ∙ c .before .before .before .before .before .before .before .enum-told .given .1) in
-    let (tables, nodes) = c .before .before .before .before .before .spread-net .ensures in
+    let at-spread-net = c .before .before .before .before .before in
+    let r = reply-readable _ _ (sym (at-spread-net .before .before .before .before .check .ensures)
+    ∙ at-spread-net .before .before .enum-told .given .1) in
+    let (tables, nodes) = at-spread-net .spread-net .ensures in
     fit r _ tables nodes _ (c .before .before .before .spread-sheet .ensures .spread)
 
 returns-2 : tie.Need-returns-2
 returns-2 c =
-    let (tables, nodes) = c .before .before .before .before .before .before .spread-net .ensures in
-    let e = c .before .before .before .before .before .before .before .before .before .before .check .ensures in
-    let a = c .before .before .before .before .before .before .before .before .enum-told .given .1 in
-    let grid = c .before .before .before .before .spread-sheet .ensures in
+    let at-spread-sheet = c .before .before .before .before in
+    let at-told = at-spread-sheet .before .before .before .before in
+    let (tables, nodes) = at-spread-sheet .before .before .spread-net .ensures in
+    let e = at-told .before .before .check .ensures in
+    let a = at-told .enum-told .given .1 in
+    let grid = at-spread-sheet .spread-sheet .ensures in
     (accepted-answer _ _ e a (spread-answer _ _ (sym e ∙ a) _ tables nodes _ (grid .spread) (c .judged .ensures)), grid .front)
 
 pub answered-spec : {M : Type 1} → statement M

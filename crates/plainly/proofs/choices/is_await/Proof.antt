@@ -19,7 +19,7 @@ unfolding all
 loop-holds c = (omega arith, refl)
 
 is-source-requires : tie.Need-is-source-requires Inv-loop μ-loop
-is-source-requires c κs = (c .before .before .before .before .before .pre .1, omega (arith, c .before .before .before .before .before .pre .0 .few-transitions))
+is-source-requires c κs = (search needs, omega arith)
 
 returns : tie.Need-returns Inv-loop μ-loop
 unfolding cellsAwait awaitCell hasArc

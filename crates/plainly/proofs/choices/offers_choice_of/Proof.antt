@@ -22,12 +22,12 @@ unfolding all
 loop-holds c = (omega arith, refl)
 
 same-choice-requires : tie.Need-same-choice-requires Inv-loop μ-loop
-same-choice-requires c κs = (
-  c .before .before .before .before .before .before .pre .1 .0,
-  c .before .before .before .before .before .before .pre .1 .1,
-  omega
-      (arith, c .before .before .before .before .before .before .pre .0 .few-transitions),
-)
+same-choice-requires c κs =
+    let start = c .before .before .before .before .before .before in (
+      start .pre .1 .0,
+      start .pre .1 .1,
+      omega arith,
+    )
 
 returns : tie.Need-returns Inv-loop μ-loop
 unfolding cellsChoice choiceCell hasArc

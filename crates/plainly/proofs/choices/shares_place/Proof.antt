@@ -22,7 +22,7 @@ returns c = sym (any-in _ _ (c .before .before .before .before .loop .p) (c .bef
 
 loop-again : tie.Need-loop-again Inv-loop μ-loop
 unfolding sharedCell
-loop-again c = (omega arith, any-more _ _ (c .before .before .before .before .loop .inv .1) (c .if1 .left))
+loop-again c = (omega arith, search (any-more, needs))
 
 returns-2 : tie.Need-returns-2 Inv-loop μ-loop
 unfolding cellsShared

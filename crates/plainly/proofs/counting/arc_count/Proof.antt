@@ -25,17 +25,18 @@ loop2-holds c = c .before .before .loop .inv
 
 add-i : tie.Need-add-i Inv-loop2 μ-loop2 Inv-loop μ-loop
 add-i c =
+    let at-loop2 = c .before .before .before .before in
     omega (
       arith,
-      counted-fits (c .before .before .before .before .before .before .before .before .before .args .s) _
-          (c .before .before .before .before .before .if1 .taken) (c .before .before .if2 .taken) (c .before .before .before .before .loop2 .inv) _ (c .one-if .ensures),
+      counted-fits (at-loop2 .before .before .before .before .before .args .s) _
+          (at-loop2 .before .if1 .taken) (c .before .before .if2 .taken) (at-loop2 .loop2 .inv) _ (c .one-if .ensures),
     )
 
 loop2-again : tie.Need-loop2-again Inv-loop2 μ-loop2 Inv-loop μ-loop
-loop2-again c = counted-more _ _ (c .before .before .before .before .before .if1 .taken) (c .before .before .if2 .taken) (c .one-if .ensures) (c .before .before .before .before .loop2 .inv)
+loop2-again c = search (counted-more, needs)
 
 loop-again : tie.Need-loop-again Inv-loop2 μ-loop2 Inv-loop μ-loop
-loop-again c = counted-next _ _ (c .before .before .before .if1 .taken) (c .if2 .left) (c .before .before .loop2 .inv)
+loop-again c = search (counted-next, needs)
 
 returns : tie.Need-returns Inv-loop2 μ-loop2 Inv-loop μ-loop
 returns c = counted-all _ _ (c .if1 .left) (c .before .before .loop .inv)

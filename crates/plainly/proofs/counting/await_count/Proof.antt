@@ -21,34 +21,25 @@ unfolding count
 loop-holds c = (omega arith, refl, c .before .pre .few-nodes)
 
 is-await-requires : tie.Need-is-await-requires Inv-loop μ-loop
-is-await-requires c κs = (
-  at-row _ (c .before .before .before .before .before .before .pre) _ (c .before .before .before .loop-test .taken),
-  taking _
-      (c .before .before .before .before .before .before .pre) (search needs),
-)
+is-await-requires c κs = (search (at-row, needs), search (taking, needs))
 
 add-awaits : tie.Need-add-awaits Inv-loop μ-loop
 add-awaits c =
-    let a = c .before .before .before .before .before .before .before .before .args in
-    let (x, y, z) = c .before .before .before .before .before .before .loop .inv in
-    omega (
-      arith,
-      c .one-if .ensures,
-      bit-le (c .before .is-await .result),
-      count-le (isAwait (netOf (a .t1)) (graphOf (a .t1) (a .grid .now)))
-          (c .before .before .before .before .before .before .loop .n),
-    )
+    let at-loop = c .before .before .before .before .before .before in
+    let a = at-loop .before .before .args in
+    let (x, y, z) = at-loop .loop .inv in
+    omega (arith, bit-le (c .before .is-await .result), count-le (isAwait (netOf (a .t1)) (graphOf (a .t1) (a .grid .now))) (at-loop .loop .n))
 
 loop-again : tie.Need-loop-again Inv-loop μ-loop
 loop-again c =
-    let (x, y, z) = c .before .before .before .before .before .before .loop .inv in (
+    let at-test = c .before .before .before .before .before in
+    let (x, y, z) = at-test .before .loop .inv in (
       omega arith,
       rw (
         count-more _ _,
         y,
         c .one-if .ensures,
-        c .before .is-await .ensures ∙ await-told
-            (c .before .before .before .before .before .before .before .before .args .t1) _ _ (c .before .before .before .before .before .loop-test .taken),
+        c .before .is-await .ensures ∙ await-told (at-test .before .before .before .args .t1) _ _ (at-test .loop-test .taken),
       ),
       z,
     )

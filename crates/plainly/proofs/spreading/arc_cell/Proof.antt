@@ -6,25 +6,27 @@ use Rattle.plainly.proofs.spreading.arc_cell.Statement.{statement}
 use Rattle.plainly.proofs.spreading.arc_cell.Tie as tie
 
 returns : tie.Need-returns
-returns c = arc-no-node (c .before .before .before .before .before .pre) _ _ (c .if1 .taken)
+returns c = search (arc-no-node, needs)
 
 returns-2 : tie.Need-returns-2
 returns-2 c = arc-no-transition (c .before .before .before .before .before .before .pre) _ _ (rw (c .before .before .before .transitions .ensures) at (c .if2 .taken))
 
 mul-value-of : tie.Need-mul-value-of
 mul-value-of c =
-    let a = c .before .before .before .before .before .before .args in
-    let z = c .before .before .before .before .before .before .pre .arcs .sizes in
-    omega (arith, rows-small (a .n) (c .before .before .before .transitions .result) (omega arith) (omega (arith, c .before .before .before .transitions .ensures)))
+    let at-transitions = c .before .before .before in
+    let a = at-transitions .before .before .before .args in
+    let z = at-transitions .before .before .before .pre .arcs .sizes in
+    omega (arith, rows-small (a .n) (at-transitions .transitions .result) (omega arith) (omega arith))
 
 add-value-of : tie.Need-add-value-of
 add-value-of c =
-    let a = c .before .before .before .before .before .before .args in
-    let z = c .before .before .before .before .before .before .pre .arcs .sizes in
-    omega (arith, rows-small (a .n) (c .before .before .before .transitions .result) (omega arith) (omega (arith, c .before .before .before .transitions .ensures)))
+    let at-transitions = c .before .before .before in
+    let a = at-transitions .before .before .before .args in
+    let z = at-transitions .before .before .before .pre .arcs .sizes in
+    omega (arith, rows-small (a .n) (at-transitions .transitions .result) (omega arith) (omega arith))
 
 value-of-requires : tie.Need-value-of-requires
-value-of-requires c κs = (keyed (c .before .before .before .before .before .before .pre), omega arith)
+value-of-requires c κs = (search (keyed, needs), omega arith)
 
 returns-3 : tie.Need-returns-3
 returns-3 c =

@@ -6,53 +6,57 @@ use Rattle.plainly.proofs.spreading.count_cell.Statement.{statement}
 use Rattle.plainly.proofs.spreading.count_cell.Tie as tie
 
 returns : tie.Need-returns
-returns c = count-no-node (c .before .before .before .before .before .pre) _ _ (c .if1 .taken)
+returns c = search (count-no-node, needs)
 
 returns-2 : tie.Need-returns-2
 returns-2 c = count-no-place (c .before .before .before .before .before .before .pre) _ _ (rw (c .before .before .before .places .ensures) at (c .if2 .taken))
 
 mul-first : tie.Need-mul-first
-mul-first c = let z = c .before .before .before .before .before .before .before .before .pre .arcs .sizes in rw (c .transitions .ensures) (omega (arith, z .few-arcs))
+mul-first c = rw (c .transitions .ensures) (omega arith)
 
 mul-value-of : tie.Need-mul-value-of
 mul-value-of c =
-    let a = c .before .before .before .before .before .before .before .before .args in
-    let z = c .before .before .before .before .before .before .before .before .pre .arcs .sizes in
+    let at-places = c .before .before .before .before .before in
+    let a = at-places .before .before .before .args in
+    let z = at-places .before .before .before .pre .arcs .sizes in
     omega (
       arith,
-      rows-small (a .n) (c .before .before .before .before .before .places .result) (omega arith) (omega (arith, c .before .before .before .before .before .places .ensures)),
-      rows-small (getD (a .sheet .now) 0 0) (c .transitions .result) (omega arith) (omega (arith, c .transitions .ensures)),
+      rows-small (a .n) (at-places .places .result) (omega arith) (omega arith),
+      rows-small (getD (a .sheet .now) 0 0) (c .transitions .result) (omega arith) (omega arith),
     )
 
 add-value-of : tie.Need-add-value-of
 add-value-of c =
-    let a = c .before .before .before .before .before .before .before .before .args in
-    let z = c .before .before .before .before .before .before .before .before .pre .arcs .sizes in
+    let at-places = c .before .before .before .before .before in
+    let a = at-places .before .before .before .args in
+    let z = at-places .before .before .before .pre .arcs .sizes in
     omega (
       arith,
-      rows-small (a .n) (c .before .before .before .before .before .places .result) (omega arith) (omega (arith, c .before .before .before .before .before .places .ensures)),
-      rows-small (getD (a .sheet .now) 0 0) (c .transitions .result) (omega arith) (omega (arith, c .transitions .ensures)),
+      rows-small (a .n) (at-places .places .result) (omega arith) (omega arith),
+      rows-small (getD (a .sheet .now) 0 0) (c .transitions .result) (omega arith) (omega arith),
     )
 
 add-value-of-2 : tie.Need-add-value-of-2
 add-value-of-2 c =
-    let a = c .before .before .before .before .before .before .before .before .args in
-    let z = c .before .before .before .before .before .before .before .before .pre .arcs .sizes in
+    let at-places = c .before .before .before .before .before in
+    let a = at-places .before .before .before .args in
+    let z = at-places .before .before .before .pre .arcs .sizes in
     omega (
       arith,
-      rows-small (a .n) (c .before .before .before .before .before .places .result) (omega arith) (omega (arith, c .before .before .before .before .before .places .ensures)),
-      rows-small (getD (a .sheet .now) 0 0) (c .transitions .result) (omega arith) (omega (arith, c .transitions .ensures)),
+      rows-small (a .n) (at-places .places .result) (omega arith) (omega arith),
+      rows-small (getD (a .sheet .now) 0 0) (c .transitions .result) (omega arith) (omega arith),
     )
 
 value-of-requires : tie.Need-value-of-requires
-value-of-requires c κs = (keyed (c .before .before .before .before .before .before .before .before .pre), omega arith)
+value-of-requires c κs = (search (keyed, needs), omega arith)
 
 returns-3 : tie.Need-returns-3
 returns-3 c =
+    let at-if2 = c .before .before .before in
     let e = c .before .transitions .ensures in
-    let f = c .before .before .before .before .before .before .places .ensures in
-    (rw (e, f) at (c .value-of .ensures)) ∙ count-value (c .before .before .before .before .before .before .before .before .before .pre) _ _
-    (c .before .before .before .before .if1 .left) (rw f at (c .before .before .before .if2 .left))
+    let f = at-if2 .before .before .before .places .ensures in
+    (rw (e, f) at (c .value-of .ensures)) ∙ count-value (at-if2 .before .before .before .before .before .before .pre) _ _
+    (at-if2 .before .if1 .left) (rw f at (at-if2 .if2 .left))
 
 pub count-cell-spec : {M : Type 1} → statement M
 count-cell-spec =

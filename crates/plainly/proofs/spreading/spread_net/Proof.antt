@@ -24,28 +24,30 @@ loop-holds c = (omega arith, refl, refl, λ j l. absurd (omega arith), λ j l. a
 
 loop-again : tie.Need-loop-again Inv-loop μ-loop
 loop-again c =
-    let (x, y, z, u, w) = c .before .before .before .before .loop .inv in
-    let a = accessors _ (c .before .before .before .before .before .before .before .before .pre) in
-    let i = c .before .before .before .before .loop .i in
+    let at-loop = c .before .before .before .before in
+    let (x, y, z, u, w) = at-loop .loop .inv in
+    let a = accessors _ (at-loop .before .before .before .before .pre) in
+    let i = at-loop .loop .i in
     let takes = c .before .before .taken .ensures ∙ a .takes _ _ in
     let changes = c .change-of .ensures ∙ same-change (c .before .put .ensures ∙ a .puts _ _) takes in (
       omega arith,
       simp length-set y,
       simp length-set z,
-      stored-more (takenCell _) (c .before .before .before .before .loop .taken) i _ u (omega arith) takes,
-      stored-one (changeCell _) (pos 0) (c .before .before .before .before .loop .change) i _ w (omega arith)
+      stored-more (takenCell _) (at-loop .loop .taken) i _ u (omega arith) takes,
+      stored-one (changeCell _) (pos 0) (at-loop .loop .change) i _ w (omega arith)
           (toZ-ofZ w64 (c .change-of .result) (record { sfits = c .change-of .ok }) ∙ changes),
     )
 
 returns : tie.Need-returns Inv-loop μ-loop
 returns c =
-    let (x, y, z, u, w) = c .before .before .before .loop .inv in
-    let a = accessors _ (c .before .before .before .before .before .before .before .pre) in (
+    let at-loop = c .before .before .before in
+    let (x, y, z, u, w) = at-loop .loop .inv in
+    let a = accessors _ (at-loop .before .before .before .before .pre) in (
       record {
         places-are = c .before .places .ensures;
         transitions-are = c .transitions .ensures;
-        starts-are = λ p l. rw (c .before .before .before .before .before .start-row .ensures, a .starts-row) (tabulate-at _ 0 32 p l);
-        capacities-are = λ p l. rw (c .before .before .before .before .capacity-row .ensures, a .capacities-row) (tabulate-at _ 0 32 p l);
+        starts-are = λ p l. rw (at-loop .before .before .start-row .ensures, a .starts-row) (tabulate-at _ 0 32 p l);
+        capacities-are = λ p l. rw (at-loop .before .capacity-row .ensures, a .capacities-row) (tabulate-at _ 0 32 p l);
         taken-is = λ i l. u i (omega arith);
         change-is = λ i l. w i (omega arith);
       },

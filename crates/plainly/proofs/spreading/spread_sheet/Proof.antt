@@ -17,10 +17,10 @@ abbrev μ-loop : tie.MeasureT-loop
 μ-loop net sheet grid₀ k₀ grid k = 8192 - k
 
 loop-holds : tie.Need-loop-holds Inv-loop μ-loop
-loop-holds c = (omega arith, refl, c .before .before .before .pre .1, λ j l. absurd (omega arith), λ j l. refl)
+loop-holds c = (omega arith, refl, search needs, λ j l. absurd (omega arith), λ j l. refl)
 
 cell-requires : tie.Need-cell-requires Inv-loop μ-loop
-cell-requires c κs = (c .before .before .before .before .before .pre .0, c .loop-test .taken)
+cell-requires c κs = (search needs, c .loop-test .taken)
 
 slice-write-grid : tie.Need-slice-write-grid Inv-loop μ-loop
 slice-write-grid c = let (x, y, z, u, w) = c .before .before .loop .inv in omega arith
@@ -46,5 +46,5 @@ returns c = let (x, y, z, u, w) = c .before .loop .inv in record { spread = reco
 pub spread-sheet-spec : {M : Type 1} → statement M
 spread-sheet-spec =
     tie.close
-    (tie.spec Inv-loop μ-loop loop-holds cell-requires (λ c. search needs) slice-write-grid (λ c. search needs) (λ c. search needs) loop-again same-length
-    returns)
+    (tie.spec Inv-loop μ-loop loop-holds cell-requires (λ c. search needs) slice-write-grid (λ c. search needs) (λ c. search needs) loop-again
+    same-length returns)

@@ -7,20 +7,13 @@ use Rattle.plainly.proofs.spreading.value_of.Tie as tie
 
 add-result : tie.Need-add-result
 add-result c =
-    omega (
-      arith,
-      value-small _ (c .before .before .before .before .before .before .before .pre .0) _ (c .before .before .before .before .find .ensures) _
-          (c .before .before .i .given .1),
-      c .value .ensures,
-    )
+    omega (arith, value-small _ (c .before .before .before .before .before .before .before .pre .0) _ (c .before .before .before .before .find .ensures) _ (c .before .before .i .given .1))
 
 returns : tie.Need-returns
-returns c =
-    value-found _ (c .before .before .before .before .before .before .before .pre .0) _ (c .before .before .before .before .find .ensures) _ _ (c .before .before .i .given .1)
-    (c .value .ensures)
+returns c = search (value-found, needs)
 
 returns-2 : tie.Need-returns-2
-returns-2 c = value-absent _ (c .before .before .before .before .before .pre .0) _ (c .before .before .find .ensures) _ (c .enum-told .given .1)
+returns-2 c = search (value-absent, needs)
 
 pub value-of-spec : {M : Type 1} → statement M
 value-of-spec =
