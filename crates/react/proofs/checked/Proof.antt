@@ -7,12 +7,7 @@ use Rattle.react.proofs.checked.Statement.{statement}
 use Rattle.react.proofs.checked.Tie as tie
 
 durations-fault-requires : tie.Need-durations-fault-requires
-durations-fault-requires c κs = omega (
-  arith,
-  c .transitions .ensures,
-  accepted-readable _ _ (sym (c .before .before .before .verdict .ensures) ∙
-      c .before .enum-told2 .given .1) .arcs .sizes .few-transitions,
-)
+durations-fault-requires c κs = omega (arith, accepted-readable _ _ (sym (c .before .before .before .verdict .ensures) ∙ c .before .enum-told2 .given .1) .arcs .sizes .few-transitions)
 
 returns-2 : tie.Need-returns-2
 returns-2 c = durations-told _ _ _ (sym (c .before .before .before .before .verdict .ensures) ∙ c .before .before .enum-told2 .given .1) (c .before .transitions .ensures)
@@ -20,5 +15,6 @@ returns-2 c = durations-told _ _ _ (sym (c .before .before .before .before .verd
 
 pub checked-spec : {M : Type 1} → statement M
 checked-spec =
-    tie.close (tie.spec (λ c κs. search needs) (λ c. search needs) (λ c. sheet-refused _ _ _ (c .before .before .verdict .ensures) (c .enum-told .given .1)) (λ c. search
-    needs) (λ c κs. search needs) (λ c. search needs) durations-fault-requires returns-2)
+    tie.close
+    (tie.spec (λ c κs. search needs) (λ c. search needs) (λ c. search (sheet-refused, needs)) (λ c. search needs) (λ c κs. search needs)
+    (λ c. search needs) durations-fault-requires returns-2)

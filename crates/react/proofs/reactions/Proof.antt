@@ -9,9 +9,10 @@ returns : tie.Need-returns
 returns c = refused-scratch (sym (c .before .before .before .scratch-fault .ensures) ∙ c .before .found .given .1) refl
 
 returns-2 : tie.Need-returns-2
-returns-2 c = served (sym (c .before .before .before .before .before .before .before .before .before .before .scratch-fault .ensures) ∙
-    c .before .before .before .before .before .before .before .before .enum-told .given .1)
-    (c .before .before .before .before .before .before .reaction-into .ensures) (c .before .before .clear-front .ensures)
+returns-2 c =
+    let at-reaction-into = c .before .before .before .before .before .before in
+    served (sym (at-reaction-into .before .before .before .before .scratch-fault .ensures) ∙
+    at-reaction-into .before .before .enum-told .given .1) (at-reaction-into .reaction-into .ensures) (c .before .before .clear-front .ensures)
 
 pub reactions-spec : {M : Type 1} → statement M
 reactions-spec =

@@ -5,10 +5,10 @@ use Rattle.react.proofs.durations.duration_fails.Statement.{statement}
 use Rattle.react.proofs.durations.duration_fails.Tie as tie
 
 returns : tie.Need-returns
-returns c = fails-order _ _ (c .before .before .duration .ensures) (c .before .duration2 .ensures) (c .if1 .taken)
+returns c = search (fails-order, needs)
 
 returns-2 : tie.Need-returns-2
-returns-2 c = fails-long _ _ (c .before .before .duration .ensures) (c .before .duration2 .ensures) (c .if1 .left)
+returns-2 c = search (fails-long, needs)
 
 pub duration-fails-spec : {M : Type 1} → statement M
 duration-fails-spec =

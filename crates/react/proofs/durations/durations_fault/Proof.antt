@@ -25,10 +25,10 @@ loop-again : tie.Need-loop-again Inv-loop μ-loop
 loop-again c = passing-more _ _ _ (c .before .before .before .loop .inv) (sym (c .before .duration-fails .ensures) ∙ c .if2 .left)
 
 returns-3 : tie.Need-returns-3 Inv-loop μ-loop
-returns-3 c = let g = c .before .loop .inv in ap verdictOf (sym (durations-accepted _ _ (g .shape) (λ u l. g .below u (omega (arith, c .loop-test .left)))))
+returns-3 c = let g = c .before .loop .inv in ap verdictOf (sym (durations-accepted _ _ (g .shape) (λ u l. g .below u (omega arith))))
 
 pub durations-fault-spec : {M : Type 1} → statement M
 durations-fault-spec =
     tie.close (tie.spec Inv-loop μ-loop (λ c κs. search needs) (λ c κs. search needs) returns (λ c. passing-none _ _ (sym (c .before .shape-passes .ensures) ∙
     not-false _ (c .if1 .left))) (λ c κs. let g = c .before .loop .inv in (shape↔ _ _ .0 (g .shape), c .loop-test .taken)) (λ c κs. search needs) returns-2 (λ
-    c. omega (arith, c .before .before .loop-test .taken)) (λ c. omega (arith, c .before .before .loop-test .taken)) loop-again returns-3)
+    c. omega arith) (λ c. omega arith) loop-again returns-3)

@@ -3,6 +3,7 @@ use Rattle.scan.proofs.Basics.{_-_, arith}
 use Rattle.reach.specs.Reach.{isMarked}
 use Rattle.react.proofs.ArcRows.{node-low, start-most, end-most}
 use Rattle.react.proofs.ReportSize.{Sizing, size-start, size-node, size-end, size-busy, size-await}
+use borrow.Author.Needs.{needs}
 use Rattle.react.proofs.report.size.Statement.{statement}
 use Rattle.react.proofs.report.size.Tie as tie
 
@@ -55,33 +56,33 @@ add-n c = omega (
 )
 
 mul-size : tie.Need-mul-size Inv-loop μ-loop
-mul-size c = omega (
-  arith,
-  end-most (c .before .before .before .before .before .before .before .pre) (size-node (c .before .before .before .before .before .loop .inv)
-      (c .before .before .before .before .loop-test .taken)),
-)
+mul-size c =
+    let at-test = c .before .before .before .before in
+    omega (
+      arith,
+      end-most (at-test .before .before .before .pre) (size-node (at-test .before .loop .inv)
+          (at-test .loop-test .taken)),
+    )
 
 add-size : tie.Need-add-size Inv-loop μ-loop
 add-size c =
-    let p = c .before .before .before .before .before .before .before .pre in
-    let g = c .before .before .before .before .before .loop .inv in
-    let l = size-node g (c .before .before .before .before .loop-test .taken) in
-    omega (arith, end-most p l, node-low p l, g .few)
+    let at-test = c .before .before .before .before in
+    let p = at-test .before .before .before .pre in
+    let g = at-test .before .loop .inv in
+    let l = size-node g (at-test .loop-test .taken) in
+    omega (arith, end-most p l, node-low p l)
 
 loop-again : tie.Need-loop-again Inv-loop μ-loop
 unfolding isMarked
-loop-again c = size-await (c .before .before .before .before .before .loop .inv) (c .before .before .before .before .loop-test .taken)
-    (c .before .before .before .before .before .before .before .pre) (c .if1 .taken)
+loop-again c = search (size-await, needs)
 
 loop-again-2 : tie.Need-loop-again-2 Inv-loop μ-loop
 unfolding isMarked
-loop-again-2 c = size-busy (c .before .before .before .before .before .loop .inv) (c .before .before .before .before .loop-test .taken) (c .if1 .left)
+loop-again-2 c = search (size-busy, needs)
 
 pub size-spec : {M : Type 1} → statement M
 size-spec =
-    tie.close (tie.spec Inv-loop μ-loop (λ c. omega (arith, c .before .pre .long)) (λ c. omega (arith, c .before .pre .few-nodes)) (λ c. size-start) add-arcs mul-arcs
-    element-copy-out-arcs cast-arcs mul-arcs-2 element-copy-out-arcs-2 cast-arcs-2 sub-arcs element-copy-out-waits add-n mul-size add-size (λ c. omega (
-      arith,
-      c .before .before .before .before .loop-test .taken,
-    )) loop-again (λ c. omega (arith, c .before .before .before .before .loop-test .taken)) loop-again-2 (λ c. size-end
-    (c .before .loop .inv) (c .loop-test .left)))
+    tie.close
+    (tie.spec Inv-loop μ-loop (λ c. omega arith) (λ c. omega arith) (λ c. size-start) add-arcs mul-arcs element-copy-out-arcs cast-arcs mul-arcs-2
+    element-copy-out-arcs-2 cast-arcs-2 sub-arcs element-copy-out-waits add-n mul-size add-size (λ c. omega arith) loop-again (λ c. omega arith)
+    loop-again-2 (λ c. size-end (c .before .loop .inv) (c .loop-test .left)))

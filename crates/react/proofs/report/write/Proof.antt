@@ -3,6 +3,7 @@ use Rattle.scan.proofs.Basics.{_-_, arith}
 use Rattle.encoding.proofs.Rows.{appended-length}
 use Rattle.react.proofs.ArcRows.{readable, few-nodes}
 use Rattle.react.proofs.Reporting.{Writing, write-start, all-written, write-low, writable, writes-row, skips-row}
+use borrow.Author.Needs.{needs}
 use Rattle.react.proofs.report.write.Statement.{statement}
 use Rattle.react.proofs.report.write.Tie as tie
 
@@ -16,28 +17,22 @@ shared-slice-read-nodes : tie.Need-shared-slice-read-nodes Inv-loop μ-loop
 shared-slice-read-nodes c = omega (arith, readable (c .before .before .before .before .before .before .before .pre .judged .mapped) .sizes .long)
 
 loop-holds : tie.Need-loop-holds Inv-loop μ-loop
-loop-holds c = write-start (c .before .before .before .before .before .before .before .pre) (c .before .before .times .ensures) (c .before .times2 .ensures)
+loop-holds c = search (write-start, needs)
 
 write-row-requires : tie.Need-write-row-requires Inv-loop μ-loop
 write-row-requires c κs = writable (c .before .before .before .before .before .before .loop .inv) (c .before .before .before .before .before .loop-test .taken)
     (c .before .before .before .if1 .taken)
 
 loop-again : tie.Need-loop-again Inv-loop μ-loop
-loop-again c = writes-row (c .before .before .before .before .before .before .before .before .before .loop .inv)
-    (c .before .before .before .before .before .before .before .before .loop-test .taken) (c .before .before .write-row .ensures)
+loop-again c = search (writes-row, needs)
 
 loop-again-2 : tie.Need-loop-again-2 Inv-loop μ-loop
-loop-again-2 c = skips-row (c .before .before .before .loop .inv) (c .before .before .loop-test .taken) (omega (arith, c .if1 .left))
+loop-again-2 c = skips-row (c .before .before .before .loop .inv) (c .before .before .loop-test .taken) (omega arith)
 
 pub write-spec : {M : Type 1} → statement M
 write-spec =
-    tie.close (tie.spec Inv-loop μ-loop (λ c κs. c .before .before .before .before .pre) (λ c κs. c .before .before .before .before .before .pre) shared-slice-read-nodes (λ c.
-    omega (arith, few-nodes (c .before .before .before .before .before .before .before .pre .judged .mapped))) loop-holds (λ c. omega (
-      arith,
-      write-low (c .before .loop .inv)
-          (c .loop-test .taken),
-    )) (λ c. omega (arith, write-low (c .before .loop .inv) (c .loop-test .taken))) write-row-requires (λ c. omega (
-      arith,
-      c .before .before .before .before .before .before .before .before .loop-test .taken,
-    )) loop-again (λ c. omega (arith, c .before .before .loop-test .taken)) loop-again-2 (λ
-    c. appended-length (c .before .loop .inv .written)) (λ c. all-written (c .before .loop .inv) (c .loop-test .left)))
+    tie.close
+    (tie.spec Inv-loop μ-loop (λ c κs. search needs) (λ c κs. search needs) shared-slice-read-nodes (λ c. omega (arith, few-nodes)) loop-holds
+    (λ c. omega (arith, write-low (c .before .loop .inv) (c .loop-test .taken)))
+    (λ c. omega (arith, write-low (c .before .loop .inv) (c .loop-test .taken))) write-row-requires (λ c. omega arith) loop-again (λ c. omega arith)
+    loop-again-2 (λ c. search (appended-length, needs)) (λ c. search (all-written, needs)))

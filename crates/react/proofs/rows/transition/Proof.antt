@@ -8,7 +8,7 @@ use Rattle.react.proofs.rows.transition.Tie as tie
 
 sub-result : tie.Need-sub-result
 unfolding entryKey keyAt
-sub-result c = omega (arith, c .before .pre .1)
+sub-result c = omega arith
 
 returns : tie.Need-returns
 unfolding entryKey keyAt

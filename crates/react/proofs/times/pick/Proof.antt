@@ -6,19 +6,19 @@ use Rattle.react.proofs.times.pick.Tie as tie
 
 returns : tie.Need-returns
 unfolding pickOf
-returns c = rw (c .before .if1 .taken) (omega (arith, c .if2 .taken))
+returns c = rw (c .before .if1 .taken) (omega arith)
 
 returns-2 : tie.Need-returns-2
 unfolding pickOf
-returns-2 c = rw (c .before .if1 .taken) (omega (arith, c .if2 .left))
+returns-2 c = rw (c .before .if1 .taken) (omega arith)
 
 returns-3 : tie.Need-returns-3
 unfolding pickOf
-returns-3 c = rw (c .before .if1 .left) (omega (arith, c .if3 .taken))
+returns-3 c = rw (c .before .if1 .left) (omega arith)
 
 returns-4 : tie.Need-returns-4
 unfolding pickOf
-returns-4 c = rw (c .before .if1 .left) (omega (arith, c .if3 .left))
+returns-4 c = rw (c .before .if1 .left) (omega arith)
 
 pub pick-spec : {M : Type 1} → statement M
 pick-spec =

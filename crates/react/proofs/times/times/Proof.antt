@@ -1,5 +1,5 @@
 -- `react::times::times` meets its contract: the times of the nodes before the counter.
-use Rattle.scan.proofs.Basics.{_-_, arith, refl}
+use Rattle.scan.proofs.Basics.{_-_, arith}
 use Rattle.react.proofs.ArcRows.{readable, few-nodes}
 use Rattle.react.proofs.AllTimes.{Filling, filling-start, fill-enters, fill-low, fill-more}
 use borrow.Author.Needs.{needs}
@@ -13,25 +13,19 @@ abbrev μ-loop : tie.MeasureT-loop
 μ-loop net sheet words starts awaits latest nodes memo₀ times₀ n₀ memo times n = nodes - n
 
 loop-again : tie.Need-loop-again Inv-loop μ-loop
-loop-again c = fill-more (c .before .before .before .loop .inv) (c .before .before .loop-test .taken) (c .time-of-node .ensures)
+loop-again c = search (fill-more, needs)
 
 returns : tie.Need-returns Inv-loop μ-loop
 returns c =
     let g = c .before .loop .inv in
-    record { told = λ n l. g .stored n (omega (arith, g .size, c .loop-test .left)) }
+    record { told = λ n l. g .stored n (omega arith) }
 
 pub times-spec : {M : Type 1} → statement M
 times-spec =
-    tie.close (tie.spec Inv-loop μ-loop (λ c. omega (arith, readable (c .before .before .before .before .pre .judged .mapped) .sizes .long)) (λ c. omega (
-      arith,
-      few-nodes
-          (c .before .before .before .before .pre .judged .mapped),
-    )) (λ c. filling-start (c .before .before .before .before .pre) refl (search needs)) (λ c κs. let g =
-    c .before .before .loop .inv in (g .ready, fill-enters g (c .before .loop-test .taken))) (λ c. omega (
-      arith,
-      fill-low (c .before .before .before .loop .inv)
-          (c .before .before .loop-test .taken),
-    )) (λ c. omega (arith, fill-low (c .before .before .before .loop .inv) (c .before .before .loop-test .taken))) (λ c. omega (
-      arith,
-      fill-low (c .before .before .before .loop .inv) (c .before .before .loop-test .taken),
-    )) (λ c. omega (arith, c .before .before .loop-test .taken)) loop-again returns)
+    tie.close
+    (tie.spec Inv-loop μ-loop (λ c. omega (arith, readable (c .before .before .before .before .pre .judged .mapped) .sizes .long))
+    (λ c. omega (arith, few-nodes)) (λ c. search (filling-start, needs))
+    (λ c κs. let g = c .before .before .loop .inv in (g .ready, search (fill-enters, needs)))
+    (λ c. omega (arith, fill-low (c .before .before .before .loop .inv) (c .before .before .loop-test .taken)))
+    (λ c. omega (arith, fill-low (c .before .before .before .loop .inv) (c .before .before .loop-test .taken)))
+    (λ c. omega (arith, fill-low (c .before .before .before .loop .inv) (c .before .before .loop-test .taken))) (λ c. omega arith) loop-again returns)
