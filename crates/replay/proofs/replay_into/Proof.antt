@@ -25,11 +25,12 @@ returns-3 c =
 
 settle-requires : tie.Need-settle-requires
 settle-requires c κs =
-    let b = c .before .before .before .before .before .before .before .before in
-    let x = room-holds _ _ (sym (c .before .before .before .before .before .before .before .output-fault .ensures) ∙ c .before .before .before .before .before .enum-told2 .given .1) in
-    let y = room-holds _ _ (sym (c .before .before .before .before .output-fault2 .ensures) ∙ c .before .before .enum-told3 .given .1) in
-    let k = countable _ _ _ (sym (b .before .before .before .checked .ensures .reply) ∙ b .before .enum-told .given .1) in
-    (k, record { taken-room = omega (arith, b .places .ensures); put-room = omega (arith, b .places .ensures) })
+    let at-output-fault2 = c .before .before .before .before in
+    let at-output-fault = at-output-fault2 .before .before .before in
+    let x = room-holds _ _ (sym (at-output-fault .output-fault .ensures) ∙ at-output-fault2 .before .enum-told2 .given .1) in
+    let y = room-holds _ _ (sym (at-output-fault2 .output-fault2 .ensures) ∙ c .before .before .enum-told3 .given .1) in
+    let k = countable _ _ _ (sym (at-output-fault .before .before .before .before .checked .ensures .reply) ∙ at-output-fault .before .before .enum-told .given .1) in
+    (k, record { taken-room = omega arith; put-room = omega arith })
 
 returns-4 : tie.Need-returns-4
 returns-4 c =

@@ -17,7 +17,7 @@ abbrev μ-loop : tie.MeasureT-loop
 
 cast-n : tie.Need-cast-n Inv-loop μ-loop
 unfolding firingCount
-cast-n c = omega (arith, c .before .before .before .before .pre .1 .few)
+cast-n c = omega arith
 
 loop-holds : tie.Need-loop-holds Inv-loop μ-loop
 loop-holds c =

@@ -9,36 +9,32 @@ returns : tie.Need-returns
 returns c = let (w, k) = c .before .before .before .pre in (no-transition w _ (c .if1 .taken), k)
 
 element-copy-out-start : tie.Need-element-copy-out-start
-element-copy-out-start c = let (w, k) = c .before .before .before .pre in omega (arith, w .at-node, w .readable .sizes .few-nodes)
+element-copy-out-start c = let (w, k) = c .before .before .before .pre in omega arith
 
 cast-start : tie.Need-cast-start
-cast-start c = let (w, k) = c .before .before .before .before .pre in omega (arith, start-low w)
+cast-start c = omega (arith, start-low)
 
 element-copy-out-guess : tie.Need-element-copy-out-guess
-element-copy-out-guess c = let (w, k) = c .before .before .before .before .pre in omega (arith, w .all, w .readable .sizes .few-transitions)
+element-copy-out-guess c = let (w, k) = c .before .before .before .before .pre in omega arith
 
 cast-guess : tie.Need-cast-guess
 cast-guess c =
     let (w, k) = c .before .before .before .before .before .pre in
-    omega (arith, k .low (c .before .before .before .before .before .args .t) (omega (arith, w .all, w .readable .sizes .few-transitions)))
+    omega (arith, k .low (c .before .before .before .before .before .args .t) (omega arith))
 
 add-guess : tie.Need-add-guess
 add-guess c =
     let (w, k) = c .before .before .before .before .before .pre in
-    omega (arith, start-low w, k .low (c .before .before .before .before .before .args .t) (omega (arith, w .all, w .readable .sizes .few-transitions)))
+    omega (arith, start-low w, k .low (c .before .before .before .before .before .args .t) (omega arith))
 
 cast-if3 : tie.Need-cast-if3
-cast-if3 c = let (w, k) = c .before .before .before .before .before .before .before .before .before .pre in omega (arith, key-low w)
+cast-if3 c = omega (arith, key-low)
 
 add-if3-2 : tie.Need-add-if3-2
-add-if3-2 c = let (w, k) = c .before .before .before .before .before .before .before .before .before .pre in
-    omega (arith, key-low w, w .all, w .readable .sizes .few-transitions)
+add-if3-2 c = omega (arith, key-low)
 
 returns-2 : tie.Need-returns-2
-returns-2 c =
-    let d = c .before .before .before in
-    let (w, k) = d .before .before .before .before .before .before .before .pre in
-    (guess-hit w _ (d .before .before .before .before .if1 .left) (d .if2 .taken) (c .if3 .taken), k)
+returns-2 c = let d = c .before .before .before in let (w, k) = d .before .before .before .before .before .before .before .pre in (search (guess-hit, needs), k)
 
 sub-ranks : tie.Need-sub-ranks
 sub-ranks c =

@@ -18,7 +18,7 @@ loop-holds c = (omega arith, search needs, λ j l. absurd (omega arith))
 
 -- 4,096 times a word fits, also on top of a sum
 few : (c : tie.After-wide2 Inv-loop μ-loop) → c .before .wide .result * c .wide2 .result ≤ 4096 * 4294967295
-few c = let t : c .before .wide .result ≤ 4096 = omega (arith, c .before .wide .ensures .0, c .before .before .before .before .pre .0) in mul-le-mul t (c .wide2 .ensures .1)
+few c = let t : c .before .wide .result ≤ 4096 = omega arith in mul-le-mul t (c .wide2 .ensures .1)
 
 add-next : tie.Need-add-next Inv-loop μ-loop
 add-next c = omega (arith, few c, c .before .before .before .before .pre .1 (c .before .before .before .loop .p) (omega arith))

@@ -14,13 +14,13 @@ abbrev μ-loop : tie.MeasureT-loop
 
 cast-n : tie.Need-cast-n Inv-loop μ-loop
 unfolding firingCount
-cast-n c = omega (arith, c .before .pre .0 .few)
+cast-n c = omega arith
 
 loop-holds : tie.Need-loop-holds Inv-loop μ-loop
 loop-holds c = counts-none (c .before .pre .0) (c .before .pre .1)
 
 loop-again : tie.Need-loop-again Inv-loop μ-loop
-loop-again c = counts-more (c .before .before .loop .inv) (c .before .loop-test .taken)
+loop-again c = search (counts-more, needs)
 
 returns : tie.Need-returns Inv-loop μ-loop
 returns c = counts-all (c .before .loop .inv) (omega arith)

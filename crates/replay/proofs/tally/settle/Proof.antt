@@ -18,14 +18,10 @@ side-requires c κs =
     (weighable p (c .before .fired-times .ensures), r .taken-room)
 
 side-requires-2 : tie.Need-side-requires-2
-side-requires-2 c κs =
-    let (p, r) = c .before .before .before .before .before .before .before .before .before .before .pre in
-    (weighable p (c .before .before .before .before .before .fired-times .ensures), r .put-room)
+side-requires-2 c κs = let (p, r) = c .before .before .before .before .before .before .before .before .before .before .pre in (search (weighable, needs), r .put-room)
 
 returns : tie.Need-returns
-returns c =
-    settled (c .before .before .before .before .before .before .before .before .before .before .before .before .before .pre .0)
-    (c .before .before .before .before .before .before .before .before .fired-times .ensures) (c .before .before .before .before .before .before .side .ensures) (c .before .before .side2 .ensures)
+returns c = search (settled, needs)
 
 pub settle-spec : {M : Type 1} → statement M
 settle-spec =

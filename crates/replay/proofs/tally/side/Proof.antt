@@ -10,10 +10,7 @@ total-requires c κs =
     side-fits (s .args .putting) (s .pre .0) (c .before .before .before .before .before .places .ensures) (c .before .before .before .before .weigh .ensures)
 
 returns : tie.Need-returns
-returns c =
-    let s = c .before .before .before .before .before .before .before .before .before in
-    side-done (s .args .putting) (s .pre .0) (c .before .before .before .before .before .before .places .ensures) (c .before .before .before .before .before .weigh .ensures)
-    (s .pre .1) (c .before .before .before .write-row .ensures) (c .total .ensures)
+returns c = search (side-done, needs)
 
 pub side-spec : {M : Type 1} → statement M
 side-spec =

@@ -23,10 +23,10 @@ add-all c =
     let w = c .before .loop in
     let most = c .before .before .pre .1 in
     let s = sum-most (at (c .before .before .args .t1)) 1125899906842624 (w .p) (λ i k. most i (omega arith)) in
-    omega (arith, w .inv .1, most (w .p) (omega arith))
+    omega (arith, most (w .p) (omega arith))
 
 loop-again : tie.Need-loop-again Inv-loop μ-loop
-loop-again c = let w = c .before .loop in (omega arith, omega (arith, w .inv .1, sum-more (at (c .before .before .args .t1)) (w .p)))
+loop-again c = let w = c .before .loop in (omega arith, omega (arith, sum-more (at (c .before .before .args .t1)) (w .p)))
 
 returns : tie.Need-returns Inv-loop μ-loop
 returns c = let w = c .before .loop in let q : w .p ≡ c .before .before .args .n = omega arith in rw (← q) (w .inv .1)
