@@ -28,9 +28,10 @@ returns-2 c =
 
 returns-3 : tie.Need-returns-3
 returns-3 c =
-    let a = c .before .before .before .before .before .before .before .before .before .before .before .pre in
-    let f = answer-none _ (sym (c .before .before .before .before .before .before .before .before .walker-fault .ensures) ∙ c .before .before .before .before .before .before .enum-told .given .1) in
-    let e = arc-found _ _ (accepted-readable _ _ a .arcs) _ _ _ (sym (c .before .before .before .before .before .arc .ensures) ∙ c .before .before .before .i .given .1) in
+    let at-arc = c .before .before .before .before .before in
+    let a = at-arc .before .before .before .before .before .before .pre in
+    let f = answer-none _ (sym (at-arc .before .before .before .walker-fault .ensures) ∙ at-arc .before .enum-told .given .1) in
+    let e = arc-found _ _ (accepted-readable _ _ a .arcs) _ _ _ (sym (at-arc .arc .ensures) ∙ c .before .before .before .i .given .1) in
     follows-on _ _ _ _ a f _ _ _ e (c .before .value .ensures) (c .marking .ensures)
 
 pub step-spec : {M : Type 1} → statement M

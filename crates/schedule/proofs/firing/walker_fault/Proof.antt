@@ -26,19 +26,21 @@ loop-holds c = (omega arith, first-none _)
 
 returns-2 : tie.Need-returns-2 Inv-loop μ-loop
 returns-2 c =
-    let l : c .before .before .before .loop .p < 32 = omega arith in
-    let n = c .before .before .before .before .before .if1 .left in
-    let h = held-at _ _ (c .before .before .before .before .before .before .before .before .before .before .pre) _ n _ (c .before .before .before .before .marking .ensures) _ l in
+    let at-loop = c .before .before .before in
+    let start = at-loop .before .before .before .before .before .before .before in
+    let l : at-loop .loop .p < 32 = omega arith in
+    let n = at-loop .before .before .if1 .left in
+    let h = held-at _ _ (start .pre) _ n _ (at-loop .before .marking .ensures) _ l in
     c .refuse2 .ensures
-    ∙ ap verdictOf (sym (astray-at _ _ (c .before .before .before .before .before .before .before .before .before .before .args .walker) n _ (c .before .before .before .loop .inv .1) l
-    (λ e. c .before .if2 .taken (e ∙ sym h))))
+    ∙ ap verdictOf (sym (astray-at _ _ (start .args .walker) n _ (at-loop .loop .inv .1) l (λ e. c .before .if2 .taken (e ∙ sym h))))
 
 loop-again : tie.Need-loop-again Inv-loop μ-loop
 loop-again c =
-    let l : c .before .before .loop .p < 32 = omega arith in
-    let h = held-at _ _ (c .before .before .before .before .before .before .before .before .before .pre) _ (c .before .before .before .before .if1 .left)
-    _ (c .before .before .before .marking .ensures) _ l in
-    (omega arith, first-more _ _ (c .before .before .loop .inv .1) (count-right _ _ _ _ (c .if2 .left ∙ h)))
+    let at-loop = c .before .before in
+    let l : at-loop .loop .p < 32 = omega arith in
+    let h = held-at _ _ (at-loop .before .before .before .before .before .before .before .pre) _ (at-loop .before .before .if1 .left)
+    _ (at-loop .before .marking .ensures) _ l in
+    (omega arith, first-more _ _ (at-loop .loop .inv .1) (count-right _ _ _ _ (c .if2 .left ∙ h)))
 
 returns-3 : tie.Need-returns-3 Inv-loop μ-loop
 returns-3 c =
