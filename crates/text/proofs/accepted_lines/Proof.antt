@@ -8,9 +8,10 @@ use Rattle.text.proofs.accepted_lines.Tie as tie
 returns : tie.Need-returns
 unfolding acceptedLines
 returns c =
-    both-put (c .before .before .before .before .before .before .before .before .before .before .before .before .before .before .answer-line .ensures)
-    (both-put (c .before .before .before .before .before .before .before .before .before .before .counts-line .ensures)
-    (both-put (c .before .before .before .before .before .before .bound-lines .ensures) (c .before .before .form-line .ensures)))
+    let at-bound-lines = c .before .before .before .before .before .before in
+    let at-counts-line = at-bound-lines .before .before .before .before in
+    both-put (at-counts-line .before .before .before .before .answer-line .ensures) (both-put (at-counts-line .counts-line .ensures)
+    (both-put (at-bound-lines .bound-lines .ensures) (c .before .before .form-line .ensures)))
 
 pub accepted-lines-spec : {M : Type 1} → statement M
 accepted-lines-spec =

@@ -8,9 +8,10 @@ use Rattle.text.proofs.answer_line.Tie as tie
 returns : tie.Need-returns
 unfolding field answerLine
 returns c =
-    both-put (c .before .before .before .before .before .before .before .before .before .before .before .before .before .before .before .field .ensures)
-    (both-put (c .before .before .before .before .before .before .before .before .before .before .before .kind-name .ensures)
-    (both-put (c .before .before .before .before .before .before .field2 .ensures) (c .before .before .byte .ensures)))
+    let at-field2 = c .before .before .before .before .before .before in
+    let at-kind-name = at-field2 .before .before .before .before .before in
+    both-put (at-kind-name .before .before .before .before .field .ensures) (both-put (at-kind-name .kind-name .ensures)
+    (both-put (at-field2 .field2 .ensures) (c .before .before .byte .ensures)))
 
 pub answer-line-spec : {M : Type 1} → statement M
 answer-line-spec =

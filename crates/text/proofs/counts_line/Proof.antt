@@ -8,9 +8,10 @@ use Rattle.text.proofs.counts_line.Tie as tie
 returns : tie.Need-returns
 unfolding field countsLine
 returns c =
-    both-put (c .before .before .before .before .before .before .before .before .before .before .before .before .before .before .before .before .field .ensures)
-    (both-put (c .before .before .before .before .before .before .before .before .before .before .before .field2 .ensures)
-    (both-put (c .before .before .before .before .before .before .field3 .ensures) (c .before .before .byte .ensures)))
+    let at-field3 = c .before .before .before .before .before .before in
+    let at-field2 = at-field3 .before .before .before .before .before in
+    both-put (at-field2 .before .before .before .before .before .field .ensures) (both-put (at-field2 .field2 .ensures)
+    (both-put (at-field3 .field3 .ensures) (c .before .before .byte .ensures)))
 
 pub counts-line-spec : {M : Type 1} → statement M
 counts-line-spec =

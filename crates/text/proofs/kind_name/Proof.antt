@@ -19,7 +19,7 @@ returns-4 c = rw (c .before .before .before .before .before .match .keys4) (c .b
 
 returns-5 : tie.Need-returns-5
 returns-5 c =
-    rw (record-name (c .before .before .before .before .before .before .before .args .kind) (omega (arith, c .before .before .before .before .before .match .rest)))
+    rw (record-name (c .before .before .before .before .before .before .before .args .kind) (omega arith))
     (c .before .before .bytes5 .ensures)
 
 pub kind-name-spec : {M : Type 1} → statement M
