@@ -9,9 +9,10 @@ returns : tie.Need-returns
 returns c = refused-scratch (sym (c .before .before .before .scratch-fault .ensures) ∙ c .before .found .given .1) refl
 
 returns-2 : tie.Need-returns-2
-returns-2 c = served (sym (c .before .before .before .before .before .before .before .before .before .before .before .before .before .scratch-fault .ensures)
-    ∙ c .before .before .before .before .before .before .before .before .before .before .before .enum-told .given .1)
-    (c .before .before .before .before .before .before .before .before .trim-into .ensures) (c .before .before .clear-front .ensures)
+returns-2 c =
+    let at-trim-into = c .before .before .before .before .before .before .before .before in
+    served (sym (at-trim-into .before .before .before .before .before .scratch-fault .ensures)
+    ∙ at-trim-into .before .before .before .enum-told .given .1) (at-trim-into .trim-into .ensures) (c .before .before .clear-front .ensures)
 
 pub trim-spec : {M : Type 1} → statement M
 trim-spec =

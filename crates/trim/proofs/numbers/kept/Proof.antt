@@ -5,7 +5,7 @@ use Rattle.trim.proofs.numbers.kept.Statement.{statement}
 use Rattle.trim.proofs.numbers.kept.Tie as tie
 
 returns : tie.Need-returns
-returns c = new-nodes (c .before .before .before .before .before .pre) (c .before .before .reached .ensures) (c .ranks .ensures)
+returns c = search (new-nodes, needs)
 
 pub kept-spec : {M : Type 1} → statement M
 kept-spec = tie.close (tie.spec (λ c κs. search needs) (λ c. search needs) (λ c. search needs) (λ c κs. search needs) returns)

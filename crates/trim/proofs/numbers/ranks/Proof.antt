@@ -14,7 +14,7 @@ abbrev μ-loop : tie.MeasureT-loop
 μ-loop nodes marks cells₀ found₀ n₀ cells found n = nodes - n
 
 array-write : tie.Need-array-write-cells Inv-loop μ-loop
-array-write c = omega (arith, c .before .before .loop .inv .2 .size)
+array-write c = omega arith
 
 loop-again : tie.Need-loop-again Inv-loop μ-loop
 unfolding isMarked

@@ -16,7 +16,7 @@ cast-result c = let p = c .before .before .before .before .before .before .pre i
 element-copy-out-result : tie.Need-element-copy-out-result
 element-copy-out-result c =
     let p = c .before .before .before .before .before .before .pre in
-    omega (arith, p .0 .size, arc-cell (p .0) (p .1) (c .before .before .transitions .ensures) (c .if1 .taken) .0)
+    omega (arith, arc-cell (p .0) (p .1) (c .before .before .transitions .ensures) (c .if1 .taken) .0)
 
 returns : tie.Need-returns
 returns c =
@@ -35,7 +35,7 @@ element-copy-out-result-2 : tie.Need-element-copy-out-result-2
 element-copy-out-result-2 c =
     let d = c .before in
     let p = d .before .before .before .before .before .before .pre in
-    omega (arith, p .0 .size, count-cell (p .0) (p .1) (d .before .before .transitions .ensures) (c .places .ensures) (d .if1 .left) .0)
+    omega (arith, count-cell (p .0) (p .1) (d .before .before .transitions .ensures) (c .places .ensures) (d .if1 .left) .0)
 
 returns-2 : tie.Need-returns-2
 returns-2 c =

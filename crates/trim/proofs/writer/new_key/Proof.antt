@@ -24,9 +24,7 @@ add-result c =
     let p = d .before .before .before .pre in omega (arith, key-arc-few (p .0) (p .1) (d .cell-of .ensures) (c .before .before .transitions .ensures))
 
 returns : tie.Need-returns
-returns c =
-    let d = c .before .before .before .before in
-    let p = d .before .before .before .pre in key-arc (p .0) (p .1) (d .cell-of .ensures) (c .before .before .transitions .ensures) (c .if1 .taken)
+returns c = search (key-arc, needs)
 
 -- ---- a count
 
@@ -51,10 +49,7 @@ add-result-3 c =
     let p = d .before .before .before .pre in omega (arith, key-count-few (p .0) (p .1) (d .cell-of .ensures) (c .before .before .before .transitions .ensures) (c .places .ensures))
 
 returns-2 : tie.Need-returns-2
-returns-2 c =
-    let d = c .before .before .before .before .before in
-    let p = d .before .before .before .pre in
-    key-count (p .0) (p .1) (d .cell-of .ensures) (c .before .before .before .transitions .ensures) (c .places .ensures) (c .before .if1 .left)
+returns-2 c = search (key-count, needs)
 
 pub new-key-spec : {M : Type 1} → statement M
 new-key-spec =

@@ -16,7 +16,7 @@ cast-result c =
 element-copy-out-result : tie.Need-element-copy-out-result
 element-copy-out-result c =
     let d = c .before in
-    let p = d .before .before .before .before .before .before .before .pre in omega (arith, p .0 .size, target-low (p .0) (p .1) (d .transitions .ensures) (c .if1 .taken))
+    let p = d .before .before .before .before .before .before .before .pre in omega (arith, target-low (p .0) (p .1) (d .transitions .ensures) (c .if1 .taken))
 
 cast-result-2 : tie.Need-cast-result-2
 cast-result-2 c =
@@ -34,12 +34,10 @@ returns c =
     let p = d .before .before .before .before .before .before .before .pre in omega (arith, target-cell (p .0) (p .1) (d .transitions .ensures) (c .before .if1 .taken))
 
 returns-2 : tie.Need-returns-2
-returns-2 c =
-    let d = c .before in
-    let p = d .before .before .before .before .before .before .before .pre in value-stays (p .0) (p .1) (d .transitions .ensures) (c .if1 .left)
+returns-2 c = search (value-stays, needs)
 
 value-read : tie.Need-shared-slice-read-value-2
-value-read c = let p = c .before .before .before .before .pre in omega (arith, p .0 .readable .arcs .sizes .long, p .1 .entry)
+value-read c = omega arith
 
 pub new-value-spec : {M : Type 1} → statement M
 new-value-spec =

@@ -9,16 +9,10 @@ entry-count-requires : tie.Need-entry-count-requires
 entry-count-requires c κs = c .before .before .before .before .before .before .pre .1 .new
 
 returns : tie.Need-returns
-returns c =
-    let d = c .before .before .before in
-    let p = d .before .before .before .before .before .before .before .before .pre in
-    sheet-short _ _ _ _ (p .0) (p .1) (d .before .entry-count .ensures) (d .output-fault .ensures) (c .before .found .given .1)
+returns c = search (sheet-short, needs)
 
 returns-2 : tie.Need-returns-2
-returns-2 c =
-    let d = c .before .before .before .before .before .before in
-    let p = d .before .before .before .before .before .before .before .before .pre in
-    list-short _ _ _ _ (p .0) (p .1) (d .before .entry-count .ensures) (c .before .before .before .output-fault2 .ensures) (c .before .found2 .given .1)
+returns-2 c = search (list-short, needs)
 
 write-sheet-requires : tie.Need-write-sheet-requires
 write-sheet-requires c κs =
@@ -29,13 +23,7 @@ write-list-requires c κs =
     let d = c .before .before .before .before .before .before .before .before .before .before .before .before .before in d .before .before .before .before .before .before .before .pre .1 .new
 
 returns-3 : tie.Need-returns-3
-returns-3 c =
-    let rooms = c .before .before .before .before .before .before .before .before .before .before in
-    let d = rooms .before .before .before .before .before in
-    let p = d .before .before .before .before .before .before .before .before .pre in
-    both-written _ _ _ _ (p .0) (p .1) (d .before .entry-count .ensures) (d .output-fault .ensures) (rooms .before .before .before .enum-told .given .1)
-    (rooms .before .before .output-fault2 .ensures) (rooms .enum-told2 .given .1) (c .before .before .before .before .before .before .before .write-sheet .ensures)
-    (c .before .before .write-list .ensures)
+returns-3 c = search (both-written, needs)
 
 pub write-spec : {M : Type 1} → statement M
 write-spec =

@@ -25,7 +25,7 @@ unfolding gather
 loop-holds c = (c .before .before .before .before .pre, refl, omega arith, appended-none _ _)
 
 element-copy-out : tie.Need-element-copy-out-if1 Inv-loop μ-loop
-element-copy-out c = let (h, e, l, a) = c .before .loop .inv in omega (arith, h .size, h .readable .arcs .sizes .few-nodes)
+element-copy-out c = let (h, e, l, a) = c .before .loop .inv in omega arith
 
 loop-again : tie.Need-loop-again Inv-loop μ-loop
 loop-again c =

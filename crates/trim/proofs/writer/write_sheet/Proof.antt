@@ -35,20 +35,20 @@ new-value-requires c κs =
     (h .new, record { entry = omega arith; kept = entry-kept _ _ _ (c .before .before .cell-of .ensures) (c .before .if1 .taken) })
 
 add-put-3 : tie.Need-add-put-3 Inv-loop μ-loop
-add-put-3 c = let (h, k, a, l, m, w) = c .before .before .before .before .before .before .before .before .before .before .loop .inv in omega (arith, k .few, h .new .readable .arcs .sizes .few-entries)
+add-put-3 c = let (h, k, a, l, m, w) = c .before .before .before .before .before .before .before .before .before .before .loop .inv in omega arith
 
 add-put : tie.Need-add-put Inv-loop μ-loop
-add-put c = let (h, k, a, l, m, w) = c .before .before .before .before .before .before .loop .inv in omega (arith, h .new .readable .arcs .sizes .few-entries)
+add-put c = let (h, k, a, l, m, w) = c .before .before .before .before .before .before .loop .inv in omega arith
 
 add-put-2 : tie.Need-add-put-2 Inv-loop μ-loop
-add-put-2 c = let (h, k, a, l, m, w) = c .before .before .before .before .before .before .before .before .before .before .loop .inv in omega (arith, k .few)
+add-put-2 c = let (h, k, a, l, m, w) = c .before .before .before .before .before .before .before .before .before .before .loop .inv in omega arith
 
 -- ---- an entry that is kept
 
 add-done : tie.Need-add-done Inv-loop μ-loop
 add-done c =
     let (h, k, a, l, m, w) = c .before .before .before .before .before .before .before .before .before .before .before .before .before .loop .inv in
-    omega (arith, h .new .readable .arcs .sizes .few-entries)
+    omega arith
 
 loop-again : tie.Need-loop-again Inv-loop μ-loop
 loop-again c =
