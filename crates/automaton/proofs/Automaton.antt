@@ -1,4 +1,4 @@
--- Following a list arc by arc, along a list and what is put behind it; what is allowed on the way.
+-- Following a list arc by arc, and one list after another; and when a list is allowed.
 use Rattle.scan.proofs.Basics.{ℕ, _<_, _≡_, refl, sym, ap, _∙_, true, false, Option, none, some, List, [], _∷_, _++_}
 use Rattle.scan.specs.Scan.{found, foundOr}
 use Rattle.scan.proofs.Tests.{byLess, true-false}

@@ -1,4 +1,4 @@
--- Equivalence and its computation agree: what no round tells apart has equal labels and allows the same lists, and as many rounds as nodes decide it.
+-- Equivalence and its computation agree: nodes that no round tells apart have equal labels and allow the same lists, and as many rounds as nodes decide it.
 use Rattle.scan.proofs.Basics.{ℕ, zero, suc, _<_, _≡_, refl, sym, ap, _∙_, _↔_, true, List, [], _∷_, length}
 use Rattle.scan.proofs.Tests.{byLess}
 use Rattle.scan.specs.Scan.{found}

@@ -1,4 +1,4 @@
--- Minimal automata are smallest: representatives are different nodes, and an automaton with no more nodes than its minimal one is that up to its numbers.
+-- Minimal automata are smallest: representatives are different nodes, and an automaton with no more nodes than its minimal one differs from it only in its numbers.
 use Rattle.scan.proofs.Basics.{ℕ, _-_, _≤_, _<_, arith, _≡_, sym, ap, subst, _∙_, _⊎_, inl, inr, ⊎-elim, Bool, false, eqb, List}
 use Prim.Native.Nat.{min}
 use Rattle.scan.proofs.Tests.{eqb-true, eqb-false, byTest, byLess}

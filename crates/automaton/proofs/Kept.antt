@@ -1,4 +1,4 @@
--- What a quotient keeps: where lists lead, the lists allowed, reduced nodes, arcs that land and fire, ways to a goal.
+-- What a quotient keeps: where lists lead, the lists allowed, that no two nodes are equivalent, that arcs fire and lead to nodes, and paths to a goal.
 use Rattle.scan.proofs.Basics.{ℕ, _<_, _≡_, refl, sym, ap, _∙_, some, Option·map, List, [], _∷_}
 use mathlib.Core.Option.{map-eq-some-iff}
 use Rattle.scan.specs.Scan.{found}

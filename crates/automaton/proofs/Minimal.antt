@@ -1,4 +1,4 @@
--- The minimal automaton allows what the automaton allows, is canonical and its own minimal automaton, and two are equal exactly where the roots are equivalent.
+-- The minimal automaton allows the same lists, is canonical, and is its own minimal automaton; two of them are equal exactly if the roots are equivalent.
 use Rattle.scan.proofs.Basics.{ℕ, _≤_, _≡_, sym, ap, subst, _∙_, _↔_, none, Option·map, List}
 use Rattle.scan.proofs.Tests.{byLess}
 use Rattle.automaton.specs.Automaton.{Automaton, Closed, SameLists}

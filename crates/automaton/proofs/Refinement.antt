@@ -1,4 +1,4 @@
--- Moore's bound: equivalences on N numbers that get finer round by round, and for good keep what one round does not split, split nothing after N rounds.
+-- Moore's bound: take equivalences on N numbers, each round finer, such that a round that splits nothing is followed only by such rounds. After N rounds nothing is split.
 use Rattle.scan.proofs.Basics.{ℕ, suc, _<_, arith, _≡_, sym, _∙_, inr, Bool, true, eqb}
 use Prim.Native.Nat.{zero-le}
 use native.Mathlib.Decide.{le-ind}

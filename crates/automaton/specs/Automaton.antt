@@ -6,7 +6,7 @@ use mathlib.Core.List.{List, [], _∷_}
 use mathlib.Core.Option.{Option, none, some}
 use Rattle.scan.specs.Scan.{found, foundOr}
 
--- Nodes are 0 to nodes - 1 with the root 0 (§3.3), transitions 0 to transitions - 1; no arc is none (§3.7); a node's label is its marking (§4.1).
+-- Nodes are 0 to nodes - 1, and the root is 0 (§3.3); transitions are 0 to transitions - 1. `none` stands for no arc (§3.7). A node's label is its marking (§4.1).
 pub record Automaton : Type 0 where
   pub nodes : ℕ
   pub transitions : ℕ
@@ -19,12 +19,12 @@ pub record Closed (A : Automaton) : Type 0 where
   pub lands : (n t m : ℕ) → n < A .nodes → A .arc n t ≡ some m → m < A .nodes
   pub bounded : (n t : ℕ) → A .transitions ≤ t → A .arc n t ≡ none
 
--- Where a list leads from node n, if it can be followed. It may hold any numbers (§11.1).
+-- The node to which a list leads from node n, if it can be followed. The list may hold any numbers (§11.1).
 unfoldable pub follow : Automaton → ℕ → List ℕ → Option ℕ
 follow A n [] = some n
 follow A n (t ∷ σ) = foundOr none (λ m. follow A m σ) (A .arc n t)
 
--- §11.2
+-- Node n allows a list: §11.2.
 unfoldable pub allows : Automaton → ℕ → List ℕ → Bool
 allows A n σ = found (follow A n σ)
 

@@ -9,7 +9,7 @@ use lib.ListN.{getD}
 use Rattle.scan.specs.Scan.{all, least, tabulate}
 use Rattle.automaton.specs.Automaton.{Automaton, SameLists}
 
--- what makes two nodes one: §11.3, both halves of it (§11.4)
+-- when two nodes become one: §11.3, with both of its halves (§11.4)
 pub record Equivalent (A B : Automaton) (n m : ℕ) : Type 0 where
   pub labels : A .label n ≡ B .label m
   pub lists : SameLists A B n m
@@ -41,7 +41,7 @@ unfoldable pub sameIn : Automaton → ℕ → ℕ → ℕ → Bool
 sameIn A zero n m = equalLabels (A .label n) (A .label m)
 sameIn A (suc k) n m = equalLabels (A .label n) (A .label m) && all (agree A (sameIn A k) n m) (A .transitions)
 
--- nodes that as many rounds as there are nodes do not tell apart; no fixed number would do (§11.4)
+-- nodes that are not told apart by as many rounds as there are nodes; no fixed number of rounds would do (§11.4)
 unfoldable pub same : Automaton → ℕ → ℕ → Bool
 same A n m = sameIn A (A .nodes) n m
 
@@ -57,11 +57,11 @@ leaderBy r n = least (inClass r n) n
 unfoldable pub leader : Automaton → ℕ → ℕ → ℕ
 leader A k n = leaderBy (sameIn A k) n
 
--- n and m are in one class of a table
+-- n and m have the same class in a table
 unfoldable pub sameClass : (ℕ → ℕ) → ℕ → ℕ → Bool
 sameClass class n m = eqb (class n) (class m)
 
--- one round over a table of classes: one class, and every transition leads into one class
+-- one round over a table of classes: n and m have the same class, and every transition leads from both into the same class
 unfoldable pub refined : Automaton → (ℕ → ℕ) → ℕ → ℕ → Bool
 refined A class n m = sameClass class n m && all (agree A (sameClass class) n m) (A .transitions)
 

@@ -12,8 +12,8 @@ use Rattle.automaton.specs.Reach.{Reachable}
 use Rattle.automaton.specs.Equivalence.{Equivalent, Fires, same}
 use Rattle.automaton.specs.BreadthFirst.{BreadthFirst, indexOf, order}
 
--- The automaton of the classes of a test r that the elements of xs stand for: arcs go from class to class, a class has its element's label.
--- Past its nodes it has no arc and no label, so that two with the same nodes, arcs and labels are equal.
+-- Each element of xs stands for its class by a test r. The automaton of these classes: arcs go from class to class, and a class has the label of its element.
+-- It has no arc and no label past its nodes, so that two such automata with the same nodes, arcs and labels are equal.
 unfoldable pub merged : (ℕ → ℕ → Bool) → Automaton → List ℕ → Automaton
 merged r A xs = record {
   nodes = length xs;
@@ -22,11 +22,11 @@ merged r A xs = record {
   label = λ i. cond (ltb i (length xs)) (A .label (getD xs i 0)) [];
 }
 
--- the classes that the root reaches
+-- the automaton of the classes that the root reaches
 unfoldable pub minimalBy : (ℕ → ℕ → Bool) → Automaton → Automaton
 minimalBy r A = merged r A (order r A)
 
--- merged by §11.3, numbered by §11.5
+-- the minimal automaton: merged by §11.3, numbered by §11.5
 unfoldable pub minimal : Automaton → Automaton
 minimal A = minimalBy (same A) A
 
@@ -56,7 +56,7 @@ pub record Confined (A : Automaton) : Type 0 where
   pub arcs : (n t : ℕ) → A .nodes ≤ n → A .arc n t ≡ none
   pub labels : (n : ℕ) → A .nodes ≤ n → A .label n ≡ []
 
--- The form of which there is one automaton for each set of allowed lists: what `minimal` makes.
+-- The form that `minimal` makes. Of all automata that allow the same lists, only one has it.
 pub record Canonical (fire : List ℕ → ℕ → List ℕ) (A : Automaton) : Type 0 where
   pub closed : Closed A
   pub fires : Fires fire A
@@ -64,7 +64,7 @@ pub record Canonical (fire : List ℕ → ℕ → List ℕ) (A : Automaton) : Ty
   pub reduced : Reduced A
   pub confined : Confined A
 
--- A and M differ in the numbers of their nodes alone, and the root keeps its own.
+-- A and M differ only in the numbers of their nodes, and the root keeps its number.
 pub record Renumbering (A M : Automaton) (f : ℕ → ℕ) : Type 0 where
   pub root : f 0 ≡ 0
   pub node : (n : ℕ) → n < A .nodes → f n < M .nodes

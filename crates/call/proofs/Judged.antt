@@ -1,4 +1,4 @@
--- A call's verdict follows its checks: 21 first, then those of its words, 22 last. What a crate shows of its call, and how its refusals are numbered.
+-- A call's verdict follows its checks: 21 first, then those of its words, 22 last. What a crate has to show about its call, and by which numbers the call refuses.
 use Rattle.scan.proofs.Basics.{ℕ, _≤_, _<_, arith, _≡_, refl, sym, ap, _∙_, inl, ⊎-elim, _↔_, true, ltb, List, [], _∷_, _++_, length}
 use mathlib.Core.Logic.{Iff·rfl}
 use Rattle.scan.proofs.Tests.{ltb-true, ltb-false, byTest}

@@ -1,4 +1,4 @@
--- The paths of a call's code, and the law for each by which it meets `CallDone` or `WordsDone`: refused by 21, served, refused by the words or by 22, answered.
+-- The paths of a call's code, and for each the law by which it meets `CallDone` or `WordsDone`: refused by 21, past 21, refused by the words or by 22, accepted.
 use Rattle.scan.proofs.Basics.{ℕ, _≤_, _<_, arith, _≡_, refl, sym, _∙_, List, [], _∷_, length}
 use Rattle.scan.specs.Scan.{tabulate}
 use Rattle.scan.specs.Front.{cleared}

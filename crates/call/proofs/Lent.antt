@@ -1,4 +1,4 @@
--- What is lent is enough or not: what refusals 21 and 22 say of scratch and of output buffers, and when two buffers make no difference.
+-- Whether enough is lent: what refusals 21 and 22 say about scratch and output buffers, and when two buffers give the same answer.
 use Rattle.scan.proofs.Basics.{ℕ, zero, suc, _≤_, _<_, arith, _≡_, refl, sym, ap, _↔_, Bool, cond, ltb, List, [], _∷_, length, drop}
 use Rattle.scan.proofs.Tests.{ltb-true, ltb-false, lt-ltb, le-ltb, byTest}
 use Rattle.scan.specs.Scan.{when}

@@ -20,7 +20,7 @@ use Rattle.refusal.specs.declared.Verdict.the-variants.{Accepted, Refused}
 pub record Core (Answer : Type 0) : Type 0 where
   -- what the checks of its words find, in their order
   pub verdict : Verdict
-  -- what it answers where it accepts, and what for a refusal
+  -- what it answers if it accepts, and what it answers for a refusal
   pub accepted : Answer
   pub refused : Refusal → Answer
   -- the words that it writes, a list for each output buffer
@@ -28,11 +28,11 @@ pub record Core (Answer : Type 0) : Type 0 where
 
 -- ---- §7.21 and §7.22
 
--- fewer words of scratch than the limit
+-- fewer words of scratch are lent than the limit
 unfoldable pub scratchFault : ℕ → ℕ → Verdict
 scratchFault limit lent = verdictOf (when (ltb lent limit) (refusal 21 Nothing))
 
--- an output buffer of fewer words than are to be written to it
+-- an output buffer has fewer words than the result
 unfoldable pub roomFault : ℕ → ℕ → Verdict
 roomFault lent needed = verdictOf (when (ltb lent needed) (refusal 22 Nothing))
 
@@ -40,7 +40,7 @@ roomFault lent needed = verdictOf (when (ltb lent needed) (refusal 22 Nothing))
 abbrev pub buffer : List (List ℕ) → ℕ → List ℕ
 buffer buffers i = getD buffers i []
 
--- any output buffer that is too short: §9.6
+-- some output buffer is too short: §9.6
 unfoldable pub outputFault : List (List ℕ) → List (List ℕ) → Verdict
 outputFault [] outs = Accepted
 outputFault (result ∷ results) outs = andThen (roomFault (length (buffer outs 0)) (length result)) (outputFault results (drop 1 outs))
@@ -78,7 +78,7 @@ outsAfter (Refused r) results outs = outs
 unfoldable pub scratchAfter : ℕ → List ℕ → List ℕ
 scratchAfter limit scratch = cond (ltb (length scratch) limit) scratch (cleared limit scratch)
 
--- ---- a call done: what it is lent, what it answers, and what the buffers hold afterwards, all of it by equations (§13.5)
+-- ---- the postcondition of a call: what it is lent, what it answers, and what the buffers hold afterwards, all of it by equations (§13.5)
 
 module _ {Answer : Type 0} where
   pub record CallDone (limit : ℕ) (core : Core Answer) (outs : List (List ℕ)) (scratch : List ℕ) (answer : Answer) (outs′ : List (List ℕ)) (scratch′ : List ℕ) : Type 0 where

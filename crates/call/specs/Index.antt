@@ -4,7 +4,7 @@ use mathlib.Core.Option.{Option, none, some}
 use Rattle.call.specs.declared.Index.{Index}
 use Rattle.call.specs.declared.Index.the-variants.{Known, Missing}
 
--- 1 more than it is, and 0 where it is missing
+-- 1 more than the number, or 0 if it is missing
 abbrev pub plainIndex : Index → ℕ
 plainIndex (Known i) = i + 1
 plainIndex Missing = 0

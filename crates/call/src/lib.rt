@@ -1,5 +1,5 @@
-// What every call asks of what it is lent: enough scratch before all else, and room for its result after all else (§7.54). And a number of a
-// call's own that can be missing.
+// What every call asks of the buffers that it is lent: enough scratch, before all other checks, and room for its result, after all others (§7.54).
+// Also `Index`, a number of a call's own that can be missing.
 ghost use mathlib.Core.Path.{_≡_};
 ghost use Rattle.call.specs.Call.{scratchFault, roomFault};
 ghost use Rattle.call.specs.Index.{plainIndex};
@@ -7,7 +7,7 @@ use refusal::Position;
 use refusal::Refusal;
 use refusal::Verdict;
 
-// §7.21, §9.2: fewer words of scratch than the call's limit.
+// Refusal 21 (§7.21, §9.2): fewer words of scratch are lent than the call's limit.
 pub fn scratch_fault(limit: usize, lent: usize) -> Verdict
     ensures { λ r. ⌜ r ≡ scratchFault limit lent ⌝ }
 {
@@ -17,7 +17,7 @@ pub fn scratch_fault(limit: usize, lent: usize) -> Verdict
     Verdict::Accepted
 }
 
-// §7.22, §9.6: an output buffer of fewer words than are to be written to it.
+// Refusal 22 (§7.22, §9.6): an output buffer has fewer words than the result.
 pub fn output_fault(lent: usize, needed: usize) -> Verdict
     ensures { λ r. ⌜ r ≡ roomFault lent needed ⌝ }
 {

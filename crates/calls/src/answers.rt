@@ -1,4 +1,4 @@
-// Each call on the words and the buffers of its case, and the line of what it answers and leaves in the buffers.
+// Makes the call of a case, and prints a line with what it answers and what it leaves in the buffers.
 ghost use Prim.Native.Nat.{_≤_};
 ghost use lib.ListN.{length};
 use super::cases;
@@ -56,8 +56,8 @@ fn fired(fired: Fired) {
     print::walker(next);
 }
 
-// Makes a call with the larger scratch and prints its answer. The words behind the sheet are a record, durations, a walker and the transition that
-// it is to fire, or a transition and a place.
+// Makes a call with the larger scratch and prints its answer. `words` is what the case has after the sheet: a record, durations, a walker and the
+// transition that it is to fire, or a transition and a place.
 fn larger_call(
     operation: u32,
     net: &[u32],
@@ -83,7 +83,7 @@ fn larger_call(
     }
 }
 
-// The same for a call of the small panel.
+// Makes a call of the small panel and prints its answer.
 fn panel_call(
     operation: u32,
     net: &[u32],
@@ -120,7 +120,7 @@ fn call(
     larger_call(operation, net, sheet, words, out, second, scratch);
 }
 
-// What is left in the buffers that a call is lent.
+// Prints what the call left in its buffers.
 fn left(shape: Shape, out: &[u32], second: &[u32], scratch: &[u32]) {
     if 0 < shape.outs {
         print::out(out, 9);
@@ -134,7 +134,7 @@ fn left(shape: Shape, out: &[u32], second: &[u32], scratch: &[u32]) {
     print::text(b"\n");
 }
 
-// The line of a case, with the buffers lent to its call.
+// Prints the line of a case, given the buffers for its call.
 fn in_buffers(
     operation: u32,
     shape: Shape,
@@ -149,7 +149,7 @@ fn in_buffers(
     left(shape, out, second, scratch);
 }
 
-// The line of a case. Output buffers hold 9 before the call, and scratch 7, in the lengths lent.
+// Prints the line of a case. The buffers have the lengths given; before the call every word of an output buffer is 9, and of scratch 7.
 fn lending(
     operation: u32,
     shape: Shape,
@@ -177,7 +177,7 @@ fn lending(
     );
 }
 
-// The panel's replay or the other.
+// The replay of the small panel, or the one with the larger scratch.
 fn replay_call(
     operation: u32,
     net: &[u32],
@@ -193,7 +193,7 @@ fn replay_call(
     replay::replay(net, sheet, log, taken, put, scratch)
 }
 
-// The line of a replay, with the buffers lent to it.
+// Prints the line of a replay, given its buffers.
 fn replayed(
     operation: u32,
     net: &[u32],
@@ -210,7 +210,7 @@ fn replayed(
     print::text(b"\n");
 }
 
-// The line of a replay, whose output buffers are of 64 bits.
+// Prints the line of a replay. Its output buffers hold numbers of 64 bits.
 fn lending_wide(
     operation: u32,
     net: &[u32],
@@ -236,7 +236,7 @@ fn lending_wide(
     );
 }
 
-// The line of a case with one sheet or none.
+// Prints the line of a case with one sheet or none.
 fn one_sheet(operation: u32, shape: Shape, net: &[u32], sheet: &[u32], words: &[u32], lent: Buffers)
     requires { ⌜ (lent .out ≤ 9000) × (lent .second ≤ 9000) × (lent .scratch ≤ 9000) ⌝ }
 {
@@ -292,7 +292,7 @@ fn several_call<'a>(
     }
 }
 
-// The line of a case with several sheets, with the buffers lent to its call.
+// Prints the line of a case with several sheets, given the buffers for its call.
 fn among_several<'a>(
     operation: u32,
     shape: Shape,
@@ -321,7 +321,7 @@ fn among_several<'a>(
     left(shape, out, other, scratch);
 }
 
-// The line of a case with several sheets.
+// Prints the line of a case with several sheets.
 fn several<'a>(
     operation: u32,
     shape: Shape,
@@ -356,7 +356,7 @@ fn several<'a>(
     );
 }
 
-// The line of a case whose parts lie one after the other.
+// Prints the line of a case, whose parts lie one after the other in `all`.
 pub(crate) fn line(operation: u32, shape: Shape, all: &[u32], marks: Marks, lent: Buffers)
     requires { ⌜
         (marks .net ≤ marks .numbers) × (marks .numbers ≤ marks .first) × (marks .first ≤ marks .second) × (marks .second ≤ marks .third)

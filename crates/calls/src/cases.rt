@@ -1,4 +1,4 @@
-// Reads cases one after the other, each an operation's number and its arguments, and has each answered.
+// Reads cases one after the other, each an operation's number and its arguments, and answers each.
 ghost use Prim.Native.Nat.{_≤_};
 ghost use lib.ListN.{length};
 use super::answers;
@@ -12,7 +12,7 @@ struct Next {
     rest: Text,
 }
 
-// What the words of a case are besides its net, and how many output buffers its call is lent.
+// What a case has besides its net: how many numbers and sheets, whether a list, how many further words; and how many output buffers its call has.
 pub(crate) struct Shape {
     pub numbers: u32,
     pub sheets: u32,
@@ -21,7 +21,7 @@ pub(crate) struct Shape {
     pub outs: u32,
 }
 
-// Where the parts of a case end, which lie one after the other: the net, the numbers, the sheets, and a list or the further words.
+// The parts of a case lie one after the other: the net, the numbers, the sheets, and a list or the further words. These are the indices where they end.
 pub(crate) struct Marks {
     pub net: usize,
     pub numbers: usize,
@@ -57,12 +57,12 @@ pub(crate) struct Buffers {
     pub rest: Text,
 }
 
-// Whether a number stands for a call of the small panel, which is that of the same call with the larger scratch, plus 100.
+// Whether an operation is a call of the small panel: its number is 100 more than that of the same call with the larger scratch.
 pub(crate) fn on_panel(operation: u32) -> bool {
     100 < operation
 }
 
-// The operation's number without those 100.
+// The operation's number, less the 100 that marks a call of the small panel.
 fn kind(operation: u32) -> u32 {
     if 100 < operation {
         return operation - 100;
@@ -70,7 +70,7 @@ fn kind(operation: u32) -> u32 {
     operation
 }
 
-// Whether an operation is the replay, whose output buffers are of numbers of 64 bits.
+// Whether an operation is the replay, whose output buffers hold numbers of 64 bits.
 pub(crate) fn replays(operation: u32) -> bool {
     kind(operation) == 9
 }
@@ -111,7 +111,7 @@ fn all_fit(a: bool, b: bool, c: bool) -> bool {
     c
 }
 
-// The net, and the numbers behind it.
+// Reads the net, and the numbers after it.
 fn net_and_numbers(n: u32, buffer: &mut [u8], from: Text, into: &mut [u32]) -> Two
     ensures { λ r. ⌜ (r .first ≤ r .second) × (r .second ≤ length (now (into .exit))) ⌝ }
 {
@@ -126,7 +126,7 @@ fn net_and_numbers(n: u32, buffer: &mut [u8], from: Text, into: &mut [u32]) -> T
     }
 }
 
-// Two sheets, those that the case has.
+// Reads two sheets, or as many of the two as the case has.
 fn two_sheets(
     one: bool,
     other: bool,
@@ -149,7 +149,7 @@ fn two_sheets(
     }
 }
 
-// Four sheets, those of them that the case has.
+// Reads four sheets, or as many of the four as the case has.
 fn sheets(n: u32, buffer: &mut [u8], from: Text, into: &mut [u32], at: usize) -> Four
     requires { ⌜ at ≤ length (now into) ⌝ }
     ensures { λ r.
@@ -163,7 +163,7 @@ fn sheets(n: u32, buffer: &mut [u8], from: Text, into: &mut [u32], at: usize) ->
     Four { front, back }
 }
 
-// All words of a case.
+// Reads all words of a case.
 fn lists(shape: Shape, buffer: &mut [u8], from: Text, into: &mut [u32]) -> Marks
     ensures { λ r.
         ⌜
@@ -198,7 +198,7 @@ fn lists(shape: Shape, buffer: &mut [u8], from: Text, into: &mut [u32]) -> Marks
     }
 }
 
-// The lengths of the buffers, which fit where the words did and they do.
+// Reads the lengths of the buffers. `fits` comes out true if the words of the case had room and no length is above 9,000.
 fn lent(shape: Shape, fits: bool, buffer: &mut [u8], from: Text) -> Buffers
     ensures { λ r. ⌜ (r .out ≤ 9000) × (r .second ≤ 9000) × (r .scratch ≤ 9000) ⌝ }
 {
@@ -216,7 +216,7 @@ fn lent(shape: Shape, fits: bool, buffer: &mut [u8], from: Text) -> Buffers
     }
 }
 
-// Answers a case, from behind its operation on; one that is too long is the last.
+// Answers a case, read from after its operation's number on. A case that is too long ends the program.
 fn answered(operation: u32, buffer: &mut [u8], from: Text, into: &mut [u32]) -> Next {
     let shape = operation_shape(operation);
     let marks = lists(shape, buffer, from, into);
@@ -251,7 +251,7 @@ fn ends(operation: u32) -> bool {
     false
 }
 
-// All cases. Nothing says that the input ends, so the turns are counted down.
+// Plays all cases. The input may never end, so the turns are counted down to give the loop a bound.
 pub(crate) fn play(buffer: &mut [u8], into: &mut [u32]) {
     let mut here = input::start();
     let mut turns = u64::MAX;

@@ -3,7 +3,7 @@ ghost use Prim.Native.Nat.{_≤_};
 ghost use lib.ListN.{length};
 use libc::STDIN_FILENO;
 
-// Where reading stands: the byte that is looked at, whether the input has ended, and where the bytes in the buffer go on and end.
+// Where reading stands: the byte that is looked at, whether the input has ended, and the indices in the buffer of the next byte and of the end.
 pub(crate) struct Text {
     pub byte: u8,
     pub ended: bool,
@@ -17,7 +17,7 @@ pub(crate) struct Value {
     pub rest: Text,
 }
 
-// Where words that were read end, whether there was room for them, and the text after them.
+// The index where the words end that were read, whether there was room for them, and the text after them.
 pub(crate) struct Part {
     pub end: usize,
     pub fits: bool,
@@ -72,13 +72,13 @@ fn is_digit(b: u8) -> bool {
     b <= b'9'
 }
 
-// The number with one digit more, its lowest 32 bits.
+// The number with one more digit, modulo 2 ^ 32.
 fn longer(value: u32, b: u8) -> u32 {
     let wide = (value as u64) * 10 + (b % 16) as u64;
     (wide % 4294967296) as u32
 }
 
-// Whether the byte after this one is in a comment, by whether this one is.
+// Whether the next byte is in a comment, given this byte and whether it is in one.
 fn in_comment(b: u8, comment: bool) -> bool {
     if comment {
         return b != b'\n';
@@ -86,7 +86,7 @@ fn in_comment(b: u8, comment: bool) -> bool {
     b == b'#'
 }
 
-// Whether a number begins here, or nothing follows.
+// Whether a number begins here, or the input has ended.
 fn stops(here: Text, comment: bool) -> bool {
     if here.ended {
         return true;
@@ -97,7 +97,7 @@ fn stops(here: Text, comment: bool) -> bool {
     is_digit(here.byte)
 }
 
-// The text from the next number on. Nothing says that the input ends, so the turns are counted down.
+// The text from the next number on. The input may never end, so the turns are counted down to give the loop a bound.
 fn skip(buffer: &mut [u8], from: Text) -> Text {
     let mut here = from;
     let mut comment = false;
@@ -113,7 +113,7 @@ fn skip(buffer: &mut [u8], from: Text) -> Text {
     here
 }
 
-// The next number, or 0 where the input has ended.
+// The next number, or 0 if the input has ended.
 pub(crate) fn number(buffer: &mut [u8], from: Text) -> Value {
     let mut here = skip(buffer, from);
     let mut value: u32 = 0;
@@ -129,7 +129,7 @@ pub(crate) fn number(buffer: &mut [u8], from: Text) -> Value {
     Value { value, rest: here }
 }
 
-// A length that stands here, or one that is known without.
+// A length: read from the text if it stands here, else the one that is known.
 fn size(stands_here: bool, known: u32, buffer: &mut [u8], from: Text) -> Value {
     if stands_here {
         return number(buffer, from);
@@ -140,7 +140,7 @@ fn size(stands_here: bool, known: u32, buffer: &mut [u8], from: Text) -> Value {
     }
 }
 
-// The length of a buffer, if one stands here, which is at most `most`.
+// The length of a buffer, 0 if none stands here. A length above `most` does not fit.
 pub(crate) fn length_if(stands_here: bool, buffer: &mut [u8], from: Text, most: usize) -> Part
     ensures { λ r. ⌜ r .end ≤ most ⌝ }
 {
@@ -188,7 +188,7 @@ fn numbers(buffer: &mut [u8], from: Text, into: &mut [u32], at: usize, n: usize)
     }
 }
 
-// A list of words, written from an index on. Its length stands before it, or is known without.
+// A list of words, written from an index on. Its length is read first, or is known.
 pub(crate) fn list(
     stands_here: bool,
     known: u32,

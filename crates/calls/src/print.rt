@@ -130,7 +130,7 @@ pub(crate) fn weights(taken: u32, put: u32, start: u32, capacity: PlaceCapacity)
     named(b" capacity", capacity.plain() as u64);
 }
 
-// A byte put at an index of a block, and the index after it; past the block nothing is put.
+// Puts a byte at an index of a block and answers the next index; past the block it puts nothing.
 fn byte(block: &mut [u8], at: usize, b: u8) -> usize
     ensures { λ r. ⌜ r ≤ length (now (block .exit)) ⌝ }
 {
@@ -141,7 +141,7 @@ fn byte(block: &mut [u8], at: usize, b: u8) -> usize
     at + 1
 }
 
-// A blank and bytes put into a block from an index on, and the index after them.
+// Puts a blank and bytes into a block from an index on, and answers the index after them.
 fn put(block: &mut [u8], at: usize, bytes: &[u8]) -> usize
     ensures { λ r. ⌜ r ≤ length (now (block .exit)) ⌝ }
 {
@@ -154,7 +154,7 @@ fn put(block: &mut [u8], at: usize, bytes: &[u8]) -> usize
     end
 }
 
-// The same of a number.
+// Puts a blank and a number into a block from an index on, and answers the index after them.
 fn number(block: &mut [u8], at: usize, n: u64) -> usize
     ensures { λ r. ⌜ r ≤ length (now (block .exit)) ⌝ }
 {
@@ -169,7 +169,7 @@ fn word(block: &mut [u8], at: usize, w: u32) -> usize
     number(block, at, w as u64)
 }
 
-// Where in a block the next number goes: a system call for each number would take the most time, so a block is written only where another may not fit.
+// The index in a block where the next number goes. A system call for each number would be slow, so the block is printed only when another may not fit.
 fn room(block: &[u8], at: usize) -> usize
     ensures { λ r. ⌜ r ≤ length (now (block .entry)) ⌝ }
 {
@@ -222,7 +222,7 @@ fn times(words: &[u32], word: u32) -> usize {
     n
 }
 
-// The index of the first `word`, or the length where there is none.
+// The index of the first `word`, or the length if there is none.
 fn first(words: &[u32], word: u32) -> usize {
     let mut i = 0;
     while i < words.len() {
@@ -276,7 +276,7 @@ pub(crate) fn numbers(numbers: &[u64], blank: u64) {
     named(b" rest", (numbers.len() - n) as u64);
 }
 
-// How many words are 0, how many are still `blank`, and where the first of these is.
+// Prints how many words are 0, how many are still `blank`, and the index of the first `blank`.
 pub(crate) fn scratch(words: &[u32], blank: u32) {
     named(b" scratch", times(words, 0) as u64);
     named(b"", times(words, blank) as u64);

@@ -1,4 +1,4 @@
-// The checker: reads net.bin and sheet.bin of the folder that it runs in (§12.1), prints what is answered for them, and ends well (§12.8).
+// The checker: reads net.bin and sheet.bin of the folder in which it runs (§12.1), prints the answer to them, and ends with status 0 (§12.8).
 ghost use mathlib.Core.Path.{_≡_};
 ghost use mathlib.Core.List.{List};
 ghost use Prim.Native.Nat.{ℕ};
@@ -7,7 +7,7 @@ ghost use Rattle.io.specs.Counts.{Counts};
 ghost use Rattle.files.specs.Printed.{printed, Buffers, Reads};
 use libc::STDOUT_FILENO;
 
-// Of each file one word more than fits: §12.3.
+// Room for one word more of each file than the longest that can be accepted: §12.3.
 const NET_WORDS: usize = 4228;
 
 const NET_BYTES: usize = 16912;
@@ -21,7 +21,7 @@ const FORM_WORDS: usize = 8194;
 
 const TEXT_BYTES: usize = 91315;
 
-// The bytes of a file at the start of buf, as many as it holds; none of a file that cannot be opened or read (§12.2).
+// Reads a file to the start of buf, as many bytes as buf holds, and answers how many; 0 for a file that cannot be opened or read (§12.2).
 fn read_file(path: &[u8], buf: &mut [u8]) -> usize
     ensures { λ r. ⌜ Counts r (now (buf .exit)) ⌝ }
 {
@@ -34,7 +34,7 @@ fn read_file(path: &[u8], buf: &mut [u8]) -> usize
     n
 }
 
-// All that is printed for two files, at the start of out: n and s bytes of them are in the buffers that they were read into.
+// Puts all that is printed for two files at the start of out. The files are the first n bytes of netbin and the first s bytes of sheetbin.
 fn report(
     netbin: &[u8],
     n: usize,

@@ -1,4 +1,4 @@
--- The table of choice sets: what the loops over rows of weights find, and what a least transition tells of its set.
+-- The table of choice sets: what the loops over rows of weights find, and what is known of a set from its least transition.
 use Rattle.scan.proofs.Basics.{ℕ, _≤_, _<_, arith, _≡_, refl, subst, sym, ap, _∙_, true, false, cond, ltb, eqb, List, length, getD, set}
 use Prim.Native.Nat.{min}
 use lib.Seq.{getD-set-same, getD-set-other}

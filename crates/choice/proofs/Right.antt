@@ -1,4 +1,4 @@
--- Where the arcs are readable the answer is what §7.11 to §7.13 and §5.4 say of the schedule's graph.
+-- If the arcs are readable, the answer is what §7.11 to §7.13 and §5.4 say of the schedule's graph.
 use Rattle.scan.proofs.Basics.{ℕ, _≤_, _<_, arith, _≡_, refl, sym, ap, Option, none, some, List, getD}
 use Prim.Native.Nat.{min}
 use Rattle.net.specs.Net.{transitionCount}

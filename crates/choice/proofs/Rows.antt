@@ -1,4 +1,4 @@
--- The net and the graph of the rows are the net and the graph.
+-- The net and the graph that are read row by row are the net and the graph of the words.
 use Rattle.scan.proofs.Basics.{ℕ, _+_, _-_, _≤_, arith, _≡_, refl, sym, ap, _∙_, Bool, ltb, Option, none, some, Option·map, Option·getD, List, getD, replicate}
 use native.Mathlib.Decide.{decLt}
 use mathlib.Core.Path.{fun-ext}

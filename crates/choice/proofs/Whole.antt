@@ -1,4 +1,4 @@
--- The walk that tells a node which offers one whole choice set: the row that its entries make, as far as the walk has come, has the arcs of the members and no others.
+-- The walk that recognizes a node which offers one whole choice set: as far as the walk has come, the node's row has the arcs of the members and no others.
 use Rattle.scan.proofs.Basics.{ℕ, _+_, _-_, _≤_, _<_, arith, _≡_, refl, sym, _∙_, Bool, true, false, eqb, List, getD, set, replicate}
 use mathlib.Core.Bool.{Bool·beq}
 use native.Mathlib.Decide.{decLt}

@@ -1,4 +1,4 @@
--- What is promised of the answer on a schedule's nodes, as a statement: on words that 1 to 8 and 26 do not refuse, nor 9 for an arc: counts are not looked at. proofs/Demands has the term.
+-- What is promised of the answer on a schedule's nodes, as a statement. It holds of words that pass 1 to 8 and 26, and 9 at arcs; counts are not looked at. proofs/Demands has the term.
 use Prim.Native.Nat.{ℕ, _<_}
 use mathlib.Core.Path.{_≡_}
 use mathlib.Core.Logic.{_↔_}
@@ -24,7 +24,7 @@ abbrev pub NodesMean : Type 0
 NodesMean = (net sheet : List ℕ) → IsNet net → AllPass (arcWordChecks (petriNet net) sheet)
     → NodesRight (petriNet net) sheet (nodesReply net sheet)
 
--- the same of a schedule of the net with the sources other than s removed
+-- the same of a schedule of the net from which all sources but s are removed
 abbrev pub TaskNodesMean : Type 0
 TaskNodesMean = (net : List ℕ) (s : ℕ) (sheet : List ℕ) → IsNet net → AllPass (arcWordChecks (petriNet net) sheet)
     → NodesRight (only (petriNet net) s) sheet (taskNodesReply net s sheet)

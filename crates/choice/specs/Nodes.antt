@@ -1,5 +1,5 @@
--- What is found at the nodes of a schedule, and the marks of its await nodes: on any words, by the net and the graph of the rows.
--- Where the arcs are readable these are 11 to 13 and the await nodes (Demands, `NodesMean`).
+-- Faults at the nodes of a schedule, and marks at its await nodes, on any words: by the net and the graph that `Rows` defines.
+-- If the arcs are readable, these are refusals 11 to 13 and the await nodes (Demands, `NodesMean`).
 use Prim.Native.Nat.{ℕ}
 use mathlib.Core.List.{List}
 use mathlib.Core.Bool.{Bool, not, _&&_}
@@ -24,11 +24,11 @@ module _ (N : PetriNet) (A : Automaton) where
   unfoldable pub offerFault : ℕ → Option Refusal
   offerFault n = orElse (when (not (offersSome N A n)) (refusal 11 (Node n))) (when (not (offersOneChoiceSet N A n)) (refusal 12 (Node n)))
 
-  -- §5.4, of the numbers below n
+  -- whether m is an await node (§5.4) and below n
   unfoldable pub awaitsBelow : ℕ → ℕ → Bool
   awaitsBelow n m = ltb m n && isAwait N A m
 
-  -- then §7.13
+  -- these faults at all nodes, then §7.13
   unfoldable pub offersFault : Option Refusal
   offersFault = orElse (first offerFault (A .nodes)) (when (not (awaitsBelow (A .nodes) 0)) (refusal 13 (Node 0)))
 
@@ -53,7 +53,7 @@ nodesReply net sheet =
     let A = graphByRows net sheet in
     markedOr (awaitMarks N A) (offersFault N A)
 
--- the same with the sources other than s removed
+-- the same with all sources but s removed
 unfoldable pub taskNodesReply : List ℕ → ℕ → List ℕ → NodesAnswer
 taskNodesReply net s sheet =
     let N = only (netByRows net) s in

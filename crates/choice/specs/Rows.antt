@@ -1,5 +1,5 @@
--- The net and the graph as their rows tell them, on any words: weights and arcs are read from the rows, and a size is cut where rows or marks end.
--- Where 1 to 5 and 26 refuse nothing this net is the net, and where the arcs are readable this graph is the graph (proofs/Rows).
+-- The net and the graph on any words, read row by row: weights and arcs come from rows, and a size above the limit is cut to the limit.
+-- If 1 to 5 and 26 refuse nothing, this net is the net; if the arcs are readable, this graph is the graph (proofs/Rows).
 use Prim.Native.Nat.{ℕ, _-_, min}
 use mathlib.Core.List.{List}
 use mathlib.Core.Bool.{Bool, true}
@@ -30,11 +30,11 @@ netByRows net = record {
 unfoldable pub present : List ℕ → ℕ → Bool
 present row t = ltb 0 (getD row t 0)
 
--- the target is the value of the entry that the row tells
+-- the target of the arc by t: the value of the entry that the row has for t
 unfoldable pub arcByRow : List ℕ → List ℕ → ℕ → Option ℕ
 arcByRow sheet row t = when (present row t) (entryValue sheet (getD row t 0 - 1))
 
--- no row tells of labels, and nothing here asks for them
+-- labels are left empty, since nothing here asks for them
 unfoldable pub graphByRows : List ℕ → List ℕ → Automaton
 graphByRows net sheet = record {
   nodes = min (nodeCount sheet) mostNodes;

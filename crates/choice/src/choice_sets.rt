@@ -1,4 +1,4 @@
-// Choice sets (§5.1): each is known by its least transition. The weights are those that the rows of the net tell.
+// Choice sets (§5.1): each is known by its least transition. Weights are read from the net as rows, one row for each transition.
 ghost use mathlib.Core.Path.{_≡_};
 ghost use Prim.Native.Nat.{_≤_, _<_, min};
 ghost use mathlib.Core.Bool.{cond};
@@ -13,13 +13,13 @@ ghost use Rattle.sequential.specs.Only.{only};
 ghost use Rattle.choice.specs.Choices.{firstSource, ChoicesOf, leftOf, equalAt, zeroAt, weighsAt, bothAt, rowsFit, FirstPlaces, Noted, NotedAfter};
 use refusal::Limits;
 
-// The least transition of each transition's choice set, and the least source, which stands for all of them (§5.2).
+// For each transition the least member of its choice set; and the least source, which stands for the choice set of the sources (§5.2).
 pub(crate) struct Choices {
     pub(crate) leaders: [u32; 32],
     pub(crate) source: u32,
 }
 
-// A size, and its limit where it is above that.
+// The lesser of a size and its limit.
 pub(crate) fn at_most(size: u32, limit: u32) -> usize
     ensures { λ r. ⌜ r ≡ min size limit ⌝ }
 {
@@ -56,7 +56,7 @@ fn rows_equal(a: [u32; 32], b: [u32; 32], places: usize) -> bool
     true
 }
 
-// Whether two rows have a weight at one place.
+// Whether both rows have a weight above 0 at some place.
 fn rows_meet(a: [u32; 32], b: [u32; 32], places: usize) -> bool
     requires { ⌜ places ≤ 32 ⌝ }
     ensures { λ r. ⌜ r ≡ any (bothAt a b) places ⌝ }
@@ -71,7 +71,7 @@ fn rows_meet(a: [u32; 32], b: [u32; 32], places: usize) -> bool
     false
 }
 
-// Whether two rows meet at no place, or have the same weights.
+// Whether no place has a weight above 0 in both rows, or the rows are equal.
 fn rows_fit(a: [u32; 32], b: [u32; 32], places: usize) -> bool
     requires { ⌜ places ≤ 32 ⌝ }
     ensures { λ r. ⌜ r ≡ rowsFit a b places ⌝ }
@@ -82,7 +82,7 @@ fn rows_fit(a: [u32; 32], b: [u32; 32], places: usize) -> bool
     true
 }
 
-// The first place of a row that has a weight, or the number of places.
+// The first place at which a row has a weight above 0, or the number of places.
 fn first_weight(row: [u32; 32], places: usize) -> u32
     requires { ⌜ places ≤ 32 ⌝ }
     ensures { λ r. ⌜ r ≡ least (weighsAt row) places ⌝ }
@@ -97,7 +97,7 @@ fn first_weight(row: [u32; 32], places: usize) -> u32
     places as u32
 }
 
-// By each transition the first place that it draws on.
+// For each transition the first place that it draws on.
 fn first_places(net: &[u32]) -> [u32; 32]
     ensures { λ r. ⌜ FirstPlaces (now (net .entry)) r ⌝ }
 {
@@ -135,7 +135,7 @@ fn least_alike(net: &[u32], firsts: &[u32; 32], t: u32) -> u32
     t
 }
 
-// Whether a row has no weight.
+// Whether all weights of a row are 0.
 fn row_empty(row: [u32; 32], places: usize) -> bool
     requires { ⌜ places ≤ 32 ⌝ }
     ensures { λ r. ⌜ r ≡ all (zeroAt row) places ⌝ }
@@ -187,7 +187,8 @@ fn is_free(net: &[u32], t: u32) -> bool
     true
 }
 
-// What is noted of the transitions that take the same as t, of which `leader` is the least: asked where nothing is noted yet and t is another one.
+// A note says whether the transitions that take the same as `leader`, the least of them, are one choice set: 1 yes, 2 no, 0 not asked yet. This is the
+// note after t, one of them: the question is asked as soon as there is a second transition.
 fn noted(net: &[u32], note: u32, leader: u32, t: u32) -> u32
     requires { ⌜ Noted (netByRows (now net)) note leader ⌝ }
     ensures { λ r. ⌜ NotedAfter (netByRows (now (net .entry))) r leader t ⌝ }
@@ -204,7 +205,7 @@ fn noted(net: &[u32], note: u32, leader: u32, t: u32) -> u32
     2
 }
 
-// The least transition of t's choice set, by what is noted.
+// The least transition of t's choice set, by the note.
 fn chosen(note: u32, leader: u32, t: u32) -> u32
     ensures { λ r. ⌜ r ≡ cond (eqb note 1) leader t ⌝ }
 {
@@ -214,7 +215,8 @@ fn chosen(note: u32, leader: u32, t: u32) -> u32
     t
 }
 
-// Made once for a net: every node is held to them. Whether those that take the same are one choice set is asked once for them all.
+// The choice sets of a net. They are made once and then compared with every node. For all transitions that take the same it is asked only once whether
+// they are one choice set.
 pub(crate) fn choices_of(net: &[u32]) -> Choices
     ensures { λ r. ⌜ ChoicesOf (netByRows (now (net .entry))) (r .leaders) (r .source) ⌝ }
 {
@@ -236,7 +238,8 @@ pub(crate) fn choices_of(net: &[u32]) -> Choices
     }
 }
 
-// The least transition of t's choice set where of the sources s alone is left, given what it was, and what that of the sources was.
+// The least transition of t's choice set after all sources but s are removed. `leader` is what it was before, and `source` the least source then. A removed
+// source is in no choice set: the answer is 32, which is no transition.
 fn left(leader: u32, source: u32, s: u32, t: u32) -> u32
     ensures { λ r. ⌜ r ≡ leftOf leader source s t ⌝ }
 {
@@ -249,7 +252,7 @@ fn left(leader: u32, source: u32, s: u32, t: u32) -> u32
     Limits::TRANSITIONS
 }
 
-// The same with the sources other than s removed; a number that is no source removes none.
+// The choice sets after all sources but s are removed. If s is no source, none is removed.
 pub(crate) fn choices_only(net: &[u32], s: u32) -> Choices
     ensures { λ r. ⌜ ChoicesOf (only (netByRows (now (net .entry))) s) (r .leaders) (r .source) ⌝ }
 {

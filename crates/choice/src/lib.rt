@@ -1,4 +1,4 @@
-// What the nodes of a schedule offer: refusals 11 to 13, and the await nodes. Arcs alone are looked at, never what a node holds.
+// What the nodes of a schedule offer: refusals 11 to 13, and the await nodes. Only arcs are looked at, not counts.
 mod choice_sets;
 mod offers;
 
@@ -16,13 +16,13 @@ use refusal::Position;
 use refusal::Refusal;
 use refusal::Verdict;
 
-// `awaits` has 1 at each await node (§5.4), and 0 everywhere where the verdict is a refusal.
+// `awaits` has 1 at each await node (§5.4); it is all 0 if the verdict is a refusal.
 pub struct NodesAnswer {
     pub verdict: Verdict,
     pub awaits: [u8; 128],
 }
 
-// V, and 128 where it is above the limit.
+// V, or 128 if V is above that limit.
 fn node_count(sheet: &[u32]) -> usize
     ensures { λ r. ⌜ r ≡ min (nodeCount (now (sheet .entry))) mostNodes ⌝ }
 {
@@ -58,7 +58,7 @@ pub fn nodes(net: &[u32], sheet: &[u32]) -> NodesAnswer
     task_nodes(net, Limits::TRANSITIONS, sheet)
 }
 
-// The same with the sources other than s removed: an arc of a removed one is 12. A number that is no source removes none.
+// The same after all sources but s are removed: a node with an arc by a removed source is refused by 12. If s is no source, none is removed.
 pub fn task_nodes(net: &[u32], s: u32, sheet: &[u32]) -> NodesAnswer
     ensures { λ r. ⌜ r ≡ taskNodesReply (now (net .entry)) s (now (sheet .entry)) ⌝ }
 {

@@ -1,5 +1,5 @@
-// What a node offers, by its arcs and the table of choice sets. A node that offers one whole choice set is told by a walk over its entries; only where
-// that fails is its row of arcs made.
+// What a node offers, by its arcs and the table of choice sets. A walk over the node's entries recognizes one whole choice set; only if that fails
+// is the node's row of arcs built.
 ghost use mathlib.Core.Path.{_≡_};
 ghost use mathlib.Core.Bool.{true};
 ghost use Prim.Native.Nat.{_+_, _*_, _≤_};
@@ -35,7 +35,7 @@ fn first_present(arcs: [usize; 32], transitions: usize) -> usize
     transitions
 }
 
-// Whether a row has the arcs of the choice set that is known by c, and no others.
+// Whether a row has an arc for each member of the choice set whose least transition is c, and no other arcs.
 fn are_choice(arcs: [usize; 32], leaders: [u32; 32], c: u32, transitions: usize) -> bool
     requires { ⌜ transitions ≤ 32 ⌝ }
     ensures { λ r. ⌜ r ≡ all (presentAsChoice arcs leaders c) transitions ⌝ }
@@ -50,7 +50,7 @@ fn are_choice(arcs: [usize; 32], leaders: [u32; 32], c: u32, transitions: usize)
     true
 }
 
-// A first arc by a removed transition, which is in no choice set, tears the offer.
+// What a row of arcs offers. If its first arc is by a removed transition, that is not one whole choice set: the transition is in none.
 pub(crate) fn offered(arcs: [usize; 32], leaders: [u32; 32], transitions: usize) -> Offer
     requires { ⌜ transitions ≤ 32 ⌝ }
     ensures { λ r. ⌜ r ≡ offerOf arcs leaders transitions ⌝ }
@@ -69,7 +69,7 @@ pub(crate) fn offered(arcs: [usize; 32], leaders: [u32; 32], transitions: usize)
     Offer::Torn
 }
 
-// The transition of entry i in the row that begins at a key, 32 where the entry is not there or its key is below: a guess, nothing relies on it.
+// The transition of entry i in the row that begins at key `first`; 32 if there is no entry i or its key is lower. It is a guess: nothing relies on it.
 fn arc_guess(sheet: &[u32], first: u32, i: usize) -> usize
     requires { ⌜ length (now sheet) ≡ 2 + 2 * entryCount (now sheet) ⌝ }
 {
@@ -83,7 +83,7 @@ fn arc_guess(sheet: &[u32], first: u32, i: usize) -> usize
     (key - first) as usize
 }
 
-// Whether the entries of a row, from its start on, are arcs of the choice set that is known by c, one by each member, and no others.
+// Whether a row's entries, from `start` on, are one arc for each member of the choice set whose least transition is c, and no others.
 fn is_whole(
     sheet: &[u32],
     leaders: &[u32; 32],

@@ -1,4 +1,4 @@
--- The comparison as an instance of what every call is. Its last number, which a refusal has too, stands beside.
+-- The comparison as an instance of what holds of every call, except for its last number, which a refusal can have too.
 use Rattle.scan.proofs.Basics.{ℕ, _≡_, refl, List, [], _∷_, _++_, length}
 use Rattle.scan.specs.Scan.{bit}
 use Rattle.refusal.specs.Refusal.{refusal, told}

@@ -1,4 +1,4 @@
--- What a comparison says: the forms are the ones that merging and numbering give, and they are the same exactly where the schedules allow the same lists.
+-- What a comparison says: the forms are those that merging and numbering give, and they are equal exactly if the schedules allow the same lists.
 use Rattle.scan.proofs.Basics.{ℕ, _≤_, _≡_, refl, sym, ap, _∙_, List, [], _∷_, _++_, length, take, drop}
 use mathlib.Core.Logic.{Iff·trans}
 use Rattle.refusal.specs.Limits.{scratchLimit}

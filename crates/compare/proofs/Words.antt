@@ -1,4 +1,4 @@
--- Words compared: so many in front of two buffers are the same exactly where the lists are that were written there.
+-- Words compared: the fronts of two buffers are equal exactly if the lists that were written there are.
 use Rattle.scan.proofs.Basics.{ℕ, _<_, _≡_, refl, ap, _↔_, true, eqb, List, length, getD}
 use lib.ListN.{List·getD-append}
 use lib.Seq.{ext-getD}

@@ -19,32 +19,32 @@ use Rattle.minimal.specs.Minimal.{minimalForm}
 use Rattle.compare.specs.declared.CompareAnswer.{CompareAnswer}
 use Rattle.compare.specs.declared.CompareAnswer.the-variants.{Compared, Refused}
 
--- ---- refused
+-- ---- refusals
 
 -- the numbers by which a schedule is refused: §7.6 to §7.17, §7.27
 unfoldable pub ofSchedule : ℕ → Bool
 ofSchedule number = eqb number 27 || (leb 6 number && leb number 17)
 
--- a refusal by one of them is about a schedule, and any other about none
+-- a refusal by one of these numbers names the schedule; any other names none
 abbrev pub refusedBy : Refusal → ℕ → CompareAnswer
 refusedBy r sheet = Refused (record { refusal = r; sheet = cond (ofSchedule (r .number)) (Known sheet) Missing })
 
--- about the first schedule (0), or where that is accepted about the second (1)
+-- the schedule that is named: the first (0), or the second (1) if the first is accepted
 abbrev pub about : Verdict → ℕ
 about verdict.Accepted = 1
 about (verdict.Refused r) = 0
 
--- the net, the first schedule whole, the second whole: §7.67
+-- all checks of the net, then of the first schedule, then of the second: §7.67
 unfoldable pub compareVerdict : List ℕ → List ℕ → List ℕ → Verdict
 compareVerdict net first second = andThen (scheduleReply net first) (verdictOf (scheduleFault (petriNet net) second))
 
--- ---- compared
+-- ---- the comparison
 
--- word i of both
+-- word i is the same in both
 unfoldable pub sameAt : List ℕ → List ℕ → ℕ → Bool
 sameAt one two i = eqb (getD one i 0) (getD two i 0)
 
--- so many words of the one and so many of the other are equal in length and word for word: §11.8
+-- the first m words of one and the first n words of two are equal in length and word for word: §11.8
 unfoldable pub sameFronts : List ℕ → List ℕ → ℕ → ℕ → Bool
 sameFronts one two m n = eqb m n && all (sameAt one two) m
 
@@ -59,15 +59,15 @@ compareCore net first second = record {
   results = minimalForm net first ∷ minimalForm net second ∷ [];
 }
 
--- without scratch
+-- the postcondition without scratch
 abbrev pub CompareWritten : List ℕ → List ℕ → List ℕ → List ℕ → List ℕ → CompareAnswer → List ℕ → List ℕ → Type 0
 CompareWritten net first second one two r one′ two′ = WordsDone (compareCore net first second) (one ∷ two ∷ []) r (one′ ∷ two′ ∷ [])
 
--- number, kind, position, both lengths, 1 where the forms are the same (§8.1), all three 0 where refused (§8.3); and the refused schedule's index (§8.4)
+-- number, kind, position, both lengths, 1 if the forms are equal (§8.1), these three 0 if refused (§8.3); and the index of the refused schedule (§8.4)
 abbrev pub plainCompare : CompareAnswer → List ℕ
 plainCompare (Compared c) = 0 ∷ 0 ∷ 0 ∷ c .first ∷ c .second ∷ bit (c .same) ∷ 0 ∷ []
 plainCompare (Refused f) = told (f .refusal) 3 ++ (plainIndex (f .sheet) ∷ [])
 
--- all but the last, which a refusal can have
+-- all but the last number, the only own number that a refusal can have
 abbrev pub plainCompared : CompareAnswer → List ℕ
 plainCompared a = take 6 (plainCompare a)

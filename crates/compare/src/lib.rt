@@ -1,4 +1,4 @@
-// Two schedules of a net compared by their minimal forms (§10.50): each form is written to a buffer of its own, and the words are compared.
+// The call that compares two schedules of a net (§10.50): their minimal forms are written, each to a buffer of its own, and then compared word by word.
 ghost use mathlib.Core.Path.{_≡_};
 ghost use Prim.Native.Nat.{_≤_};
 ghost use lib.ListN.{length};
@@ -11,7 +11,7 @@ use refusal::Limits;
 use refusal::Refusal;
 use refusal::Verdict;
 
-// What two schedules come to: the lengths in words of both forms, and whether these are the same.
+// What a comparison tells: the lengths in words of both minimal forms, and whether the forms are equal.
 pub struct Comparison {
     pub first: usize,
     pub second: usize,
@@ -29,7 +29,7 @@ pub enum CompareAnswer {
     Refused(Fault),
 }
 
-// 1 where a test holds, and else 0.
+// 1 if a test holds, and else 0.
 fn told(test: bool) -> usize
     ensures { λ r. ⌜ r ≡ bit test ⌝ }
 {
@@ -77,7 +77,7 @@ fn of_schedule(number: u32) -> bool
     number <= Refusal::NO_PATH_TO_AWAIT
 }
 
-// Refused, about a schedule where the number is one of a schedule's.
+// A refused answer. It names the schedule if the refusal is one about a schedule.
 fn refused(refusal: Refusal, sheet: u32) -> CompareAnswer
     ensures { λ r. ⌜ r ≡ refusedBy refusal sheet ⌝ }
 {
@@ -93,7 +93,7 @@ fn refused(refusal: Refusal, sheet: u32) -> CompareAnswer
     })
 }
 
-// Equal in length and word for word: §11.8. Nothing leaves the loop early, so that several words are compared at once.
+// Equal in length and word for word: §11.8. The loop has no early exit, so that several words are compared at once.
 fn same_fronts(one: &[u32], two: &[u32], first: usize, second: usize) -> bool
     requires { ⌜ (first ≤ length (now one)) × (second ≤ length (now two)) ⌝ }
     ensures { λ r. ⌜ r ≡ sameFronts (now (one .entry)) (now (two .entry)) first second ⌝ }

@@ -1,4 +1,4 @@
--- What the functions rely on holds where the number, every sheet and the first 29 pass: 28, the sheets and 29 are what is checked before.
+-- What the functions rely on holds once 28, every sheet and the first 29 have passed.
 use Rattle.scan.proofs.Basics.{ℕ, _<_, arith, _≡_, refl, List, getD}
 use Rattle.refusal.specs.declared.Verdict.the-variants.{Accepted}
 use Rattle.net.specs.Check.{netReply}

@@ -1,4 +1,5 @@
-// The checks that come before the tuples: 28 (§7.28), and each schedule whole, of the net with the other sources removed (§10.31).
+// The checks that come before the tuples are built: 28 (§7.28), and the whole check of each schedule with the net from which the other sources are
+// removed (§10.31).
 ghost use mathlib.Core.Path.{_≡_};
 ghost use mathlib.Core.Bool.{_||_, not};
 ghost use lib.Dec.{ltb, eqb};
@@ -13,7 +14,7 @@ use refusal::Position;
 use refusal::Refusal;
 use refusal::Verdict;
 
-// Refused by a number of which no schedule is the cause.
+// A refusal that is about no schedule.
 pub(crate) fn refused(number: u32) -> ComposeAnswer
     ensures { λ r. ⌜ r ≡ ComposeAnswer.Refused (refusal number Nothing) Index.Missing ⌝ }
 {
@@ -21,7 +22,7 @@ pub(crate) fn refused(number: u32) -> ComposeAnswer
     ComposeAnswer::Refused(Refusal { number, at }, Index::Missing)
 }
 
-// Whether so many schedules are too many, or not as many as sources.
+// Whether the number of schedules is above four or is not the number of sources.
 pub(crate) fn wrong_number(number: usize, sources: usize) -> bool
     ensures { λ r. ⌜ r ≡ (ltb 4 number || not (eqb number sources)) ⌝ }
 {
@@ -31,13 +32,13 @@ pub(crate) fn wrong_number(number: usize, sources: usize) -> bool
     number != sources
 }
 
-// What the schedules are answered, and the first that is refused.
+// The verdict on all schedules, and the index of the first that is refused.
 pub(crate) struct SheetsAnswer {
     pub(crate) verdict: Verdict,
     pub(crate) sheet: u32,
 }
 
-// One schedule after the other.
+// Checks one schedule after the other.
 pub(crate) fn sheets_told<'a>(
     net: &'a [u32],
     number: usize,

@@ -1,4 +1,4 @@
--- Two tasks served one after the other: a service moves its own task alone, so that either order ends in the same state (§10.34).
+-- Two tasks served one after the other: serving a task moves only that task, so that either order ends in the same state (§10.34).
 use Prim.Native.Nat.{ℕ, _<_}
 use mathlib.Core.Path.{_≡_, refl, sym, ap, _∙_}
 use mathlib.Core.Bool.{true}

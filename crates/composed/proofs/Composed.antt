@@ -1,4 +1,4 @@
--- The composed graph is a schedule of the whole net where no reached state is dependent.
+-- The composed graph is a schedule of the whole net if every transition that a reached state fires is enabled.
 use Prim.Native.Nat.{ℕ, _≤_, _<_}
 use mathlib.Core.Path.{_≡_, refl, ap, _∙_}
 use mathlib.Core.Logic.{_↔_, ⊎-elim}

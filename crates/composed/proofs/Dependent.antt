@@ -1,4 +1,4 @@
--- 30 (§7.30): the test decides it, and it is given exactly where no counts whatever make the composed graph a schedule of the net (source document 001,
+-- 30 (§7.30): the test decides it, and it is answered exactly if no counts make the composed graph a schedule of the net (source document 001,
 -- Definition 8).
 use Prim.Native.Nat.{ℕ, _-_, _<_}
 use mathlib.Core.Path.{_≡_, sym, ap, _∙_}

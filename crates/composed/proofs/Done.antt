@@ -1,4 +1,4 @@
--- Composition as an instance of what every call is: how its words are judged, its paths, and which schedule is named beside a refusal.
+-- Composition as an instance of what holds of every call: the checks of its words, its paths, and which schedule a refusal names.
 use Rattle.scan.proofs.Basics.{ℕ, zero, suc, _<_, _≡_, refl, ap, _∙_, Bool, true, false, cond, eqb, Option, none, some, List, [], _∷_, _++_, length, take}
 use Rattle.scan.specs.Scan.{when, found, passing}
 use Rattle.scan.proofs.Tests.{ne-eqb}

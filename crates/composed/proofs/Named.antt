@@ -1,4 +1,4 @@
--- The last of the call's own numbers names the first schedule that is refused, and none where the refusal is no schedule's (§10.30).
+-- The last of the call's own numbers names the first schedule that is refused, and none if the refusal is about no schedule (§10.30).
 use Rattle.scan.proofs.Basics.{ℕ, _+_, _≤_, _<_, arith, _≡_, refl, sym, ap, _∙_, ⊎-elim, _↔_, true, false, eqb, Option, none, some, List, [], _∷_, _++_, length}
 use mathlib.Core.Logic.{Iff·rfl}
 use Rattle.scan.proofs.Tests.{byTest, eqb-false, true-false}

@@ -1,4 +1,4 @@
--- With one source alone the product is the task itself, so that the composed schedule is the given one under breadth first numbers (§10.33).
+-- With one source the product is the task itself, so that the composed schedule is the given one, numbered breadth first (§10.33).
 use Prim.Native.Nat.{ℕ, _-_, _*_, _<_}
 use native.Mathlib.Nat.{mod-eq-of-lt, div-one, zero-mul}
 use native.Mathlib.Omega.{arith}

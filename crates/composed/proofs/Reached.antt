@@ -1,4 +1,4 @@
--- Where an automaton meets document 01's clauses at the nodes that its root reaches, its reached part is a schedule.
+-- If an automaton meets document 01's clauses at the nodes that its root reaches, its reached part is a schedule.
 use Prim.Native.Nat.{ℕ, _<_}
 use mathlib.Core.Path.{_≡_, sym, ap, _∙_}
 use mathlib.Core.Logic.{_↔_}

@@ -1,4 +1,4 @@
--- The net with the other sources removed: where the source is offered nothing else is, and elsewhere a whole choice set of the whole net.
+-- The net with the other sources removed: a node that offers the source offers nothing else, and any other node offers one choice set of the whole net.
 use Rattle.scan.proofs.Basics.{ℕ, _<_, _≡_, refl, sym, _∙_, _↔_, true, false}
 use Rattle.scan.proofs.Tests.{lt-ltb, eqb-true, eq-eqb, not-true→false, and-both}
 use Rattle.automaton.specs.Automaton.{Automaton}

@@ -1,4 +1,4 @@
--- Lists in which no source but one task's own occurs: the product allows those that the task allows (§10.34).
+-- Lists in which no source but that of one task occurs: the product allows those that the task allows (§10.34).
 use Prim.Native.Nat.{ℕ, suc, _<_}
 use native.Mathlib.Omega.{arith}
 use mathlib.Core.Path.{_≡_, refl, sym, ap, _∙_}

@@ -27,12 +27,12 @@ module _ (N : PetriNet) (number : ℕ) (sheet : ℕ → List ℕ) where
   abbrev pub NumberPasses : Type 0
   NumberPasses = (number ≤ mostSheets) × (number ≡ length (sources N))
 
-  -- one schedule after the other, each whole, of the net with the other sources removed: §10.31
+  -- all checks of one schedule after the other, each with the net from which the other sources are removed: §10.31
   unfoldable pub eachSheet : ℕ → List Check
   eachSheet zero = []
   eachSheet (suc i) = eachSheet i ++ sheetChecks (netOf N i) (sheet i)
 
-  -- §7.29, of all tuples of nodes, however few are reached
+  -- §7.29 for the number of tuples of nodes; all of them count, however few are reached
   abbrev pub FewPass : Type 0
   FewPass = tuples (sizeOf tasks) number ≤ mostNodes
 
@@ -50,9 +50,9 @@ module _ (N : PetriNet) (number : ℕ) (sheet : ℕ → List ℕ) where
   abbrev pub composeChecks : List Check
   composeChecks = numberChecks ++ (eachSheet number ++ lastChecks)
 
-  -- ---- what they say together
+  -- ---- what the checks say together
 
-  -- a schedule of one source passes: its words are right and say a task
+  -- schedule i passes: its words are right, and their graph is a task
   pub record SheetPasses (i : ℕ) : Type 0 where
     pub words : WordsHold (netOf N i) (sheet i)
     pub task : IsTask N (sourceOf N i) (graph N (sheet i))

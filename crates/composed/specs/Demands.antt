@@ -1,4 +1,4 @@
--- What holds of tasks one for each source and of their composition, as statements. proofs/Demands has a term for each. What is promised of the call is
+-- What holds of tasks, one for each source, and of their composition, as statements. proofs/Demands has a term for each. What is promised of the call is
 -- `ComposeDemand` of the crate demands.
 use Prim.Native.Nat.{ℕ, _<_}
 use mathlib.Core.Path.{_≡_}
@@ -13,32 +13,32 @@ use Rattle.sequential.specs.Schedule.{IsSchedule, Await}
 use Rattle.composed.specs.Product.{Tasks, OnePerSource, awaits, product}
 use Rattle.composed.specs.Composed.{composed, Starved, Dependent, ReachedEnabled, EnabledSigned, Independent, Composable, AwaitsCover}
 
--- whether a node of a task is an await node (§5.4) is told by its own source alone
+-- a node of a task is an await node (§5.4) exactly if it offers the task's source
 abbrev pub AwaitsMeans : Type 0
 AwaitsMeans = (N : PetriNet) (X : Tasks) → OnePerSource N X → (i n : ℕ) → i < X .number → n < X .task i .nodes
     → (awaits X i n ≡ true) ↔ Await (only N (X .source i)) (X .task i) n
 
--- where they are independent the composed graph is a schedule of the whole net, numbered breadth first
+-- if the tasks are independent, the composed graph is a schedule of the whole net, numbered breadth first
 abbrev pub ComposedIsSchedule : Type 0
 ComposedIsSchedule = (N : PetriNet) (X : Tasks) → OnePerSource N X → Independent N X → IsSchedule N (composed N X) × BreadthFirst (composed N X)
 
--- and where they are not, no counts make it one
+-- if they are not, no counts make the composed graph a schedule
 abbrev pub DependentExactly : Type 0
 DependentExactly = (N : PetriNet) (X : Tasks) → OnePerSource N X → Independent N X ↔ Composable N X
 
--- 30 is the same whether all firings count for what is reached or the enabled ones alone
+-- refusal 30 does not depend on whether states are reached by any firings or by enabled ones only
 abbrev pub DependentEarly : Type 0
 DependentEarly = (N : PetriNet) (X : Tasks) → OnePerSource N X → Dependent N X → (s : ℕ) × (t : ℕ) × ReachedEnabled N X s × Starved N X s t
 
--- and whether a sum below zero is read as such or as 0
+-- nor on whether a sum below zero is read as it is or as 0
 abbrev pub DependentSigned : Type 0
 DependentSigned = (N : PetriNet) (X : Tasks) → OnePerSource N X
     → Independent N X ↔ ((s t m : ℕ) → Reachable (product N X) s → product N X .arc s t ≡ some m → EnabledSigned N X s t)
 
--- source document 001, Corollary 1, of nets without capacities: with them it is false
+-- source document 001, Corollary 1, for nets without capacities; with capacities it is false
 abbrev pub CorollaryOne : Type 0
 CorollaryOne = (N : PetriNet) (X : Tasks) → OnePerSource N X → ((p : ℕ) → p < N .places → N .capacity p ≡ none) → AwaitsCover N X → Independent N X
 
--- a task alone is independent, so that with one source 30 is never given
+-- a single task is independent, so that with one source 30 is never answered
 abbrev pub OneTask : Type 0
 OneTask = (N : PetriNet) (X : Tasks) → OnePerSource N X → X .number ≡ 1 → Independent N X

@@ -15,9 +15,9 @@ pub record Example : Type 0 where
   pub number : ℕ
   pub sheets : List (List ℕ)
   pub fault : Option Refusal
-  -- and of which sheet
+  -- the sheet that the fault names
   pub index : Option ℕ
-  -- what is written where there is no fault
+  -- what is written if there is no fault
   pub written : List ℕ
 
 -- a and b fill A and B, x takes A, y takes B
@@ -31,7 +31,7 @@ apartA = 2 ∷ 3 ∷ 0 ∷ 6 ∷ 10 ∷ 1 ∷ 0 ∷ 1 ∷ []
 abbrev pub apartB : List ℕ
 apartB = 2 ∷ 3 ∷ 1 ∷ 7 ∷ 11 ∷ 1 ∷ 0 ∷ 1 ∷ []
 
--- of four tuples three are reached: both tasks are never busy at once
+-- three of the four tuples are reached: the two tasks are never busy at the same time
 abbrev pub apartBoth : List ℕ
 apartBoth = 3 ∷ 6 ∷ 0 ∷ 1 ∷ 6 ∷ 11 ∷ 14 ∷ 17 ∷ 1 ∷ 2 ∷ 0 ∷ 0 ∷ 1 ∷ 1 ∷ []
 

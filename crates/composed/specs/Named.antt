@@ -1,4 +1,4 @@
--- When the call names a schedule beside its refusal (§10.30): scratch, the net and the number are right, and it is the first that does not pass.
+-- When the call names a schedule with its refusal (§10.30): scratch, the net and the number of schedules are right, and the schedule is the first that does not pass.
 use Prim.Native.Nat.{ℕ, _≤_, _<_}
 use mathlib.Core.List.{List}
 use lib.ListN.{length}

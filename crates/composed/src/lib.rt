@@ -4,7 +4,7 @@ ghost use Rattle.composed.specs.Call.{plainCompose};
 use call::Index;
 use refusal::Refusal;
 
-// Its limit and its refusals by number, each with its clause and the trade's word for it.
+// The limit and the refusals of composition, each with its clause and the trade's word for it.
 pub struct Composition {}
 
 impl Composition {

@@ -1,4 +1,4 @@
--- A replay beside the run of its transitions: the checks that 20 stands between, and the first index at which both refuse by it.
+-- A replay compared with the run of its transitions: the checks before and after 20, and the first index at which both refuse by 20.
 use Rattle.scan.proofs.Basics.{ℕ, suc, _<_, arith, _≡_, sym, ap, _∙_, _⊎_, inl, inr, ⊎-elim, _↔_, true, List, [], _∷_, _++_, length, getD, take}
 use Rattle.scan.proofs.Tabulate.{take-tabulate}
 use Rattle.automaton.specs.Automaton.{allows}

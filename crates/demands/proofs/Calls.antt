@@ -1,4 +1,4 @@
--- What the demands use of every call: when it answers 0, what then stands in its output buffers, and that what the buffers held is read by nothing.
+-- What the demands use about every call: when it answers 0, what its output buffers then hold, and that nothing depends on what the buffers held before.
 use Rattle.scan.proofs.Basics.{ℕ, _≤_, _≡_, sym, _∙_, inl, inr, _↔_, List, [], _∷_, _++_, length, getD, take, drop}
 use mathlib.Core.Logic.{Iff·rfl}
 use lib.ListN.{List·getD-append}

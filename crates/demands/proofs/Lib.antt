@@ -1,4 +1,4 @@
--- of every call, and of a check that answered 0
+-- what holds of every call, and of a check that answered 0
 pub mod Calls
 pub mod Checked
 -- the three demands

@@ -1,4 +1,4 @@
--- What is promised of the calls for the small panel, proved: from scratch that suffices, a call's limit does not show.
+-- What is promised of the calls for the small panel, proved: with enough scratch, a call's answer does not depend on its limit.
 use Rattle.scan.proofs.Basics.{ℕ, _≡_, refl, ap, List, [], _∷_, length}
 use mathlib.Core.Logic.{Iff·rfl}
 use Rattle.refusal.specs.Limits.{scratchLimit}

@@ -1,4 +1,4 @@
--- A graph under other numbers of its nodes: the same lists, a schedule where it was one, and words where it had them. And where a renumbering comes from.
+-- A graph whose nodes get other numbers: it allows the same lists, and stays a schedule and a graph that words can describe. And a graph that differs only in its numbers is such a one.
 use Rattle.scan.proofs.Basics.{ℕ, _≤_, _<_, arith, _≡_, refl, sym, ap, _∙_, _↔_, Bool, cond, ltb, eqb, Option, none, some, Option·map, List, [], _∷_, length, getD, length-append}
 use mathlib.Core.Option.{map-eq-some-iff}
 use Rattle.scan.specs.Scan.{found, count, least}

@@ -1,4 +1,4 @@
--- Shortest means shortest, proved: the form of a schedule is the form of all that allow the same lists, and as many nodes leave only their numbers to choose.
+-- Shortest means shortest, proved: schedules that allow the same lists have the same form, and one with as many nodes differs from it only in their numbers.
 use Rattle.scan.proofs.Basics.{ℕ, _≤_, _<_, arith, _≡_, refl, sym, ap, subst, _∙_, _↔_, List, length}
 use Rattle.automaton.specs.Automaton.{Automaton, SameLists}
 use Rattle.refusal.specs.declared.Verdict.the-variants as verdict

@@ -1,4 +1,4 @@
--- The index of the refused schedule that a comparison tells: it follows from the number of the refusal, which is the schedule's or is not.
+-- The index of the refused schedule in a comparison's answer: the number of the refusal says whether it is about a schedule.
 use Rattle.scan.proofs.Basics.{ℕ, _≤_, arith, _≡_, refl, sym, subst, inr, ⊎-elim, Bool, true, false, cond, not, _&&_, List, [], _∷_, _++_, length}
 use mathlib.Core.Logic.{Iff·rfl}
 use Rattle.scan.proofs.Tests.{not-true, and-left, and-right}

@@ -1,5 +1,5 @@
--- What is promised of capacities (§13.13): no place is ever above its own, and words without a key of a capacity are answered as if there were none.
--- proofs/Capacities has a term for the record. When 26 and 27 are answered is said by the lists of checks (`Demand1`).
+-- What is promised of capacities (§13.13): no place is ever above its capacity, and words without a key of a capacity are answered as if capacities did not exist.
+-- proofs/Capacities has a term for the record. The lists of checks (`Demand1`) say when 26 and 27 are answered.
 use Prim.Native.Nat.{ℕ, _<_}
 use mathlib.Core.Path.{_≡_}
 use mathlib.Core.Logic.{_↔_}
@@ -38,9 +38,9 @@ use Rattle.demands.specs.Terms.{said, Accepted}
 -- ---- within capacities
 
 pub record KeptWithin : Type 0 where
-  -- of a net alone: enabled firings, from the initial marking on (§4.6)
+  -- for a net without a schedule: enabled firings from the initial marking on (§4.6)
   pub firings : (net σ : List ℕ) → IsNet net → FiresEnabled (petriNet net) (initial (petriNet net)) σ → StaysWithin (petriNet net) (initial (petriNet net)) σ
-  -- of an accepted schedule: each list that it allows, each node, and each word that place bounds writes
+  -- for an accepted schedule: each list that it allows, each node, and each word that place bounds writes
   pub lists : (net sheet σ : List ℕ) → Accepted net sheet → allows (said net sheet) 0 σ ≡ true → StaysWithin (petriNet net) (initial (petriNet net)) σ
   pub nodes : (net sheet : List ℕ) → Accepted net sheet → (n : ℕ) → n < said net sheet .nodes → WithinCapacities (petriNet net) (said net sheet .label n)
   pub bounds : (net sheet out s out′ s′ : List ℕ) (v : Verdict) → BoundsDone net sheet out s v out′ s′ → number (plainOf v) ≡ 0
@@ -49,7 +49,7 @@ pub record KeptWithin : Type 0 where
 -- ---- enabling
 
 pub record Enabling : Type 0 where
-  -- what is enabled takes no more than there is, and that is all where no place into which it puts has a capacity (§4.6)
+  -- an enabled transition takes no more than there is; if no place into which it puts has a capacity, nothing else is asked (§4.6)
   pub taking : (N : PetriNet) (marking : List ℕ) (t : ℕ) → Enabled N marking t → HoldsTaken N marking t
   pub unlimited : (N : PetriNet) (marking : List ℕ) (t : ℕ) → ((p : ℕ) → p < N .places → 0 < N .put t p → N .capacity p ≡ none)
       → Enabled N marking t ↔ HoldsTaken N marking t
@@ -59,18 +59,18 @@ pub record Enabling : Type 0 where
 
 -- ---- words without a key of a capacity, whether or not they are a net
 
--- enabling is the taking alone, and the clauses of 26 and 27 hold
+-- to be enabled, a transition must only take no more than there is; and the clauses of 26 and 27 hold
 pub record AsWithout (net : List ℕ) : Type 0 where
   pub unlimited : (p : ℕ) → petriNet net .capacity p ≡ none
   pub enabled : (marking : List ℕ) (t : ℕ) → Enabled (petriNet net) marking t ↔ HoldsTaken (petriNet net) marking t
   pub starts : (p : ℕ) → Within (capacity net p) (start net p)
   pub arcs : (sheet : List ℕ) (i : ℕ) → ArcHasRoom (petriNet net) sheet i
 
--- an answer of neither number
+-- an answer that is neither 26 nor 27
 abbrev pub Spares : List ℕ → Type 0
 Spares plain = (number plain ≡ 26 → ⊥) × (number plain ≡ 27 → ⊥)
 
--- no call answers by them
+-- no call answers 26 or 27
 pub record NeverBy (net : List ℕ) : Type 0 where
   pub net-check : (v : Verdict) → NetDone net v → Spares (plainOf v)
   pub fresh-walker : (v : Verdict) (w : Walker) → FreshDone net v w → Spares (plainOf v)

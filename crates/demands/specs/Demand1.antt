@@ -1,5 +1,5 @@
 -- Demand 1 (§13.1): every call replies, whatever it is handed and whatever was called before; it answers or refuses by the numbers, and a refusal changes
--- nothing but scratch. That each call ends is part of its proof in the language, and none has a `requires`. proofs/Demand1 has a term for this record.
+-- nothing but scratch. The proof of each function shows that it ends, and no call has a `requires`. proofs/Demand1 has a term for this record.
 use Prim.Native.Nat.{ℕ, _≤_}
 use mathlib.Core.Path.{_≡_}
 use mathlib.Core.Logic.{_⊎_}
@@ -21,7 +21,7 @@ use Rattle.schedule.specs.declared.Walker.{Walker}
 use Rattle.minimal.specs.Form.{plainForm, FormDone}
 use Rattle.demands.specs.Terms.{allChecks}
 
--- what an output buffer and scratch held is read by nothing: the answers are one, and each word left is the same or is as it was in both (§13.5)
+-- nothing depends on what an output buffer and scratch held: two answers are equal, and each word of the buffer is afterwards the same in both or as it was in both (§13.5)
 abbrev pub Unread : {Answer : Type 0} → (List ℕ → List ℕ → Answer → List ℕ → List ℕ → Type 0) → Type 0
 Unread {Answer} Done = (o₁ o₂ s₁ s₂ o₁′ o₂′ s₁′ s₂′ : List ℕ) (a₁ a₂ : Answer) → length o₁ ≡ length o₂ → length s₁ ≡ length s₂
     → Done o₁ s₁ a₁ o₁′ s₁′ → Done o₂ s₂ a₂ o₂′ s₂′
@@ -39,10 +39,10 @@ pub record Demand1 : Type 0 where
       → EveryCall scratchLimit plainFire 1 (allChecks net sheet (walkerChecks (petriNet net) sheet w t)) w (λ s a next s′. FireDone net sheet s w t a next s′)
   pub run : (net sheet firings out : List ℕ)
       → EveryCall scratchLimit plainRun 3 (allChecks net sheet (runChecks (petriNet net) sheet firings ++ (once (petriNet net .places ≤ length out) 22 ∷ []))) out (RunDone net sheet firings out)
-  -- how many words the minimal form needs is said by demand 3 (§11.7)
+  -- demand 3 says how many words the minimal form needs (§11.7)
   pub minimal-form : (net sheet : List ℕ) → (needed : ℕ)
       × ((out : List ℕ) → EveryCall scratchLimit plainForm 1 (allChecks net sheet (once (needed ≤ length out) 22 ∷ [])) out (FormDone net sheet out))
-  -- ---- and what none of them reads
+  -- ---- and none depends on what the buffers held
   pub bounds-unread : (net sheet : List ℕ) → Unread (BoundsDone net sheet)
   pub run-unread : (net sheet firings : List ℕ) → Unread (RunDone net sheet firings)
   pub form-unread : (net sheet : List ℕ) → Unread (FormDone net sheet)

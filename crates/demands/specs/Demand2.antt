@@ -1,4 +1,4 @@
--- Demand 2 (§13.2, §13.3): what is accepted, what is named where it is not, what is counted and fired, and what holds of all runs of an accepted schedule.
+-- Demand 2 (§13.2, §13.3): which schedules are accepted, what is named if one is not, what is counted and fired, and what holds of all runs of an accepted one.
 -- proofs/Demand2 has a term for this record.
 use Prim.Native.Nat.{ℕ, suc, _*_, _/_, _%_, _≤_, _<_}
 use mathlib.Core.Path.{_≡_}
@@ -30,32 +30,32 @@ use Rattle.schedule.specs.declared.FireAnswer.{FireAnswer}
 use Rattle.schedule.specs.declared.RunAnswer.{RunAnswer}
 use Rattle.demands.specs.Terms.{said, allChecks, Accepted}
 
--- k of the numbers 0, 1, .., n - 1 are such
+-- k of the numbers 0, 1, .., n - 1 have the property
 pub data HowMany (Such : ℕ → Type 0) : ℕ → ℕ → Type 0 where
   none-yet : HowMany Such 0 0
   one-more : (n k : ℕ) → HowMany Such n k → Such n → HowMany Such (suc n) (suc k)
   no-more : (n k : ℕ) → HowMany Such n k → (Such n → ⊥) → HowMany Such (suc n) k
 
--- the nodes, the arcs, of which each is known by its key, and the await nodes: §10.3
+-- the numbers of nodes, of arcs, each of which is known by its key, and of await nodes: §10.3
 pub record Counted (N : PetriNet) (A : Automaton) (nodes arcs awaits : ℕ) : Type 0 where
   pub all-nodes : nodes ≡ A .nodes
   pub all-arcs : HowMany (λ key. Offers N A (key / N .transitions) (key % N .transitions)) (A .nodes * N .transitions) arcs
   pub all-awaits : HowMany (Await N A) (A .nodes) awaits
 
--- the words at the front of a buffer: at each place the least number that no run exceeds there; past them the buffer is as it was: §10.4, §9.4
+-- the words at the front of a buffer are, for each place, the least number that no run exceeds there; the words behind them are as they were: §10.4, §9.4
 pub record LeastBounds (N : PetriNet) (A : Automaton) (out out′ : List ℕ) : Type 0 where
   pub least : (p : ℕ) → p < N .places → LeastBound N A p (getD out′ p 0)
   pub past : (i : ℕ) → N .places ≤ i → getD out′ i 0 ≡ getD out i 0
   pub length-kept : length out′ ≡ length out
 
--- a firing follows an arc, of a transition that is enabled; the counts are those that firing gives, and the next firing passes by all that is offered: §10.7
+-- a firing follows an arc by an enabled transition; the counts are those that firing gives, and from the new walker every transition offered can be fired: §10.7
 pub record FiresRight (N : PetriNet) (sheet : List ℕ) (A : Automaton) (w : Walker) (t : ℕ) (next : Walker) : Type 0 where
   pub arc : A .arc (w .node) t ≡ some (next .node)
   pub enabled : Enabled N (w .counts) t
   pub stands : Stands N next (next .node) (firedCount N (w .counts) t)
   pub passes : (u : ℕ) → Offers N A (next .node) u → AllPass (walkerChecks N sheet next u)
 
--- a run fires all of its record, each where it is enabled, to the node that it tells, whose counts it writes: §10.8
+-- a run fires its whole record, each transition where it is enabled, and ends at the node that it tells, whose counts it writes: §10.8
 pub record RanAll (N : PetriNet) (A : Automaton) (firings out : List ℕ) (fired node : ℕ) (out′ : List ℕ) : Type 0 where
   pub all : fired ≡ length firings
   pub ends : follow A 0 firings ≡ some node
@@ -64,10 +64,10 @@ pub record RanAll (N : PetriNet) (A : Automaton) (firings out : List ℕ) (fired
   pub written : out′ ≡ A .label node ++ drop (N .places) out
 
 pub record Demand2 : Type 0 where
-  -- accepted exactly when scratch suffices, the net is one, the words pass and the graph that they say is a schedule: §13.2, §6.1
+  -- accepted exactly if there is enough scratch, the words of the net are right, and those of the schedule are right and describe a sequential schedule: §13.2, §6.1
   pub accepts : (net sheet s s′ : List ℕ) (a : CheckAnswer) → CheckDone net sheet s a s′
       → (number (plainCheck a) ≡ 0) ↔ ((scratchLimit ≤ length s) × IsNet net × WordsPass (petriNet net) sheet × IsSchedule (petriNet net) (said net sheet))
-  -- a schedule in the published sense, with no node besides those that it reaches: §6.12
+  -- an accepted schedule is one in the published sense, and all its nodes are reached: §6.12
   pub published : (net sheet s s′ : List ℕ) (a : CheckAnswer) → CheckDone net sheet s a s′ → scratchLimit ≤ length s → IsNet net → WordsPass (petriNet net) sheet
       → (number (plainCheck a) ≡ 0) ↔ (SequentialSchedule (petriNet net) (said net sheet) × ((n : ℕ) → n < said net sheet .nodes → Reachable (said net sheet) n))
   -- otherwise the first check that fails is named: §7.54
@@ -85,6 +85,6 @@ pub record Demand2 : Type 0 where
   pub enabled : (net sheet σ : List ℕ) → Accepted net sheet → allows (said net sheet) 0 σ ≡ true → FiresEnabled (petriNet net) (initial (petriNet net)) σ
   pub goes-on : (net sheet σ : List ℕ) → Accepted net sheet → allows (said net sheet) 0 σ ≡ true → (t : ℕ) × (allows (said net sheet) 0 (σ ++ (t ∷ [])) ≡ true)
   pub returns : (net sheet : List ℕ) → Accepted net sheet → (n : ℕ) → n < said net sheet .nodes → ToAwait (petriNet net) (said net sheet) n
-  -- each word that place bounds writes is the least that all runs keep: §10.4, §13.3
+  -- each word that place bounds writes is the least bound that all runs keep: §10.4, §13.3
   pub bounds : (net sheet out s out′ s′ : List ℕ) (v : Verdict) → BoundsDone net sheet out s v out′ s′ → number (plainOf v) ≡ 0
       → LeastBounds (petriNet net) (said net sheet) out out′

@@ -17,7 +17,7 @@ use Rattle.minimal.specs.Form.{plainForm, FormWithinDone}
 use Rattle.minimal.specs.declared.FormAnswer.{FormAnswer}
 use Rattle.demands.specs.Terms.{said, Accepted}
 
--- `form` is an accepted schedule that says what merging (§11.3) and numbering (§11.5) give
+-- `form` is an accepted schedule whose graph is what merging (§11.3) and numbering (§11.5) give
 pub record Merges (net sheet form : List ℕ) : Type 0 where
   pub accepted : Accepted net form
   pub merged : (newNumber : ℕ → ℕ) × Quotient (said net sheet) (said net form) newNumber
@@ -39,7 +39,7 @@ pub record Form (net sheet : List ℕ) : Type 0 where
   pub done : FormWithinDone limit net sheet out scratch answer out′ scratch′
   pub zero : number (plainForm answer) ≡ 0
 
--- the length that it answered, and so many words of its buffer: §11.7
+-- the length that the call answered, and that many words of its buffer: §11.7
 abbrev pub size : {net sheet : List ℕ} → Form net sheet → ℕ
 size c = own (plainForm (c .answer)) 0
 
@@ -50,14 +50,14 @@ pub record Demand3 : Type 0 where
   -- two are equal, word for word, exactly when every list is allowed from both roots or from neither: §11.8, §11.9
   pub equal : (net x y : List ℕ) → Accepted net x → Accepted net y → (a : Form net x) (b : Form net y)
       → (made a ≡ made b) ↔ SameLists (said net x) (said net y) 0 0
-  -- each is the one schedule that merging and numbering give: §11.3, §11.5, §11.6
+  -- each form is the one schedule that merging and numbering give: §11.3, §11.5, §11.6
   pub the-form : (net sheet : List ℕ) → Accepted net sheet → (c : Form net sheet) (form : List ℕ) → (form ≡ made c) ↔ Merges net sheet form
   -- it is accepted, and allows the lists that its original allows: §11.9
   pub accepted : (net sheet : List ℕ) → Accepted net sheet → (c : Form net sheet) → AlwaysAccepted net (made c)
   pub same-lists : (net sheet : List ℕ) → Accepted net sheet → (c : Form net sheet) → SameLists (said net (made c)) (said net sheet) 0 0
-  -- its words all lie in the buffer, and what follows them there is as it was: §9.4
+  -- its words lie whole in the buffer, and the words behind them are as they were: §9.4
   pub within : (net sheet : List ℕ) → Accepted net sheet → (c : Form net sheet) → (size c ≤ length (c .out)) × (c .out′ ≡ made c ++ drop (size c) (c .out))
-  -- with scratch enough the call answers 0 exactly when the buffer holds the form, as 2 + 2 × 4,096 words do: there is such a call (§11.7)
+  -- with enough scratch the call answers 0 exactly if the buffer is long enough for the form; 2 + 2 × 4,096 words always are, so there is such a call (§11.7)
   pub answers : (limit : ℕ) (net sheet out scratch out′ scratch′ : List ℕ) (answer : FormAnswer) → Accepted net sheet → limit ≤ length scratch
       → FormWithinDone limit net sheet out scratch answer out′ scratch′
       → (number (plainForm answer) ≡ 0) ↔ ((form : List ℕ) → Merges net sheet form → length form ≤ length out)

@@ -11,7 +11,7 @@ use Rattle.minimal.specs.Form.{plainForm, FormDone}
 use Rattle.minimal.specs.declared.FormAnswer.{FormAnswer}
 use Rattle.call.specs.Demands.{own}
 
--- the check's answer as plain numbers, and the words of the minimal form, none where it is refused
+-- a net, a schedule, the check's answer as plain numbers, and the words of the minimal form, none if the schedule is refused
 pub record Row : Type 0 where
   pub net : List ℕ
   pub sheet : List ℕ
@@ -68,8 +68,8 @@ Starred = AllHold starred
 abbrev pub netArbitrated : List ℕ
 netArbitrated = 1 ∷ 4 ∷ 4 ∷ 1 ∷ 2 ∷ 3 ∷ 4 ∷ 1 ∷ 1 ∷ 2 ∷ 1 ∷ []
 
--- §14.1, with two places, so that a count key is told from its like by place, and the same with a wrong last word; a key at the limit of §3.4; and §14.7, where
--- node 1 offers 1 and 2, and where it offers 1 alone
+-- §14.1, which has two places, so that keys of counts differ by place, and the same with a wrong last word; a key at the limit of §3.4; and §14.7, with a node 1 that
+-- offers 1 and 2, and with one that offers only 1
 abbrev pub further : List Row
 further =
     row (2 ∷ 3 ∷ 4 ∷ 2 ∷ 5 ∷ 6 ∷ 9 ∷ 1 ∷ 2 ∷ 1 ∷ 2 ∷ []) (3 ∷ 5 ∷ 0 ∷ 4 ∷ 8 ∷ 11 ∷ 14 ∷ 1 ∷ 2 ∷ 0 ∷ 1 ∷ 2 ∷ []) (0 ∷ 0 ∷ 0 ∷ 3 ∷ 3 ∷ 1 ∷ []) (3 ∷ 5 ∷ 0 ∷ 4 ∷ 8 ∷ 11 ∷ 14 ∷ 1 ∷ 2 ∷ 0 ∷ 1 ∷ 2 ∷ [])
@@ -87,20 +87,20 @@ abbrev pub capped : List Row
 capped =
     -- a place filled to its capacity and drained
     row (1 ∷ 2 ∷ 3 ∷ 1 ∷ 2 ∷ 5 ∷ 1 ∷ 1 ∷ 1 ∷ []) (2 ∷ 3 ∷ 0 ∷ 3 ∷ 5 ∷ 1 ∷ 0 ∷ 1 ∷ []) (0 ∷ 0 ∷ 0 ∷ 2 ∷ 2 ∷ 1 ∷ []) (2 ∷ 3 ∷ 0 ∷ 3 ∷ 5 ∷ 1 ∷ 0 ∷ 1 ∷ [])
-    -- twice as much is put, to a target that holds it, and to one that does not: 27 comes before 15
+    -- twice the capacity is put, with a target that has this count and with one that has not: 27 comes before 15
     ∷ row (1 ∷ 2 ∷ 3 ∷ 1 ∷ 2 ∷ 5 ∷ 1 ∷ 2 ∷ 1 ∷ []) (2 ∷ 3 ∷ 0 ∷ 3 ∷ 5 ∷ 1 ∷ 0 ∷ 2 ∷ []) (27 ∷ 1 ∷ 0 ∷ 0 ∷ 0 ∷ 0 ∷ []) []
     ∷ row (1 ∷ 2 ∷ 3 ∷ 1 ∷ 2 ∷ 5 ∷ 1 ∷ 2 ∷ 1 ∷ []) (2 ∷ 3 ∷ 0 ∷ 3 ∷ 5 ∷ 1 ∷ 0 ∷ 1 ∷ []) (27 ∷ 1 ∷ 0 ∷ 0 ∷ 0 ∷ 0 ∷ []) []
     -- more is taken than there is, and more is put than there is room for: 14 comes before 27
     ∷ row (1 ∷ 2 ∷ 4 ∷ 1 ∷ 2 ∷ 3 ∷ 5 ∷ 2 ∷ 1 ∷ 3 ∷ 3 ∷ []) (2 ∷ 3 ∷ 0 ∷ 3 ∷ 5 ∷ 1 ∷ 0 ∷ 1 ∷ []) (14 ∷ 1 ∷ 1 ∷ 0 ∷ 0 ∷ 0 ∷ []) []
-    -- one is taken from a full place and put back: nothing is deducted; with room for one more it is only a loop
+    -- 1 is taken from a full place and put back, which is refused, since nothing is deducted; with room for one more it is only a loop
     ∷ row (1 ∷ 2 ∷ 4 ∷ 1 ∷ 2 ∷ 3 ∷ 5 ∷ 1 ∷ 1 ∷ 1 ∷ 1 ∷ []) (2 ∷ 3 ∷ 0 ∷ 3 ∷ 5 ∷ 1 ∷ 1 ∷ 1 ∷ []) (27 ∷ 1 ∷ 1 ∷ 0 ∷ 0 ∷ 0 ∷ []) []
     ∷ row (1 ∷ 2 ∷ 4 ∷ 1 ∷ 2 ∷ 3 ∷ 5 ∷ 1 ∷ 1 ∷ 1 ∷ 2 ∷ []) (2 ∷ 3 ∷ 0 ∷ 3 ∷ 5 ∷ 1 ∷ 1 ∷ 1 ∷ []) (17 ∷ 3 ∷ 1 ∷ 0 ∷ 0 ∷ 0 ∷ []) []
-    -- a node above the capacity, whose arc puts nothing there: nothing is asked of it, and it is only not reached
+    -- a node whose count is above the capacity and whose arc puts nothing there: that is no fault, but the node is not reached
     ∷ row (1 ∷ 2 ∷ 3 ∷ 1 ∷ 2 ∷ 5 ∷ 1 ∷ 1 ∷ 1 ∷ []) (3 ∷ 5 ∷ 0 ∷ 3 ∷ 5 ∷ 7 ∷ 8 ∷ 1 ∷ 0 ∷ 1 ∷ 1 ∷ 2 ∷ []) (16 ∷ 3 ∷ 2 ∷ 0 ∷ 0 ∷ 0 ∷ []) []
-    -- a start above its capacity, and at it, where the source has no room
+    -- a start above the capacity; and a start at the capacity, so that the source has no room
     ∷ row (1 ∷ 2 ∷ 4 ∷ 1 ∷ 2 ∷ 4 ∷ 5 ∷ 1 ∷ 1 ∷ 2 ∷ 1 ∷ []) (1 ∷ 2 ∷ 0 ∷ 2 ∷ 0 ∷ 2 ∷ []) (26 ∷ 2 ∷ 0 ∷ 0 ∷ 0 ∷ 0 ∷ []) []
     ∷ row (1 ∷ 2 ∷ 4 ∷ 1 ∷ 2 ∷ 4 ∷ 5 ∷ 1 ∷ 1 ∷ 1 ∷ 1 ∷ []) (1 ∷ 2 ∷ 0 ∷ 2 ∷ 0 ∷ 1 ∷ []) (27 ∷ 1 ∷ 0 ∷ 0 ∷ 0 ∷ 0 ∷ []) []
-    -- of one choice set, one member has room and one has not
+    -- one member of a choice set has room, and another has not
     ∷ row (1 ∷ 3 ∷ 5 ∷ 1 ∷ 2 ∷ 3 ∷ 5 ∷ 7 ∷ 1 ∷ 1 ∷ 1 ∷ 1 ∷ 1 ∷ []) (2 ∷ 4 ∷ 0 ∷ 4 ∷ 5 ∷ 7 ∷ 1 ∷ 0 ∷ 1 ∷ 1 ∷ []) (27 ∷ 1 ∷ 2 ∷ 0 ∷ 0 ∷ 0 ∷ []) []
     -- count, put and capacity at the limit
     ∷ row (1 ∷ 1 ∷ 3 ∷ 1 ∷ 2 ∷ 3 ∷ 1000000000 ∷ 1000000000 ∷ 1000000000 ∷ []) (1 ∷ 2 ∷ 0 ∷ 1 ∷ 0 ∷ 1000000000 ∷ []) (27 ∷ 1 ∷ 0 ∷ 0 ∷ 0 ∷ 0 ∷ []) []
@@ -109,7 +109,7 @@ capped =
 abbrev pub CappedRows : Type 0
 CappedRows = AllHold capped
 
--- §14.5: lists alone would leave six nodes
+-- §14.5: merging by lists alone would leave six nodes
 abbrev pub netQ : List ℕ
 netQ = 4 ∷ 6 ∷ 10 ∷ 8 ∷ 10 ∷ 12 ∷ 17 ∷ 18 ∷ 21 ∷ 24 ∷ 29 ∷ 35 ∷ 50 ∷ 1 ∷ 1 ∷ 1 ∷ 1 ∷ 1 ∷ 1 ∷ 1 ∷ 1 ∷ 1 ∷ 1 ∷ []
 

@@ -1,4 +1,4 @@
--- What is promised beside the three demands: of paths, choice sets and runs, of the one encoding, and of minimal forms. proofs/Further has a term for each.
+-- What is promised besides the three demands: of paths, choice sets and runs, of the encoding, and of minimal forms. proofs/Further has a term for each.
 use Prim.Native.Nat.{ℕ, _≤_, _<_}
 use mathlib.Core.Path.{_≡_}
 use mathlib.Core.Logic.{_↔_}
@@ -29,7 +29,7 @@ use Rattle.demands.specs.Demand3.{Form, size, made}
 
 -- ---- schedules
 
--- fewer firings than there are nodes suffice, wherever any do (§6.9): of all words that pass, whether or not they say a schedule
+-- if there is a path, there is one with fewer firings than there are nodes (§6.9); this holds of all words that pass, whether or not they are a schedule
 abbrev pub PathsShorten : Type 0
 PathsShorten = (net sheet : List ℕ) → IsNet net → WordsPass (petriNet net) sheet → (n : ℕ) → n < said net sheet .nodes → ShortWhereAny (petriNet net) (said net sheet) n
 
@@ -40,7 +40,7 @@ pub record Partition (N : PetriNet) : Type 0 where
   pub transitive : (t u v : ℕ) → SameChoice N t u → SameChoice N u v → SameChoice N t v
   pub source : (t : ℕ) × (t < N .transitions) × Source N t
   pub sources : (t u : ℕ) → Source N t → SameChoice N t u ↔ Source N u
-  -- members take the same, a set that is not alone has whatever draws on a place of its own, and where those that take the same are not closed each stands alone: §5.1
+  -- members take the same; a set with two members has every transition that draws on a place of its members; if those that take the same are not closed, each is a set by itself: §5.1
   pub alike : (t u : ℕ) → SameChoice N t u → TakesSame N t u
   pub closed : (t u v : ℕ) → SameChoice N t u → (t ≡ u → ⊥) → v < N .transitions → SharesPlace N t v → SameChoice N t v
   pub alone : (t u : ℕ) → (FreeChoice N t → ⊥) → SameChoice N t u → t ≡ u
@@ -54,23 +54,23 @@ ChoicePartition = (net : List ℕ) → IsNet net → Partition (petriNet net)
 pub record FreeChoiceSets (N : PetriNet) : Type 0 where
   pub exactly : (C : ℕ → Bool) → FreeChoiceSet N C ↔ ((t : ℕ) × (t < N .transitions) × ChoiceSetOf N t C)
   pub together : (t u : ℕ) → t < N .transitions → u < N .transitions → SameChoice N t u ↔ InFCS N t u
-  -- source document 001, Proposition 1: none is empty, each transition is in one, and two that have a member in common are the same
+  -- source document 001, Proposition 1: no set is empty, each transition is in one, and two sets with a common member are the same
   pub some : (C : ℕ → Bool) → FreeChoiceSet N C → (t : ℕ) × Member N C t
   pub covers : (t : ℕ) → t < N .transitions → InFCS N t t
   pub apart : (C D : ℕ → Bool) → FreeChoiceSet N C → FreeChoiceSet N D → (t : ℕ) → Member N C t → Member N D t → (u : ℕ) → u < N .transitions → C u ≡ D u
-  -- and the sources are one
+  -- the sources are one of these sets
   pub sources : (C : ℕ → Bool) → ((t : ℕ) → t < N .transitions → (C t ≡ true) ↔ Source N t) → FreeChoiceSet N C
 
 abbrev pub PublishedChoiceSets : Type 0
 PublishedChoiceSets = (net : List ℕ) → IsNet net → FreeChoiceSets (petriNet net)
 
--- every run goes on by the members of one choice set, and by nothing else: §13.3
+-- every run can be continued by each member of one choice set, and by nothing else: §13.3
 abbrev pub NeverStuck : Type 0
 NeverStuck = (net sheet σ : List ℕ) → Accepted net sheet → allows (said net sheet) 0 σ ≡ true → GoesOn (petriNet net) (said net sheet) σ
 
 -- ---- a run is one firing after the other
 
--- a fresh walker fires, on every accepted schedule, whatever the root offers: it passes 18 and 19, as those do that a firing hands back (`FiresRight`)
+-- on every accepted schedule a fresh walker can fire whatever the root offers: it passes 18 and 19. So does each walker that a firing hands back (`FiresRight`)
 abbrev pub FreshPasses : Type 0
 FreshPasses = (net sheet : List ℕ) (v : Verdict) (w : Walker) (t : ℕ) → Accepted net sheet → FreshDone net v w → Offers (petriNet net) (said net sheet) 0 t
     → AllPass (walkerChecks (petriNet net) sheet w t)
@@ -80,7 +80,7 @@ pub data Firings (net sheet : List ℕ) : Walker → List ℕ → Walker → Typ
   none-fired : (w : Walker) → Firings net sheet w [] w
   one-fired : (w x y : Walker) (t e : ℕ) (σ s s′ : List ℕ) → FireDone net sheet s w t (Done e) x s′ → Firings net sheet x σ y → Firings net sheet w (t ∷ σ) y
 
--- from a fresh walker: a run answers 0 exactly where they do, and ends where they end, with the counts that they hand back
+-- a run answers 0 exactly if single firings from a fresh walker do; it ends at the same node, with the counts of the last walker
 pub record Folds (net sheet firings out s : List ℕ) (a : RunAnswer) (out′ : List ℕ) (w : Walker) : Type 0 where
   pub exactly : scratchLimit ≤ length s → petriNet net .places ≤ length out → (number (plainRun a) ≡ 0) ↔ ((y : Walker) × Firings net sheet w firings y)
   pub node : (y : Walker) → number (plainRun a) ≡ 0 → Firings net sheet w firings y → y .node ≡ own (plainRun a) 1
@@ -92,7 +92,7 @@ RunFolds = (net sheet firings out s out′ s′ : List ℕ) (a : RunAnswer) (v :
 
 -- ---- words and graphs
 
--- encoding and decoding are inverse, between the words that pass 6 to 9 and the graphs that words can say: §11.6
+-- encoding and decoding are inverse, between the words that pass 6 to 9 and the graphs that such words can describe: §11.6
 pub record Inverse (N : PetriNet) : Type 0 where
   pub decodes : (sheet : List ℕ) → WordsPass N sheet → Encodable N (graph N sheet)
   pub encodes : (A : Automaton) → Encodable N A → WordsPass N (encode N A)
@@ -104,7 +104,7 @@ OneEncoding = (net : List ℕ) → IsNet net → Inverse (petriNet net)
 
 -- ---- minimal forms
 
--- it is no longer than what it was made from
+-- the minimal form is no longer than the schedule from which it was made
 abbrev pub FormNoLonger : Type 0
 FormNoLonger = (net sheet : List ℕ) → Accepted net sheet → (c : Form net sheet) → size c ≤ length sheet
 

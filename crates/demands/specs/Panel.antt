@@ -28,15 +28,15 @@ use Rattle.demands.specs.Terms.{Accepted}
 
 -- ---- the same from less scratch
 
--- A panel's call and the other, by their postconditions: of scratch before, the answer, what the call may change, and scratch after. From scratch that
--- passes in both, the answer is one and so is what is left.
+-- A panel's call and the other one, given by their postconditions: on the scratch before, the answer, what the call may change, and the scratch after. If each has
+-- enough scratch, they give the same answer and leave the same.
 abbrev pub SameOnPanel : {Answer Left : Type 0} → (List ℕ → Answer → Left → List ℕ → Type 0) → (List ℕ → Answer → Left → List ℕ → Type 0) → Type 0
 SameOnPanel {Answer} {Left} Panel Other = (s t s′ t′ : List ℕ) (a b : Answer) (left right : Left) → panelLimit ≤ length s → scratchLimit ≤ length t
     → Panel s a left s′ → Other t b right t′ → (a ≡ b) × (left ≡ right)
 
--- ---- each by its checks
+-- ---- the checks of each call
 
--- all that a panel's call checks, but for mending: 1,024 words of scratch, and then what the other call checks
+-- all that a panel's call checks, other than mending: 1,024 words of scratch, and then what the other call checks
 abbrev pub panelChecks : List ℕ → List ℕ → List Check → List ℕ → List Check
 panelChecks net sheet besides scratch = callChecks panelLimit scratch ((netChecks net ++ sheetChecks (petriNet net) sheet) ++ besides)
 
@@ -70,7 +70,7 @@ pub record PanelDemand : Type 0 where
   pub mend : (net sheet out list : List ℕ)
       → SameOnPanel {Left = List ℕ × List ℕ} (λ s a left s′. PanelMendDone net sheet out list s a (left .0) (left .1) s′)
       (λ s a left s′. MendDone net sheet out list s a (left .0) (left .1) s′)
-  -- as every call (§13.1), with 1,024 for 8,192: 21 exactly below that, and scratch cleared so far
+  -- each does what every call does (§13.1), with 1,024 in place of 8,192: fewer words are refused by 21, and so many words are cleared
   pub every-check : (net sheet : List ℕ) → EveryCall {Left = Unit} panelLimit plainCheck 3 (panelChecks net sheet []) tt (λ s a left s′. PanelCheckDone net sheet s a s′)
   pub every-bounds : (net sheet out : List ℕ)
       → EveryCall panelLimit plainOf 0 (panelChecks net sheet (once (petriNet net .places ≤ length out) 22 ∷ [])) out (PanelBoundsDone net sheet out)

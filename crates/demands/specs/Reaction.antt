@@ -1,4 +1,4 @@
--- What is promised of reaction times (request #112): of anything that meets the call's postcondition. proofs/Reaction has a term for the record.
+-- What is promised of reaction times (request #112), for anything that meets the call's postcondition. proofs/Reaction has a term for the record.
 use Prim.Native.Nat.{ℕ, _*_, _≤_, _<_}
 use mathlib.Core.Path.{_≡_}
 use mathlib.Core.Logic.{_↔_}
@@ -32,7 +32,7 @@ use Rattle.demands.specs.Demand1.{Unread}
 abbrev pub pairWords : List ℕ → List ℕ → ℕ
 pairWords net sheet = 2 * (awaitCount (petriNet net) sheet * count (isSource (petriNet net)) (petriNet net .transitions))
 
--- all that is asked
+-- all that the call checks
 pub record Reportable (net sheet durations out scratch : List ℕ) : Type 0 where
   pub scratch-holds : scratchLimit ≤ length scratch
   pub net-passes : IsNet net
@@ -42,7 +42,7 @@ pub record Reportable (net sheet durations out scratch : List ℕ) : Type 0 wher
   pub ends : NoLoop (sheetGraph net sheet) (sheetAwait net sheet)
   pub out-holds : pairWords net sheet ≤ length out
 
--- a call that answered 0; the buffers lent held anything
+-- a call that answered 0, whatever the buffers lent held before
 pub record Reporting (net sheet durations : List ℕ) : Type 0 where
   pub out : List ℕ
   pub scratch : List ℕ
@@ -52,7 +52,7 @@ pub record Reporting (net sheet durations : List ℕ) : Type 0 where
   pub done : ReactionDone net sheet durations out scratch answer out′ scratch′
   pub zero : number (plainReaction answer) ≡ 0
 
--- the length that it answered, and so many words of the buffer
+-- the length that the call answered, and that many words of the buffer
 abbrev pub reportSize : {net sheet durations : List ℕ} → Reporting net sheet durations → ℕ
 reportSize c = own (plainReaction (c .answer)) 0
 
@@ -66,7 +66,7 @@ pub record Stimulus (net sheet : List ℕ) (a t : ℕ) : Type 0 where
   pub transition : t < petriNet net .transitions
   pub source : Source (petriNet net) t
 
--- as every call, by its checks: scratch, the net, the schedule, 32, 33, and room for the report
+-- it does what every call does, by its checks: scratch, the net, the schedule, 32, 33, and room for the report
 abbrev pub EveryReaction : List ℕ → List ℕ → List ℕ → List ℕ → Type 0
 EveryReaction net sheet durations out =
     EveryCall scratchLimit plainReaction 1 (allChecks net sheet (reactionChecks (petriNet net) sheet durations ++ (once (pairWords net sheet ≤ length out) 22 ∷ []))) out
@@ -74,33 +74,33 @@ EveryReaction net sheet durations out =
 
 pub record ReactionDemand : Type 0 where
   pub every : (net sheet durations out : List ℕ) → EveryReaction net sheet durations out
-  -- what the buffer and scratch held is read by nothing: §13.5
+  -- nothing depends on what the buffer and scratch held: §13.5
   pub unread : (net sheet durations : List ℕ) → Unread (ReactionDone net sheet durations)
-  -- answered exactly when all that is asked holds
+  -- the answer is 0 exactly if all checks pass
   pub answers : (net sheet durations out s out′ s′ : List ℕ) (a : ReactionAnswer) → ReactionDone net sheet durations out s a out′ s′
       → (number (plainReaction a) ≡ 0) ↔ Reportable net sheet durations out s
-  -- the nodes that the times go by are the await nodes: §5.4
+  -- the test by which the times are worked out tells the await nodes: §5.4
   pub awaits : (net sheet : List ℕ) (n : ℕ) → (sheetAwait net sheet n ≡ true) ↔ Await (petriNet net) (said net sheet) n
   -- best and worst of every node: they solve their equations, bound every run to the next await node, and are attained
   pub nodes : (net sheet durations : List ℕ) (c : Reporting net sheet durations) (n : ℕ) → n < nodeCount sheet → NodeTimes net sheet durations n
-  -- and nothing else solves them
+  -- no other values solve the equations
   pub best-alone : (net sheet durations : List ℕ) (c : Reporting net sheet durations) (v : ℕ → ℕ)
       → ((n : ℕ) → n < nodeCount sheet → Solves (sheetGraph net sheet) (sheetAwait net sheet) (early durations) AtMost v n)
       → (n : ℕ) → n < nodeCount sheet → v n ≡ bestTime net sheet durations n
   pub worst-alone : (net sheet durations : List ℕ) (c : Reporting net sheet durations) (v : ℕ → ℕ)
       → ((n : ℕ) → n < nodeCount sheet → Solves (sheetGraph net sheet) (sheetAwait net sheet) (late durations) AtLeast v n)
       → (n : ℕ) → n < nodeCount sheet → v n ≡ worstTime net sheet durations n
-  -- of every await node and source: the extremes over all reactions, and the two words where they are reported
+  -- for every await node and source: the least and the greatest time of all reactions, and the two words that report them
   pub reactions : (net sheet durations : List ℕ) (c : Reporting net sheet durations) (a t : ℕ) → Stimulus net sheet a t → ReactionTimes net sheet durations (reportedBy c) a t
-  -- some runs from the root attain them
+  -- some runs from the root attain these times
   pub attained : (net sheet durations : List ℕ) (c : Reporting net sheet durations) (a t : ℕ) → Stimulus net sheet a t → RunsAttain net sheet durations a t
-  -- every reaction is short
+  -- after its source a reaction has fewer firings than there are nodes
   pub short : (net sheet durations : List ℕ) (c : Reporting net sheet durations) (a t : ℕ) (σ : List ℕ) (next : ℕ) → a < nodeCount sheet
       → Reaction (sheetGraph net sheet) (sheetAwait net sheet) a t σ next → FewFirings net sheet σ
-  -- from a node on a loop that meets no await node, no number of firings is enough
+  -- from a node on a loop that meets no await node, runs to the next await node can be arbitrarily long
   pub endless : (net sheet : List ℕ) → Accepted net sheet → (n : ℕ) → n < nodeCount sheet → BusyLoop (sheetGraph net sheet) (sheetAwait net sheet) n
       → (k : ℕ) → (σ : List ℕ) × (next : ℕ) × BusyRun (sheetGraph net sheet) (sheetAwait net sheet) n σ next × (sheetAwait net sheet next ≡ true) × (k ≤ length σ)
-  -- the length, within 8,192 words whatever the sizes; it lies in the buffer, and what follows it there is as it was: §9.4
+  -- the length, which is never above 8,192 words; the report lies whole in the buffer, and the words behind it are as they were: §9.4
   pub sized : (net sheet durations : List ℕ) (c : Reporting net sheet durations) → (reportSize c ≡ pairWords net sheet) × (reportSize c ≤ 8192)
   pub within : (net sheet durations : List ℕ) (c : Reporting net sheet durations)
       → (c .out′ ≡ reportedBy c ++ drop (reportSize c) (c .out)) × (reportSize c ≤ length (c .out)) × (length (reportedBy c) ≡ reportSize c)

@@ -1,4 +1,4 @@
--- What is promised of the public functions that read a schedule and borrow no scratch (§9.1, §13.1): the cores of the calls, and the checks that stand alone.
+-- What is promised of the public functions that read a schedule and borrow no scratch (§9.1, §13.1): the cores of the calls, and the checks that are no call.
 -- proofs/Reading has a term for the record.
 use Prim.Native.Nat.{ℕ, _≤_}
 use mathlib.Core.Path.{_≡_}
@@ -38,16 +38,16 @@ use Rattle.reaction.specs.Checks.{reactionChecks}
 use Rattle.reaction.specs.Call.{plainReaction, ReactionWritten}
 use Rattle.demands.specs.Reaction.{pairWords}
 
--- a check that stands alone: it changes nothing
+-- a check that stands alone; it changes nothing
 abbrev pub EveryVerdict : List Check → Verdict → Type 0
 EveryVerdict checks reply = EveryReading {Left = Unit} plainOf 0 checks tt (λ v left. v ≡ reply)
 
--- both lengths of two forms: §8.1
+-- the answer for two forms as plain numbers, with both lengths: §8.1
 abbrev pub plainForms : FormsAnswer → List ℕ
 plainForms (Written l) = 0 ∷ 0 ∷ 0 ∷ l .first ∷ l .second ∷ []
 plainForms (Refused r) = told r 2
 
--- the checks of the net and of the schedule, its words alone or whole
+-- the checks of the net and of the schedule: only its words, or all of it
 abbrev pub readChecks : List ℕ → List ℕ → List Check
 readChecks net sheet = netChecks net ++ wordChecks (petriNet net) sheet
 
@@ -63,7 +63,7 @@ pub record ReadingDemand : Type 0 where
   pub check : (net sheet : List ℕ)
       → EveryReading {Left = Unit} plainCheck 3 (wholeChecks net sheet) tt (λ (a : CheckAnswer) left. a ≡ checkAnswer (scheduleReply net sheet) (countsOf net sheet))
   -- ---- the cores of the calls: `bounds_into`, `Walker::step`, `run_into`, `replay_into`, `form_into`, `mend_into`, `compare_into`, `compose_into`, `trim_into`,
-  -- `reaction_into`; and `form_of`, `forms_of`, which ask for the words alone
+  -- `reaction_into`; and `form_of`, `forms_of`, which ask only for readable words
   pub bounds : (net sheet out : List ℕ)
       → EveryReading plainOf 0 (wholeChecks net sheet ++ (once (petriNet net .places ≤ length out) 22 ∷ [])) out (BoundsWritten net sheet out)
   pub step : (net sheet : List ℕ) (w : Walker) (t : ℕ)
@@ -87,7 +87,7 @@ pub record ReadingDemand : Type 0 where
       × ((out list : List ℕ) → EveryReading {Left = List ℕ × List ℕ} plainMend 2
       ((netChecks net ++ mendChecks (petriNet net) sheet) ++ (once ((forSheet ≤ length out) × (forList ≤ length list)) 22 ∷ []))
       (out, list) (λ a left. MendWritten net sheet out list a (left .0) (left .1)))
-  -- of these two the last number, which a refusal can have, apart
+  -- for these two calls without the last number, which a refusal can have
   pub compare : (net x y : List ℕ) → (first : ℕ) × (second : ℕ)
       × ((one two : List ℕ) → EveryReading {Left = List ℕ × List ℕ} plainCompared 3
       ((wholeChecks net x ++ sheetChecks (petriNet net) y) ++ (once ((first ≤ length one) × (second ≤ length two)) 22 ∷ []))

@@ -1,6 +1,6 @@
--- What is promised of the slow engine (§10.40, request #111): every number that it spreads is one that the words say (§10.41), and to any net and
--- schedule it answers what the check answers (§10.42). That the code spreads these numbers is what `spreading::spread_net` and `spreading::spread_sheet`
--- of `plainly` ensure; no function after them takes the words. proofs/Slow has a term for the record.
+-- What is promised of the slow engine (§10.40, request #111): every number that it spreads is one of the words' (§10.41), and for any net and
+-- schedule it answers what the schedule check answers (§10.42). `spreading::spread_net` and `spreading::spread_sheet` of `plainly` ensure that the code
+-- spreads these numbers; no function after them takes the words. proofs/Slow has a term for the record.
 use Prim.Native.Nat.{ℕ, _+_, _*_, _≤_, _<_}
 use mathlib.Core.Path.{_≡_}
 use mathlib.Core.Logic.{_⊎_}
@@ -22,7 +22,7 @@ use Rattle.plainly.specs.Calls.{SlowDone}
 use Rattle.plainly.specs.declared.Spread.{Spread}
 use Rattle.demands.specs.Terms.{allChecks}
 
--- ---- the tables: each cell is a weight of the net, 0 where its key is absent
+-- ---- the tables: each cell is a weight of the net, or 0 if its key is absent
 
 module _ (net : List ℕ) where
   abbrev P : ℕ
@@ -46,9 +46,9 @@ module _ (net : List ℕ) where
   -- ---- the grid: each cell is a value of the schedule by its key
 
   pub record GridRight (sheet grid : List ℕ) : Type 0 where
-    -- the target and 1, or 0 where there is no arc: §3.5, §3.7
+    -- the target plus 1, or 0 if there is no arc: §3.5, §3.7
     pub arcs : (n t : ℕ) → n < nodeCount sheet → t < T → getD grid (n * 64 + t) 0 ≡ foundOr 0 (λ i. plusOne (entryValue sheet i)) (entryWithKey sheet (n * T + t))
-    -- the count, 0 where it is absent: §3.6, §3.8
+    -- the count, or 0 if its key is absent: §3.6, §3.8
     pub counts : (n p : ℕ) → n < nodeCount sheet → p < P
         → getD grid (n * 64 + 32 + p) 0 ≡ foundOr 0 (entryValue sheet) (entryWithKey sheet (nodeCount sheet * T + n * P + p))
     -- all other cells of its 128 rows are 0
@@ -62,10 +62,10 @@ pub record Same (slow fast : CheckAnswer) (slow-scratch fast-scratch : List ℕ)
   pub scratch : slow-scratch ≡ fast-scratch
 
 pub record SlowDemand : Type 0 where
-  -- what is spread, of words whose sizes are in their limits
+  -- the tables and the grid, for words whose sizes are within the limits
   pub tables : (net : List ℕ) (s : Spread) → placeCount net ≤ 32 → transitionCount net ≤ 32 → NetSpread net s → TablesRight net s
   pub grid : (net sheet grid : List ℕ) → placeCount net ≤ 32 → transitionCount net ≤ 32 → nodeCount sheet ≤ 128 → GridSpread net sheet grid → GridRight net sheet grid
-  -- as every call (§13.1), by the checks of the schedule check
+  -- it does what every call does (§13.1), by the checks of the schedule check
   pub every : (net sheet : List ℕ) → EveryCall {Left = Unit} scratchLimit plainCheck 3 (allChecks net sheet []) tt (λ s a left s′. SlowDone net sheet s a s′)
-  -- the schedule check answers the same, number, kind, position and counts, whatever words and scratch are lent; and it leaves the same
+  -- the schedule check gives the same answer (number, kind, position and counts), whatever words and scratch are lent, and leaves the same in scratch
   pub alike : (net sheet scratch s₁ s₂ : List ℕ) (a b : CheckAnswer) → SlowDone net sheet scratch a s₁ → CheckDone net sheet scratch b s₂ → Same a b s₁ s₂

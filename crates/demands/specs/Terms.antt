@@ -1,4 +1,4 @@
--- Words that the three demands share: the graph that a schedule says, when a schedule is accepted, and all that a call checks.
+-- Terms that the three demands share: the graph of a schedule's words, when a schedule is accepted, and all that a call checks.
 use Prim.Native.Nat.{ℕ, _≤_}
 use mathlib.Core.Path.{_≡_}
 use mathlib.Core.List.{List, _∷_, _++_}
@@ -15,7 +15,7 @@ use Rattle.call.specs.Demands.{number}
 use Rattle.refusal.specs.Limits.{scratchLimit}
 use Rattle.schedule.specs.Calls.{CheckDone}
 
--- the graph that a schedule's words say: §3.5, §3.6
+-- the graph that a schedule's words describe: §3.5, §3.6
 abbrev pub said : List ℕ → List ℕ → Automaton
 said net sheet = graph (petriNet net) sheet
 

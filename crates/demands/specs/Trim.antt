@@ -1,4 +1,4 @@
--- What is promised of trimming (§13.18): of anything that meets its postcondition. proofs/Trim has a term for the record.
+-- What is promised of trimming (§13.18), for anything that meets its postcondition. proofs/Trim has a term for the record.
 use Prim.Native.Nat.{ℕ, _≤_}
 use mathlib.Core.Path.{_≡_}
 use mathlib.Core.Logic.{_↔_}
@@ -24,7 +24,7 @@ use Rattle.trimmed.specs.declared.TrimAnswer.{TrimAnswer}
 use Rattle.demands.specs.Terms.{said, Accepted}
 use Rattle.demands.specs.Replay.{LeftAlike}
 
--- a call that answered 0; the buffers lent held anything
+-- a call that answered 0, whatever the buffers lent held before
 pub record TrimCall (net sheet : List ℕ) : Type 0 where
   pub out : List ℕ
   pub list : List ℕ
@@ -36,7 +36,7 @@ pub record TrimCall (net sheet : List ℕ) : Type 0 where
   pub done : TrimDone net sheet out list scratch answer out′ list′ scratch′
   pub zero : number (plainTrim answer) ≡ 0
 
--- the two lengths that it answered (§10.35), and so many words of each buffer: the trimmed schedule, and for each new number the old one
+-- the two lengths that the call answered (§10.35), and that many words of each buffer: the trimmed schedule, and the list of old numbers
 abbrev pub trimmedSize : {net sheet : List ℕ} → TrimCall net sheet → ℕ
 trimmedSize c = own (plainTrim (c .answer)) 0
 
@@ -53,7 +53,7 @@ keptBy c = take (keptSize c) (c .list′)
 abbrev pub allTrimChecks : List ℕ → List ℕ → Type 0 → List ℕ → List Check
 allTrimChecks net sheet Room scratch = once (scratchLimit ≤ length scratch) 21 ∷ ((netChecks net ++ wordChecks (petriNet net) sheet) ++ (once Room 22 ∷ []))
 
--- as every call (§13.1), by its checks; so many words are needed of the two buffers, which are the lengths answered
+-- it does what every call does (§13.1), by its checks; the words that it needs of each buffer are as many as the length that it answers
 pub record EveryTrimming (net sheet : List ℕ) : Type 0 where
   pub forSheet : ℕ
   pub forList : ℕ
@@ -61,7 +61,7 @@ pub record EveryTrimming (net sheet : List ℕ) : Type 0 where
       (out, list) (λ s a left s′. TrimDone net sheet out list s a (left .0) (left .1) s′)
   pub answered : (c : TrimCall net sheet) → (trimmedSize c ≡ forSheet) × (keptSize c ≡ forList)
 
--- the result is the given graph cut down to what is reached, the list turns its numbers back, and no other words that pass 6 to 9 say that graph (§11.6)
+-- the result is the given graph cut down to the reached nodes; the list gives their old numbers; and no other words that pass 6 to 9 describe that graph (§11.6)
 pub record CutDown (net sheet trimmed list : List ℕ) : Type 0 where
   pub new : ℕ → ℕ
   pub trimming : Trimming (said net sheet) (said net trimmed) new
@@ -75,27 +75,27 @@ upTo n = tabulate (λ i. i) n
 
 pub record TrimDemand : Type 0 where
   pub every : (net sheet : List ℕ) → EveryTrimming net sheet
-  -- what the buffers and scratch held is read by nothing: §13.5
+  -- nothing depends on what the buffers and scratch held: §13.5
   pub unread : (net sheet o₁ o₂ l₁ l₂ s₁ s₂ o₁′ o₂′ l₁′ l₂′ s₁′ s₂′ : List ℕ) (a₁ a₂ : TrimAnswer) → length o₁ ≡ length o₂ → length l₁ ≡ length l₂ → length s₁ ≡ length s₂
       → TrimDone net sheet o₁ l₁ s₁ a₁ o₁′ l₁′ s₁′ → TrimDone net sheet o₂ l₂ s₂ a₂ o₂′ l₂′ s₂′
       → (a₁ ≡ a₂) × LeftAlike o₁ o₂ o₁′ o₂′ × LeftAlike l₁ l₂ l₁′ l₂′
-  -- a result is no longer than what is given: with so much room, answered exactly when 1 to 9 and 26 pass
+  -- a result is no longer than what is given; with that much room the answer is 0 exactly if 1 to 9 and 26 pass
   pub exact : (net sheet out list s out′ list′ s′ : List ℕ) (a : TrimAnswer) → TrimDone net sheet out list s a out′ list′ s′
       → scratchLimit ≤ length s → length sheet ≤ length out → nodeCount sheet ≤ length list → (number (plainTrim a) ≡ 0) ↔ (IsNet net × WordsPass (petriNet net) sheet)
   -- what is written: §10.36, §10.37
   pub cut : (net sheet : List ℕ) (c : TrimCall net sheet) → CutDown net sheet (trimmedBy c) (keptBy c)
   pub lists : (net sheet : List ℕ) (c : TrimCall net sheet) → ListsReached (said net sheet) (keptBy c)
-  -- allowed are the same lists as before
+  -- the same lists are allowed as before
   pub same-lists : (net sheet : List ℕ) (c : TrimCall net sheet) → SameLists (said net (trimmedBy c)) (said net sheet) 0 0
-  -- accepted exactly when every clause but reachability holds on the kept nodes; and so where 16 alone refuses what is given
+  -- the result is accepted exactly if every clause but reachability holds on the kept nodes; so it is if the given schedule breaks no clause but 16
   pub accepted : (net sheet : List ℕ) (c : TrimCall net sheet) → Accepted net (trimmedBy c) ↔ HoldsOnReached (petriNet net) (said net sheet)
   pub by-16-alone : (net sheet : List ℕ) (c : TrimCall net sheet) → HoldsOnAll (petriNet net) (said net sheet) → Accepted net (trimmedBy c)
-  -- never refused by 16
+  -- the result is never refused by 16
   pub never-16 : (net sheet : List ℕ) (c : TrimCall net sheet) (s s′ : List ℕ) (a : CheckAnswer) → CheckDone net (trimmedBy c) s a s′ → number (plainCheck a) ≡ 16 → ⊥
-  -- it all lies in the buffers, and what follows it there is as it was: §9.4
+  -- both results lie whole in the buffers, and the words behind them are as they were: §9.4
   pub within : (net sheet : List ℕ) (c : TrimCall net sheet)
       → (c .out′ ≡ trimmedBy c ++ drop (trimmedSize c) (c .out)) × (c .list′ ≡ keptBy c ++ drop (keptSize c) (c .list))
       × (trimmedSize c ≤ length (c .out)) × (keptSize c ≤ length (c .list))
-  -- an accepted schedule comes back word for word with the list 0, 1, .., V - 1; so does a trimmed one
+  -- an accepted schedule comes back word for word, with the list 0, 1, .., V - 1; the same holds of a trimmed one
   pub itself : (net sheet : List ℕ) → Accepted net sheet → (c : TrimCall net sheet) → (trimmedBy c ≡ sheet) × (keptBy c ≡ upTo (nodeCount sheet))
   pub twice : (net sheet : List ℕ) (c : TrimCall net sheet) (d : TrimCall net (trimmedBy c)) → (trimmedBy d ≡ trimmedBy c) × (keptBy d ≡ upTo (nodeCount (trimmedBy c)))

@@ -1,4 +1,4 @@
--- Decoding what is encoded: the graph that an automaton's words say is the automaton.
+-- Decoding what is encoded: the graph of an automaton's words is the automaton.
 -- a key has one row and one column
 use Rattle.scan.proofs.Basics.{ℕ, _+_, _*_, _/_, _%_, _≤_, _<_, arith, _≡_, refl, sym, ap, _∙_, inl, inr, ltb, some, List}
 use lib.Seq.{ext-getD}

@@ -1,4 +1,4 @@
--- The words of an automaton as a sheet: its entries are what the automaton says, and 6 to 9 refuse nothing.
+-- The words of an automaton as a sheet: its entries are the automaton's arcs and counts, and 6 to 9 refuse nothing.
 use Rattle.scan.proofs.Basics.{ℕ, suc, _+_, _-_, _*_, _≤_, _<_, arith, _≡_, refl, sym, _∙_, inl, inr, some, length, getD, length-append}
 use native.Mathlib.Nat.{mul-add}
 use lib.ListN.{List·getD-append}

@@ -1,4 +1,4 @@
--- The keys and values of an automaton's words: the keys rise, and what stands in them is what the automaton says.
+-- The keys and values of an automaton's words: the keys rise, and the values are the automaton's targets and counts.
 use Rattle.scan.proofs.Basics.{ℕ, _+_, _*_, _<_, arith, _≡_, refl, sym, ap, _∙_, _⊎_, inl, inr, ⊎-elim, Bool, true, false, ltb, Option, some, List, length, length-append}
 use Rattle.scan.proofs.Tests.{ltb-true, lt-ltb}
 use Rattle.scan.specs.Scan.{when, found}

@@ -1,4 +1,4 @@
--- What is gathered over indices, and over rows: how much it is, where it lies, and what stands in two lists that are gathered together.
+-- What is gathered over indices, and over rows: how long the list is, at which index each finding is, and how two lists gathered together correspond.
 -- f finds something
 use Rattle.scan.proofs.Basics.{ℕ, zero, suc, _+_, _*_, _<_, arith, _≡_, refl, sym, ap, _∙_, ⊎-elim, Bool, Option, none, some, [], _++_, length, length-append}
 use native.Mathlib.Numerals.{add-one}

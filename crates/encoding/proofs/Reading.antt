@@ -1,4 +1,4 @@
--- What a sheet's words say of an arc or a count is the value at its key; nothing is said outside the net and past the nodes.
+-- An arc or a count in a sheet's words is the value at its key; outside the net and past the nodes there is none.
 use Rattle.scan.proofs.Basics.{ℕ, _+_, _*_, _<_, _≡_, refl, ap, _∙_, Option, none, some, Option·map, List, length}
 use Rattle.scan.proofs.Tests.{lt-ltb, le-ltb}
 use Rattle.scan.proofs.First.{none-some}

@@ -1,4 +1,4 @@
--- Encoding what is decoded: a sheet that passes 6 to 9 is the words of the graph that it says.
+-- Encoding what is decoded: a sheet that passes 6 to 9 is the words of its own graph.
 use Rattle.scan.proofs.Basics.{ℕ, _+_, _-_, _*_, _/_, _%_, _≤_, _<_, arith, _≡_, refl, sym, _∙_, inl, inr, true, ltb, Option, none, some, Option·map, List}
 use native.Mathlib.Nat.{mul-add, mod-lt, div-add-mod', div-lt-iff-lt-mul}
 use Rattle.scan.proofs.Tests.{ltb-false, byTest}

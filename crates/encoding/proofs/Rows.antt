@@ -1,4 +1,4 @@
--- Words appended to a buffer, piece by piece; and the rows of an automaton, one behind the other, as the sections of its words.
+-- Words appended to a buffer, piece by piece; and the rows of an automaton, one after the other, as the sections of its words.
 use Rattle.scan.proofs.Basics.{ℕ, zero, suc, _+_, _-_, _≤_, _<_, arith, _≡_, refl, sym, ap, _∙_, ltb, leb, Option, none, some, List, [], _∷_, _++_, length, getD, set, length-append}
 use mathlib.Core.List.{append-nil}
 use Rattle.scan.proofs.Tests.{lt-ltb, le-ltb, leb-true, leb-false, byTest}

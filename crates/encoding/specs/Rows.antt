@@ -1,4 +1,4 @@
--- The rows of a graph's words as they are written: for a node, what its entries have in one of the four sections, appended to a buffer.
+-- The rows of a graph's words as they are written: the words that a node's entries have in one of the four sections are appended to a buffer.
 use Prim.Native.Nat.{ℕ, _+_, _*_, _-_, _≤_, _<_}
 use mathlib.Core.Path.{_≡_}
 use mathlib.Core.Bool.{Bool}
@@ -17,8 +17,8 @@ use Rattle.encoding.specs.declared.Section.the-variants.{ArcKeys, CountK
 
 -- ---- one row
 
--- the word of an entry: its key (§3.4); the number that its cell has 1 more than, of an arc the node that it leads to (§3.5), of a change the
--- new count (§10.16); what the place holds (§3.6)
+-- the word of an entry: its key (§3.4); or its cell less 1, which is the target of an arc (§3.5) or the new count of a change (§10.16); or its cell, which
+-- is a count (§3.6)
 abbrev pub wordOf : Section → ℕ → ℕ → ℕ
 wordOf ArcKeys key cell = key
 wordOf CountKeys key cell = key
@@ -29,21 +29,21 @@ wordOf Counts key cell = cell
 unfoldable pub filledAt : List ℕ → ℕ → Bool
 filledAt cells c = ltb 0 (getD cells c 0)
 
--- its word, where the row's keys go from a first one on
+-- the word of column c, if the row's keys begin at a first one
 unfoldable pub columnWord : Section → ℕ → List ℕ → ℕ → Option ℕ
 columnWord section first cells c = when (filledAt cells c) (wordOf section (first + c) (getD cells c 0))
 
 unfoldable pub rowWords : Row → Section → List ℕ
 rowWords row section = gather (columnWord section (row .first) (row .cells)) 32
 
--- words appended to a buffer from a place on: the place behind them, and what the buffer holds afterwards
+-- words appended to a buffer from an index on: the index after them, and what the buffer holds then
 pub record Appended (out : List ℕ) (at : ℕ) (words : List ℕ) (r : ℕ) (out′ : List ℕ) : Type 0 where
   pub behind : r ≡ nextPlace (length out) at words
   pub held : out′ ≡ placed out at words
 
 -- ---- the rows of an automaton
 
--- an arc as a cell tells it
+-- the cell of an arc: 1 plus its target, or 0 if there is none
 abbrev pub arcCode : Option ℕ → ℕ
 arcCode none = 0
 arcCode (some m) = m + 1
@@ -62,7 +62,7 @@ module _ (N : PetriNet) (A : Automaton) where
   firstKey Numbers n = n * N .transitions
   firstKey Counts n = A .nodes * N .transitions + n * N .places
 
-  -- node n's entry at column c, and the word that it has
+  -- the cell of node n at column c, and the word that it gives
   abbrev pub entryTold : Section → ℕ → ℕ → ℕ
   entryTold ArcKeys n c = arcCode (A .arc n c)
   entryTold CountKeys n c = held N A n c
@@ -75,13 +75,13 @@ module _ (N : PetriNet) (A : Automaton) where
   cellOf Numbers n c = A .arc n c
   cellOf Counts n c = valueOfCount N A n c
 
-  -- a row has node n's entries
+  -- a row has the entries of node n
   pub record RowOf (section : Section) (n : ℕ) (row : Row) : Type 0 where
     pub first : row .first ≡ firstKey section n
     pub entry : (c : ℕ) → c < widthOf section → getD (row .cells) c 0 ≡ entryTold section n c
     pub past : (c : ℕ) → widthOf section ≤ c → c < 32 → getD (row .cells) c 0 ≡ 0
 
-  -- a section's first rows, and all of it
+  -- the first rows of a section, and the whole section
   unfoldable pub sectionTo : Section → ℕ → List ℕ
   sectionTo section n = gatherRows (cellOf section) (widthOf section) n
 

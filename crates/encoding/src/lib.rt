@@ -1,4 +1,4 @@
-// The words of a graph (§11.6), written row by row: what the entries of a node have in a section of the words is appended to a lent buffer.
+// The words of a graph (§11.6), written row by row: in each section of the words, the entries of one node after the other are appended to a lent buffer.
 ghost use mathlib.Core.Path.{_≡_};
 ghost use mathlib.Core.List.{[], _∷_};
 ghost use Prim.Native.Nat.{_+_, _<_};
@@ -6,8 +6,8 @@ ghost use Rattle.scan.specs.Scan.{count};
 ghost use Rattle.encoding.specs.Rows.{wordOf, filledAt, rowWords, Appended};
 ghost use Rattle.encoding.specs.Kept.{arcCell, arcCells};
 
-// The sections of the words in their order, after V and K: the keys of arcs and of counts, the nodes that the arcs lead to, the counts.
-// `Numbers` is for words that may be 0 and are told by cells as 1 more: of arcs the node that they lead to, of a list of changes the new count.
+// The sections of the words after V and K, in their order: the keys of arcs, the keys of counts, the targets of arcs, the counts.
+// `Numbers` is for words that may be 0, so that a cell holds 1 more than the word: the targets of arcs, and the new counts of a list of changes.
 pub enum Section {
     ArcKeys,
     CountKeys,
@@ -15,9 +15,8 @@ pub enum Section {
     Counts,
 }
 
-// The entries of a node, its arcs, its counts or what changes of these: the key of the first column, and at each column 1 plus the node that
-// the arc leads to, what the place holds, or 1 plus what it holds from now on, 0 where there is no entry. No key of a schedule is above 8,191,
-// so that a u16 has the first.
+// The entries of a node: its arcs, its counts, or the changes of its counts. `first` is the key of the first column. A cell is 0 if the column has no
+// entry; else it is 1 plus the target of the arc, or the count, or 1 plus the new count. No key of a schedule is above 8,191, so `first` is a u16.
 pub struct Row {
     pub first: u16,
     pub cells: [u32; 32],
@@ -36,7 +35,7 @@ fn word(section: Section, key: u32, cell: u32) -> u32
     }
 }
 
-// Writes a word at a place, and answers the place behind it. What the buffer has no room for is dropped.
+// Writes a word at an index, and answers the next index. A word for which the buffer has no room is dropped.
 pub fn put(word: u32, out: &mut [u32], at: usize) -> usize
     ensures { λ r. ⌜ Appended (now (out .entry)) at (word ∷ []) r (now (out .exit)) ⌝ }
 {
@@ -47,7 +46,7 @@ pub fn put(word: u32, out: &mut [u32], at: usize) -> usize
     at
 }
 
-// Writes the words of a row's entries one after the other from a place on, likewise.
+// Writes the words of a row's entries one after the other from an index on, and answers the index after them. Words without room are dropped.
 pub fn append(row: Row, section: Section, out: &mut [u32], at: usize) -> usize
     ensures { λ r. ⌜ Appended (now (out .entry)) at (rowWords row section) r (now (out .exit)) ⌝ }
 {
@@ -82,14 +81,14 @@ pub fn filled(cells: [u32; 32]) -> usize
     entries
 }
 
-// The cell of an arc that leads to a node.
+// The cell of an arc that leads to a node: 1 more, since 0 is no arc.
 fn arc_to(node: u8) -> u32
     ensures { λ r. ⌜ r ≡ node + 1 ⌝ }
 {
     node as u32 + 1
 }
 
-// The same for an arc that is told as 1 plus its entry, with the number that a table has for the node.
+// The cell of the arc at entry told - 1. A table gives the number of the node that it leads to.
 fn arc_cell(sheet: &[u32], numbers: [u8; 128], told: usize) -> u32
     requires { ⌜ 0 < told ⌝ }
     ensures { λ r. ⌜ r ≡ arcCell (now (sheet .entry)) numbers told ⌝ }
@@ -101,7 +100,7 @@ fn arc_cell(sheet: &[u32], numbers: [u8; 128], told: usize) -> u32
     arc_to(numbers[target])
 }
 
-// The cells of node n's arcs, with the numbers of a table for the nodes that they lead to, and 0 for one that it does not have.
+// The cells of node n's arcs, 0 for a transition without an arc. A table gives the numbers of the nodes that the arcs lead to.
 pub fn arc_cells(net: &[u32], sheet: &[u32], numbers: [u8; 128], n: u32) -> [u32; 32]
     ensures { λ r. ⌜ r ≡ arcCells (now (net .entry)) (now (sheet .entry)) numbers n ⌝ }
 {

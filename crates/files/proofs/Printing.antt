@@ -1,4 +1,4 @@
--- What is printed by the answer to words, whether the minimal form has room or not; and that the program's buffers hold all of it.
+-- What is printed for an answer, whether there is room for the minimal form or not; and that the program's buffers hold all of it.
 use Rattle.scan.proofs.Basics.{ℕ, _≤_, arith, _≡_, refl, ap, _∙_, List, [], _∷_, length, take}
 use Rattle.text.specs.Buffer.{Put}
 use Rattle.text.specs.Lines.{acceptedLines}

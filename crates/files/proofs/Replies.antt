@@ -1,4 +1,4 @@
--- What is answered where a file had a tail, and where none had.
+-- The answer if a file has a tail, and if none has.
 use Rattle.scan.proofs.Basics.{ℕ, arith, _≡_, refl, sym, ap, _∙_, Bool, true, false, List, length, take}
 use Rattle.refusal.specs.Refusal.{refusal}
 use Rattle.refusal.specs.Verdict.{verdictOf, andThen}

@@ -26,15 +26,15 @@ use Rattle.files.specs.Printed.{printed, textMost, Buffers, Reads, Files
 abbrev pub CutReads : Type 0
 CutReads = (most : ℕ) (bytes : List ℕ) → ReadAsCut most bytes
 
--- a longer file is answered as its cut: 16,912 bytes of the net and 32,780 of the sheet are enough (§12.3)
+-- a longer file is answered as its front is: 16,912 bytes of the net and 32,780 of the sheet are enough (§12.3)
 abbrev pub CutAnswers : Type 0
 CutAnswers = (net sheet : List ℕ) → programAnswer (cut netRead net) (cut sheetRead sheet) ≡ programAnswer net sheet
 
--- the words that are not handed on change no answer: §12.5. What is cut is still a word too long (§1.7).
+-- words that are not handed on change no answer: §12.5. The words that are handed on are still one word too long (§1.7).
 abbrev pub CutChecks : Type 0
 CutChecks = (net sheet : List ℕ) → scheduleReply (take netRead net) (take sheetRead sheet) ≡ scheduleReply net sheet
 
--- the net's tail, the net, the sheet's tail, the sheet: §12.4
+-- what is answered, in this order: the net's tail, the net, the sheet's tail, the sheet: §12.4
 pub record AnswersFiles (net sheet : List ℕ) : Type 0 where
   pub net-tail : isRagged netRead net ≡ true → programAnswer net sheet ≡ Failed (refusal 1 Nothing)
   pub net-refused : isRagged netRead net ≡ false → (r : Refusal) → netReply (wordsOf netRead net) ≡ Refused r → programAnswer net sheet ≡ Failed r
@@ -64,7 +64,7 @@ PrintsInOrder = (net sheet : List ℕ) → PrintsFiles net sheet
 abbrev pub TextFits : Type 0
 TextFits = (net sheet : List ℕ) → length (printed net sheet) ≤ textMost
 
--- of the files no more has to be read than the program's buffers hold: §12.3
+-- no more of the files has to be read than the program's buffers hold: §12.3
 abbrev pub ReadPrints : Type 0
 ReadPrints = (netFile sheetFile netBuffer sheetBuffer : List ℕ) (n s : ℕ) → length netBuffer ≡ 4 * netRead → length sheetBuffer ≡ 4 * sheetRead
     → Reads netFile netBuffer n → Reads sheetFile sheetBuffer s → printed (take n netBuffer) (take s sheetBuffer) ≡ printed netFile sheetFile

@@ -1,4 +1,4 @@
--- Worked files: their bytes, how many words are handed on at most, the words that are, and whether a tail was found; and all that is printed for two.
+-- Worked files: their bytes, how many words are handed on at most, which words are handed on, and whether a tail was found; and all that is printed for two files.
 use Prim.Native.Nat.{ℕ}
 use mathlib.Core.List.{List, [], _∷_}
 use mathlib.Core.Bool.{Bool, true, false}
@@ -33,7 +33,7 @@ table =
     tailed (1 ∷ 2 ∷ 3 ∷ []) 2 [] ∷
     tailed (1 ∷ 0 ∷ 0 ∷ 0 ∷ 9 ∷ []) 2 (1 ∷ []) ∷
     tailed (1 ∷ 0 ∷ 0 ∷ 0 ∷ 9 ∷ 9 ∷ 9 ∷ []) 2 (1 ∷ []) ∷
-    -- the most words, with no tail and with one that is not looked for: §12.3
+    -- as many words as are handed on at most, without a tail, and with one that is not looked for: §12.3
     whole (1 ∷ 0 ∷ 0 ∷ 0 ∷ 0 ∷ 1 ∷ 0 ∷ 0 ∷ []) 2 (1 ∷ 256 ∷ []) ∷
     whole (1 ∷ 0 ∷ 0 ∷ 0 ∷ 0 ∷ 1 ∷ 0 ∷ 0 ∷ 9 ∷ []) 2 (1 ∷ 256 ∷ []) ∷
     -- more words than are handed on: §12.3

@@ -28,7 +28,7 @@ unfoldable pub textOf : CheckAnswer → List ℕ → List ℕ → List ℕ
 textOf (Failed r) net sheet = refusedText r
 textOf (Passed c) net sheet = acceptedLines (c .nodes) (c .arcs) (c .awaits) (bounds (petriNet net) sheet) (minimalForm net sheet)
 
--- for the bytes of two files: §12.5, §12.9
+-- what is printed for the bytes of two files: §12.5, §12.9
 unfoldable pub printed : List ℕ → List ℕ → List ℕ
 printed netBytes sheetBytes = textOf (programAnswer netBytes sheetBytes) (wordsOf netRead netBytes) (wordsOf sheetRead sheetBytes)
 
@@ -42,7 +42,7 @@ formMost = 2 + 2 * mostEntries
 abbrev pub textMost : ℕ
 textMost = 93 + 34 * mostPlaces + 11 * formMost
 
--- their lengths: for the bytes of both files (§12.3), the words of both, the minimal form and the text
+-- the lengths of the buffers: for the bytes of both files (§12.3), the words of both, the minimal form and the text
 pub record Buffers (netBytes sheetBytes net sheet form out : List ℕ) : Type 0 where
   pub net-bytes : length netBytes ≡ 4 * netRead
   pub sheet-bytes : length sheetBytes ≡ 4 * sheetRead
@@ -51,13 +51,13 @@ pub record Buffers (netBytes sheetBytes net sheet form out : List ℕ) : Type 0 
   pub form-words : length form ≡ formMost
   pub text-bytes : length out ≡ textMost
 
--- what a read leaves in a buffer: as much of the file as the buffer holds, in front
+-- what a read leaves at the front of a buffer: as much of the file as the buffer holds
 abbrev pub Reads : List ℕ → List ℕ → ℕ → Type 0
 Reads file buffer n = take (length buffer) file ≡ take n buffer
 
 -- ---- buffers of any length
 
--- 22 comes last (§7.54), where the minimal form has too little room
+-- 22 comes last (§7.54), if the buffer is too short for the minimal form
 abbrev pub roomAnswer : CheckAnswer → ℕ → List ℕ → CheckAnswer
 roomAnswer (Failed r) room form = Failed r
 roomAnswer (Passed c) room form = checkAnswer (roomFault room (length form)) c
@@ -71,7 +71,7 @@ pub record WordsPrinted (answer : CheckAnswer) (net sheet form out : List ℕ) (
   pub text : Put out 0 (textOf (roomAnswer answer (length form) (minimalForm net sheet)) net sheet) r out′
   pub form-after : form′ ≡ formAfter (roomAnswer answer (length form) (minimalForm net sheet)) (minimalForm net sheet) form
 
--- One call: what it is handed, what it answers, and what the four buffers hold afterwards.
+-- The postcondition: what the call is handed, what it answers, and what the four buffers hold afterwards.
 pub record FilesPrinted (netBytes sheetBytes net sheet form out : List ℕ) (r : ℕ) (net′ sheet′ form′ out′ : List ℕ) : Type 0 where
   pub words : WordsPrinted (filesAnswer (length net) (length sheet) netBytes sheetBytes) (wordsOf (length net) netBytes) (wordsOf (length sheet) sheetBytes) form out r form′ out′
   pub net-decoded : net′ ≡ decoded netBytes net

@@ -1,4 +1,4 @@
-// The program's two files: their bytes as words, what is answered for both, and all that is printed.
+// The program's two files: their bytes as words, the answer to both, and all that is printed.
 ghost use mathlib.Core.Path.{_≡_};
 ghost use Rattle.refusal.specs.declared.Verdict.the-variants.{Accepted};
 ghost use Rattle.sequential.specs.Check.{scheduleReply};
@@ -19,14 +19,14 @@ pub struct Tails {
     pub sheet: bool,
 }
 
-// What is answered for two files, and how many words of each were handed on.
+// The answer to two files, and how many words of each were handed on.
 pub struct FilesAnswer {
     pub answer: CheckAnswer,
     pub net: usize,
     pub sheet: usize,
 }
 
-// What is answered for the words of two files, either of which may have had a tail: §12.4.
+// The answer to the words of two files, each of which may have had a tail: §12.4.
 fn check_read(tails: Tails, net: &[u32], sheet: &[u32]) -> CheckAnswer
     ensures { λ r. ⌜ r ≡ readAnswer (tails .net) (tails .sheet) (now (net .entry)) (now (sheet .entry)) ⌝ }
 {
@@ -49,7 +49,7 @@ fn check_read(tails: Tails, net: &[u32], sheet: &[u32]) -> CheckAnswer
     judge::check(net, sheet)
 }
 
-// What is answered for the bytes of two files (§12.5), whose words are left in the buffers lent.
+// The answer to the bytes of two files (§12.5). Their words are left in the buffers `net` and `sheet`.
 fn check_files(netbin: &[u8], sheetbin: &[u8], net: &mut [u32], sheet: &mut [u32]) -> FilesAnswer
     ensures { λ r. ⌜ FilesRead (now (netbin .entry)) (now (sheetbin .entry)) (now (net .entry)) (now (sheet .entry)) r (now (net .exit)) (now (sheet .exit)) ⌝ }
 {
@@ -77,7 +77,7 @@ fn print_refusal(refusal: Refusal, out: &mut [u8]) -> usize
     text::answer_line(out, 0, refusal.number, at.kind(), at.index())
 }
 
-// All lines for words that are accepted (§12.7), or 22 where their minimal form has too little room.
+// All lines for words that are accepted (§12.7), or 22 if the buffer is too short for their minimal form.
 fn print_accepted(
     counts: Counts,
     net: &[u32],
@@ -106,7 +106,7 @@ fn print_accepted(
     }
 }
 
-// All that is printed for the bytes of two files, at the front of out; their words and those of the minimal form are left in the buffers lent.
+// All that is printed for the bytes of two files, at the front of out. The words of the files and of the minimal form are left in the other buffers.
 pub fn print_files(
     netbin: &[u8],
     sheetbin: &[u8],

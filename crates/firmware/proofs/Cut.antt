@@ -1,4 +1,4 @@
--- Net and schedule are decoded up to one word more than fits: the words that are not handed on change no answer (§15.7).
+-- Net and schedule are decoded up to one word more than the longest accepted one: words behind that change no answer (§15.7).
 use Rattle.scan.proofs.Basics.{ℕ, _<_, arith, _≡_, refl, _∙_, List, [], length, take}
 use lib.Seq.{take-all}
 use Rattle.scan.proofs.Tests.{byLess}

@@ -1,4 +1,4 @@
--- 21 and 31 are asked before a word is read, then the word call: what is answered then, and the paths of a call.
+-- 21 and 31 are asked before a word is read, and then the word call: the answer, and the paths of a call.
 use Rattle.scan.proofs.Basics.{ℕ, _%_, _≤_, _<_, arith, _≡_, refl, sym, ap, _∙_, List, [], _∷_, length}
 use Rattle.scan.proofs.Tests.{lt-ltb, le-ltb, eq-eqb, ne-eqb}
 use Rattle.scan.specs.Scan.{when}

@@ -1,5 +1,5 @@
--- The number of a single firing, both ways: below 2,147,483,648 the target of the arc, from there on the first check that fails; and never 19. As every
--- call, and as the word call with the node's own counts.
+-- The number of a single firing: below 2,147,483,648 it is the target of the arc, from there on it tells the first check that fails, and never 19. What holds of every
+-- call holds of it, and it does what the word call does with the node's own counts.
 use Rattle.scan.proofs.Basics.{ℕ, _+_, _≤_, _<_, arith, _≡_, refl, sym, ap, _∙_, inl, inr, ⊎-elim, some, List, [], _∷_, _++_, length, getD}
 use Rattle.scan.proofs.Tests.{byLess}
 use Rattle.scan.proofs.Tabulate.{tabulate-at}

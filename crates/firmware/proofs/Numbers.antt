@@ -1,4 +1,4 @@
--- The numbers by which a list of checks refuses, where a test of them is computed: those of a single firing are small enough to be added to 2,147,483,648.
+-- The numbers by which a list of checks refuses, found by a computed test: those of a single firing are small enough to be added to 2,147,483,648.
 use Rattle.scan.proofs.Basics.{ℕ, _<_, arith, _≡_, refl, ap, ⊎-elim, Bool, true, _&&_, ltb, List, [], _∷_, _++_}
 use Rattle.scan.proofs.Tests.{ltb-true, and-left, and-right}
 use Rattle.refusal.specs.Checks.{Clause, Check, once, each, FailAt, FirstFails}

@@ -1,4 +1,4 @@
--- A result that is written as bytes: 22 by whole words; and the minimal form, whose words are first written to words that have room for any.
+-- A result that is written as bytes: 22 counts whole words. The minimal form is first written to an array of words that has room for any.
 use Rattle.scan.proofs.Basics.{ℕ, _/_, _≤_, arith, _≡_, refl, sym, ap, _∙_, List, [], _∷_, _++_, length, take, drop, getD, length-append}
 use lib.Seq.{take-append-seam}
 use Rattle.scan.specs.Scan.{tabulate}

@@ -1,5 +1,5 @@
--- What every call over bytes does (§15.1): 21 and 31, then what the word call makes of the decoded words; what it returns, and what it leaves in the buffers.
--- What a call makes of its words is the word call's `Core`; what is said here is said of any.
+-- What every call over bytes does (§15.1): it asks 21 and 31, then does what the word call does with the decoded words; what it returns and leaves in the buffers.
+-- What a call makes of its words is given by the `Core` of the word call; this file holds for any `Core`.
 use Prim.Native.Nat.{ℕ, _*_, _%_, _≤_, _<_}
 use mathlib.Core.Path.{_≡_}
 use mathlib.Core.List.{List, [], _∷_}
@@ -18,7 +18,7 @@ use Rattle.call.specs.Demands.{number}
 use Rattle.octets.specs.Words.{allWords}
 use Rattle.octets.specs.Bytes.{bytesOver}
 
--- ---- how many bytes are lent
+-- ---- how many bytes must be lent
 
 -- four to the word: §15.4
 abbrev pub scratchBytes : ℕ
@@ -34,16 +34,16 @@ replyBytes = 48
 unfoldable pub isBroken : ℕ → Bool
 isBroken bytes = not (eqb (bytes % 4) 0)
 
--- the lengths of net, schedule and record, 0 where a call has no record
+-- given the lengths of net, schedule and record, 0 for a call without a record
 unfoldable pub brokenFault : ℕ → ℕ → ℕ → Verdict
 brokenFault net sheet firings = verdictOf (when (isBroken net || (isBroken sheet || isBroken firings)) (refusal 31 Nothing))
 
 module _ {Answer : Type 0} where
-  -- 31 before all that is asked of the words: §7.65
+  -- 31 comes before all checks of the words: §7.65
   abbrev pub overBytes : Verdict → Core Answer → Core Answer
   overBytes broken core = record { verdict = andThen broken (core .verdict); accepted = core .accepted; refused = core .refused; results = core .results }
 
-  -- 21 before that; and 22 last: an output buffer has room for its whole words (§15.5)
+  -- 21 comes before 31, and 22 last: an output buffer has room for as many words as it has whole ones (§15.5)
   unfoldable pub bytesVerdict : Core Answer → List ℕ → ℕ → Verdict
   bytesVerdict core out lent = callVerdict scratchBytes core (allWords out ∷ []) lent
 
@@ -52,22 +52,22 @@ module _ {Answer : Type 0} where
 
 -- ---- what is left in an output buffer
 
--- the result's words as bytes, what lies past them unchanged; a refusal writes nothing: §15.5
+-- the result's words as bytes, with what lies past them unchanged; a refusal writes nothing: §15.5
 abbrev pub outAfter : Verdict → List ℕ → List ℕ → List ℕ
 outAfter Accepted result out = bytesOver 4 result out
 outAfter (Refused r) result out = out
 
--- ---- a call done, all of it by equations (§13.5): its core, its answer as six numbers, what it is lent, what it returns, and what the buffers hold then
+-- ---- the postcondition, by equations (§13.5): the call's core, its answer as six numbers, what it is lent, what it returns, and what the buffers hold then
 
 module _ {Answer : Type 0} (core : Core Answer) (six : Answer → List ℕ) (out scratch reply : List ℕ) (r : ℕ) (out′ scratch′ reply′ : List ℕ) where
-  -- lent enough for its reply, it writes it and clears scratch, refused or not: §15.3, §15.4
+  -- if there is room for the reply, the call writes it and clears scratch, whether it refuses or not: §15.3, §15.4
   pub record Replied : Type 0 where
     pub returned : r ≡ number (six (bytesAnswer core out (length scratch)))
     pub replied : reply′ ≡ bytesOver 8 (six (bytesAnswer core out (length scratch))) reply
     pub written : out′ ≡ outAfter (bytesVerdict core out (length scratch)) (buffer (core .results) 0) out
     pub scratch-after : scratch′ ≡ scratchAfter scratchBytes scratch
 
-  -- under 48 bytes nothing is written, to scratch neither: §15.3
+  -- if the reply has fewer than 48 bytes, nothing is written, not even to scratch: §15.3
   pub record Untouched : Type 0 where
     pub returned : r ≡ 21
     pub written : out′ ≡ out

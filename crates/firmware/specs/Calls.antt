@@ -42,7 +42,7 @@ BytesRan net sheet firings out scratch reply r out′ scratch′ reply′ = Byte
 abbrev pub formBytes : List ℕ → List ℕ → Core FormAnswer
 formBytes net sheet = overBytes (brokenFault (length net) (length sheet) 0) (formCore (allWords net) (allWords sheet))
 
--- its plain numbers (§10.9), and 0 for the two that it has no use for (§8.4)
+-- its plain numbers (§10.9), and 0 for the two numbers for which it has no use (§8.4)
 abbrev pub sixForm : FormAnswer → List ℕ
 sixForm (Written n) = 0 ∷ 0 ∷ 0 ∷ n ∷ 0 ∷ 0 ∷ []
 sixForm (Refused r) = told r 3
@@ -62,7 +62,7 @@ ownCore net sheet n t = fireCore net sheet (ownWalker net sheet n) t
 abbrev pub fireBytes : List ℕ → List ℕ → ℕ → ℕ → Core (FireAnswer × Walker)
 fireBytes net sheet n t = overBytes (brokenFault (length net) (length sheet) 0) (ownCore (allWords net) (allWords sheet) n t)
 
--- the next node, or 2,147,483,648 and the refusal's number
+-- the next node, or 2,147,483,648 plus the refusal's number
 abbrev pub oneNumber : FireAnswer × Walker → ℕ
 oneNumber (Done e, w) = w .node
 oneNumber (Stopped r, w) = 2147483648 + r .number

@@ -11,7 +11,7 @@ use Rattle.firmware.specs.Bytes.{scratchBytes, brokenFault, bytesVerdict
 use Rattle.firmware.specs.Calls.{ownCore, oneNumber}
 use Rattle.firmware.specs.declared.lent.Six.{Six}
 
--- what is asked before a word is read: 21, then 31 (§7.65)
+-- the checks before a word is read: 21, then 31 (§7.65)
 unfoldable pub earlyVerdict : ℕ → ℕ → ℕ → ℕ → Verdict
 earlyVerdict lent net sheet firings = andThen (scratchFault scratchBytes lent) (brokenFault net sheet firings)
 
@@ -20,17 +20,17 @@ unfoldable pub fireNumber : List ℕ → List ℕ → ℕ → ℕ → ℕ
 fireNumber net sheet n t = oneNumber (answerOf (ownCore net sheet n t) (wordsVerdict (ownCore net sheet n t) []))
 
 module _ {Answer : Type 0} where
-  -- what is asked of the words alone; the result goes to bytes
+  -- the part of a call after 21 and 31: the checks of the words, and the result written as bytes
   pub record Written (core : Core Answer) (out : List ℕ) (answer : Answer) (out′ : List ℕ) : Type 0 where
     pub answered : answer ≡ answerOf core (wordsVerdict core (allWords out ∷ []))
     pub written : out′ ≡ outAfter (wordsVerdict core (allWords out ∷ [])) (buffer (core .results) 0) out
 
-  -- an answer as its six numbers, the first of which is returned too
+  -- an answer as six numbers, the first of which is also returned
   pub record Tells (six : Answer → List ℕ) (answer : Answer) (s : Six) : Type 0 where
     pub number-told : s .number ≡ number (six answer)
     pub plain-told : s .plain ≡ six answer
 
-  -- all but scratch and reply
+  -- all that a call does, except what it writes to scratch and reply
   pub record Served (core : Core Answer) (six : Answer → List ℕ) (lent : ℕ) (out : List ℕ) (s : Six) (out′ : List ℕ) : Type 0 where
     pub told : Tells six (bytesAnswer core out lent) s
     pub written : out′ ≡ outAfter (bytesVerdict core out lent) (buffer (core .results) 0) out

@@ -1,4 +1,5 @@
-// The bytes of net and schedule as words, in local arrays. The record of a run stays bytes, since it has any length; what is written goes to bytes.
+// Decodes the bytes of net and schedule to words in local arrays. The record of a run is not decoded, since it may have any length. Results are
+// written as bytes.
 ghost use mathlib.Core.Path.{_≡_};
 ghost use mathlib.Core.List.{[]};
 ghost use Rattle.schedule.specs.Calls.{checkCore, runCore};
@@ -10,7 +11,7 @@ use judge::CheckAnswer;
 use minimal::FormAnswer;
 use schedule::RunAnswer;
 
-// One word more than fits, of each: what lies past them changes no answer (§15.7).
+// Room for one word more of each than the longest that can be accepted. Words past these change no answer (§15.7).
 const NET_WORDS: usize = 4228;
 
 const SHEET_WORDS: usize = 8195;

@@ -1,4 +1,4 @@
-// What is asked of the lengths lent, and what is left in scratch and reply.
+// The checks of the lengths that are lent, and what is left in scratch and reply.
 ghost use mathlib.Core.Path.{_≡_};
 ghost use Prim.Native.Nat.{_≤_};
 ghost use lib.ListN.{length};
@@ -16,16 +16,16 @@ const SCRATCH_BYTES: usize = 32768;
 
 const BROKEN_WORD: u32 = 31; // §7.31, broken word
 
-// What a refused firing returns beyond the number of its refusal: §15.6.
+// A refused firing returns this plus the number of its refusal: §15.6.
 pub(crate) const FIRING_REFUSED: u32 = 2147483648;
 
-// An answer as numbers: the first of them is returned too, as 32 bits.
+// An answer as six plain numbers. `number` is the first of them as 32 bits, which the call returns.
 pub(crate) struct Six {
     pub number: u32,
     pub plain: [usize; 6],
 }
 
-// 21, then 31 for any of the inputs: §7.65.
+// Refusal 21, then 31 for any of the inputs: §7.65.
 pub(crate) fn early_fault(lent: usize, net: usize, sheet: usize, firings: usize) -> Verdict
     ensures { λ r. ⌜ (r ≡ earlyVerdict lent net sheet firings) × (numberOf r ≤ 31) ⌝ }
 {
@@ -44,7 +44,7 @@ pub(crate) fn early_fault(lent: usize, net: usize, sheet: usize, firings: usize)
     Verdict::Accepted
 }
 
-// Zeroes scratch where there is enough of it: §15.4.
+// Zeroes scratch if there is enough of it: §15.4.
 pub(crate) fn clear(scratch: &mut [u8])
     ensures { λ _. ⌜ now (scratch .exit) ≡ scratchAfter scratchBytes (now (scratch .entry)) ⌝ }
 {
@@ -58,7 +58,7 @@ pub(crate) fn clear(scratch: &mut [u8])
     }
 }
 
-// Leaves scratch and reply as they are to be, and hands on the number.
+// Clears scratch, writes the reply, and answers the number that the call returns.
 pub(crate) fn finish(six: Six, scratch: &mut [u8], reply: &mut [u8]) -> u32
     requires { ⌜ replyBytes ≤ length (now reply) ⌝ }
     ensures { λ r. ⌜ (r ≡ six .number) × (now (scratch .exit) ≡ scratchAfter scratchBytes (now (scratch .entry))) × (now (reply .exit) ≡ bytesOver 8 (six .plain) (now (reply .entry))) ⌝ }

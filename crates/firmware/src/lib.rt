@@ -1,8 +1,8 @@
 // The calls over bytes, for firmware in C (part 15 of docs/SPEC.md): the schedule check, the run, the minimal form and the single firing. In C each slice is
 // a pointer and then its length in bytes; include/wulthrein.h has the prototypes.
 //
-// Each of the first three goes the same way: 21 where the reply is too short, with nothing touched; else 21 and 31, or what the word call answers to the
-// decoded words; then scratch is cleared, the reply written, and its number returned.
+// The first three do the same steps. If the reply is too short, they return 21 and touch nothing. Else the answer is 21, 31, or what the word call answers
+// to the decoded words; then scratch is cleared, the reply written, and the number of the answer returned.
 mod decoded;
 mod lent;
 mod words;
@@ -39,7 +39,7 @@ fn six_of_check(answer: CheckAnswer) -> Six
     }
 }
 
-// 21 and 31, or the answer to the words.
+// Refusals 21 and 31, or the answer to the words.
 fn check_six(net: &[u8], sheet: &[u8], lent: usize) -> Six
     ensures { λ r. ⌜ Served (checkBytes (now (net .entry)) (now (sheet .entry))) plainCheck lent [] r [] ⌝ }
 {
@@ -138,7 +138,7 @@ fn form_six(net: &[u8], sheet: &[u8], out: &mut [u8], lent: usize) -> Six
     six_of_form(decoded::form(net, sheet, out))
 }
 
-// Its own number: the length in words; writes so many.
+// Its own number: the length of the form in words; it writes that many.
 #[no_mangle]
 pub extern "C" fn wulthrein_short_form(
     net: &[u8],
@@ -158,7 +158,7 @@ pub extern "C" fn wulthrein_short_form(
 
 // ---- the single firing: no reply, one number (§15.6)
 
-// 21 and 31, or the number that the words give.
+// Refusals 21 and 31, or the number that the word call gives.
 fn fire_number(net: &[u8], sheet: &[u8], node: u32, t: u32, lent: usize) -> u32
     ensures { λ r. ⌜ r ≡ oneNumber (bytesAnswer (fireBytes (now (net .entry)) (now (sheet .entry)) node t) [] lent) ⌝ }
 {
@@ -169,7 +169,7 @@ fn fire_number(net: &[u8], sheet: &[u8], node: u32, t: u32, lent: usize) -> u32
     decoded::fire(net, sheet, node, t)
 }
 
-// The next node, or 2,147,483,648 and the number of the refusal.
+// Returns the next node, or 2,147,483,648 plus the number of the refusal.
 #[no_mangle]
 pub extern "C" fn wulthrein_fire(
     net: &[u8],

@@ -31,7 +31,8 @@ struct Followed {
     entry: Index,
 }
 
-// Where the firings of a record lead from node 0, and by which entry at last, or the first that is not offered. They are read one by one.
+// Fires a record from node 0, reading its transitions one by one: the node at the end and the entry of the last arc, or the first firing that is
+// not offered.
 fn follow(net: &[u32], sheet: &[u32], firings: &[u8]) -> Followed
     requires { ⌜ Readable (now net) (now sheet) ⌝ }
     ensures { λ r. ⌜ FollowedTo (petriNet (now (net .entry))) (now (sheet .entry)) (allWords (now (firings .entry))) (r .verdict) (r .node) (r .entry) ⌝ }
@@ -91,7 +92,7 @@ pub(crate) fn run(net: &[u32], sheet: &[u32], firings: &[u8], out: &mut [u8]) ->
     })
 }
 
-// ---- the minimal form, written to words first, of which there is room for the longest
+// ---- the minimal form, first written to an array of words that holds the longest one
 
 pub(crate) fn form(net: &[u32], sheet: &[u32], out: &mut [u8]) -> FormAnswer
     ensures { λ r. ⌜ Written (formCore (now (net .entry)) (now (sheet .entry))) (now (out .entry)) r (now (out .exit)) ⌝ }
@@ -110,7 +111,7 @@ pub(crate) fn form(net: &[u32], sheet: &[u32], out: &mut [u8]) -> FormAnswer
     }
 }
 
-// ---- the single firing, from the counts of the node itself: the next node, or 2,147,483,648 and the refusal's number
+// ---- the single firing, from the counts of the node itself: the next node, or 2,147,483,648 plus the refusal's number
 
 pub(crate) fn fire(net: &[u32], sheet: &[u32], node: u32, t: u32) -> u32
     ensures { λ r. ⌜ r ≡ fireNumber (now (net .entry)) (now (sheet .entry)) node t ⌝ }

@@ -1,4 +1,4 @@
--- When there are rows of a node, on any words: the sizes are in range and it is a node. On readable words there are.
+-- When a node has rows, on any words: if the sizes are in range and it is a node. On readable words every node has.
 use Rattle.scan.proofs.Basics.{ℕ, _≤_, _<_, _≡_, sym, ap, _∙_, Bool, true, not, ltb, leb, List}
 use Rattle.scan.proofs.Tests.{ltb-true, lt-ltb, leb-true, le-leb, not-true, and-left, and-right}
 use Rattle.scan.specs.Scan.{found}

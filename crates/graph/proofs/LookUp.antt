@@ -1,4 +1,4 @@
--- The entry that the look-up of an arc answers is the arc's on readable words; and where the words have an entry's value.
+-- On readable words the look-up of an arc answers the arc's entry; and at which index the words have an entry's value.
 use Rattle.scan.proofs.Basics.{ℕ, _+_, _≤_, _<_, arith, _≡_, refl, sym, _∙_, false, ltb, Option, none, some, List, length, getD}
 use native.Mathlib.Decide.{decLt}
 use lib.ListN.{List·getD-eq-default}

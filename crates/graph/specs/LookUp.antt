@@ -1,5 +1,5 @@
--- The entry of an arc that the code answers on any words: what bisection finds for the key of §3.5; nothing for a number from T on (§3.7), where 6 or 7
--- refuses the schedule, the net's sizes are out of range, or there is no such node. On readable words it is the arc's entry (proofs/LookUp).
+-- The entry of an arc that the code answers on any words: what bisection finds for the key of §3.5. It is nothing for a number from T on (§3.7), if 6 or 7
+-- refuses the schedule, if the net's sizes are out of range, or if there is no such node. On readable words it is the arc's entry (proofs/LookUp).
 use Prim.Native.Nat.{ℕ, _+_}
 use mathlib.Core.List.{List}
 use mathlib.Core.Bool.{cond}

@@ -1,4 +1,4 @@
--- Refusals 1 to 9 and 26, the words of the net and of the schedule, and what is readable: words that none of them refuses, or whose arcs none does.
+-- Refusals 1 to 9 and 26, of the words of the net and of the schedule. Readable words are those that none of these refuses; readable arcs may have any counts.
 use mathlib.Core.Path.{_≡_}
 use mathlib.Core.List.{List}
 use mathlib.Core.Bool.{Bool, cond}
@@ -20,15 +20,15 @@ use Rattle.sequential.specs.Known.{ArcsHold}
 
 -- ---- replies
 
--- the net before the words of the schedule: §7.54
+-- the check of the net, and then that of the schedule's words: §7.54
 unfoldable pub wordsReply : List ℕ → List ℕ → Verdict
 wordsReply net sheet = andThen (netReply net) (verdictOf (wordsFault (petriNet net) sheet))
 
--- the same with 9 of arcs alone
+-- the same, but 9 is asked of arcs only
 unfoldable pub arcsReply : List ℕ → List ℕ → Verdict
 arcsReply net sheet = andThen (netReply net) (verdictOf (arcWordsFault (petriNet net) sheet))
 
--- ---- both as one, for the functions that do either: with counts, or of arcs alone
+-- ---- both in one definition, for functions that do either: the first argument says whether 9 is asked of counts as well
 
 abbrev pub valueTest : Bool → List ℕ → ℕ → ℕ → Bool
 valueTest counts sheet arcs i = cond counts (valueFails sheet arcs i) (arcValueFails sheet arcs i)
@@ -39,7 +39,7 @@ faultBy counts N sheet = cond counts (wordsFault N sheet) (arcWordsFault N sheet
 abbrev pub replyBy : Bool → List ℕ → List ℕ → Verdict
 replyBy counts net sheet = cond counts (wordsReply net sheet) (arcsReply net sheet)
 
--- the values of the entries between two bounds lie from low on and below a limit
+-- the values of the entries between two bounds are at least `low` and below a limit
 abbrev pub ValuesLie : List ℕ → ℕ → ℕ → ℕ → ℕ → Type 0
 ValuesLie sheet from to low limit = (i : ℕ) → from ≤ i → i < to → (low ≤ entryValue sheet i) × (entryValue sheet i < limit)
 
@@ -57,7 +57,7 @@ pub record Sizes (net sheet : List ℕ) : Type 0 where
   pub few-arcs : nodeCount sheet * transitionCount net ≤ 4096
   pub few-keys : nodeCount sheet * (transitionCount net + placeCount net) ≤ 8192
 
--- 1 to 8 and 26 refuse nothing, and 9 no arc
+-- 1 to 8 and 26 refuse nothing, and 9 refuses no arc
 pub record ArcsReadable (net sheet : List ℕ) : Type 0 where
   pub accepted : netReply net ≡ Accepted
   pub sizes : Sizes net sheet

@@ -1,5 +1,5 @@
--- The rows of a node that the code answers on any words: what one walk along its keys finds; 0 where 6 or 7 refuses the schedule, the net's sizes
--- are out of range, or there is no such node. On readable words these are the node's marking and the entries of its arcs and counts (Demands, `RowsRight`).
+-- The rows of a node that the code answers on any words: what one walk along its keys finds. They are 0 if 6 or 7 refuses the schedule, if the net's sizes
+-- are out of range, or if there is no such node. On readable words they are the node's marking and the entries of its arcs and counts (Demands, `RowsRight`).
 use Prim.Native.Nat.{ℕ, _+_, _*_, _≤_, _<_}
 use mathlib.Core.Path.{_≡_}
 use mathlib.Core.List.{List}
@@ -17,10 +17,10 @@ use Rattle.sequential.specs.Petri.{PetriNet}
 use Rattle.sequential.specs.Words.{nodeCount, entryCount, entryWithKey, arcKeys, arcEntry}
 use Rattle.sequential.specs.Check.{shapeFault}
 
--- ---- entries as numbers, 1 plus the index, and 0 where there is none
+-- ---- entries as numbers: 1 plus the index, or 0 if there is none
 
 module _ (N : PetriNet) (sheet : List ℕ) (n : ℕ) where
-  -- the entry of what place p holds at node n: §3.6
+  -- the entry of the count of place p at node n: §3.6
   unfoldable pub countEntry : ℕ → Option ℕ
   countEntry p = cond (ltb n (nodeCount sheet) && ltb p (N .places)) (entryWithKey sheet (arcKeys N sheet + n * N .places + p)) none
 
@@ -32,15 +32,15 @@ module _ (N : PetriNet) (sheet : List ℕ) (n : ℕ) where
 
 -- ---- rows
 
--- the first key of node n's arcs (§3.5), which the page of row starts has (§3.9)
+-- the first key of node n's arcs (§3.5), as the page of row starts has it (§3.9)
 unfoldable pub arcsStart : List ℕ → ℕ → ℕ
 arcsStart net n = rowStart n (transitionCount net)
 
--- where the keys of all arcs end (§3.5), 0 where a size is out of range
+-- the key at which the keys of all arcs end (§3.5), or 0 if a size is out of range
 unfoldable pub arcsEnd : List ℕ → ℕ → ℕ
 arcsEnd net nodes = cond (leb nodes mostNodes && leb (transitionCount net) mostTransitions) (nodes * transitionCount net) 0
 
--- the first key of its counts, which follow all arcs (§3.6), 0 likewise
+-- the first key of node n's counts, which follow all arcs (§3.6), or 0 if a size is out of range
 unfoldable pub countsStart : List ℕ → ℕ → ℕ → ℕ
 countsStart net nodes n = cond (leb n mostNodes && leb (placeCount net) mostPlaces) (arcsEnd net nodes + n * placeCount net) 0
 
@@ -67,6 +67,6 @@ module _ (net sheet : List ℕ) (n : ℕ) where
   unfoldable pub arcEntryRow : List ℕ
   arcEntryRow = cond hasRow (entryRow sheet 2 (entryCount sheet) (arcsStart net n) (transitionCount net)) (replicate mostTransitions 0)
 
--- how many entries have a key before those of counts: on keys that rise, the arcs
+-- how many entries have a key below those of counts; if the keys rise, these are the arcs
 unfoldable pub arcCountReply : List ℕ → List ℕ → ℕ
 arcCountReply net sheet = cond (hasRow net sheet 0) (lowerBound sheet 2 (entryCount sheet) (countsStart net (nodeCount sheet) 0)) 0

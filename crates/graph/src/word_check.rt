@@ -16,7 +16,7 @@ use refusal::Position;
 use refusal::Refusal;
 use refusal::Verdict;
 
-// §3.2
+// Whether V and K are within their limits (§3.2).
 fn sizes_pass(nodes: u32, entries: u32) -> bool
     ensures { λ r. ⌜ r ≡ sizesPass nodes entries ⌝ }
 {
@@ -46,7 +46,7 @@ pub(crate) fn shape_fault(sheet: &[u32]) -> Verdict
     Verdict::Accepted
 }
 
-// Whether the value of entry i breaks §3.5, or, where counts are asked, §3.6.
+// Whether the value of entry i breaks §3.5 or, if `counts` is true, §3.6.
 fn value_fails(sheet: &[u32], arcs: u32, counts: bool, i: usize) -> bool
     requires { ⌜ ShapePasses (now sheet) ⌝ }
     requires { ⌜ i < entryCount (now sheet) ⌝ }
@@ -81,7 +81,7 @@ fn entry_fault(sheet: &[u32], arcs: u32, limit: u32, counts: bool, i: usize) -> 
     Verdict::Accepted
 }
 
-// Refusals 8 and 9, entry by entry where not all pass.
+// Refusals 8 and 9: one quick test of all entries, and only if that fails entry by entry.
 fn entries_fault(sheet: &[u32], arcs: u32, limit: u32, counts: bool) -> Verdict
     requires { ⌜ ShapePasses (now sheet) ⌝ }
     ensures { λ r. ⌜ r ≡ verdictOf (first (entryFault (now (sheet .entry)) limit (valueTest counts (now (sheet .entry)) arcs)) (entryCount (now (sheet .entry)))) ⌝ }
@@ -101,7 +101,7 @@ fn entries_fault(sheet: &[u32], arcs: u32, limit: u32, counts: bool) -> Verdict
     Verdict::Accepted
 }
 
-// Refusals 6 to 9, 9 of counts too or of arcs alone.
+// Refusals 6 to 9. `counts` says whether 9 is asked of counts as well as of arcs.
 pub(crate) fn words_fault(net: &[u32], sheet: &[u32], counts: bool) -> Verdict
     requires { ⌜ netReply (now net) ≡ Accepted ⌝ }
     ensures { λ r. ⌜ r ≡ verdictOf (faultBy counts (petriNet (now (net .entry))) (now (sheet .entry))) ⌝ }

@@ -1,5 +1,5 @@
-// Whether all entries of a schedule's words pass 8 and 9. No test leaves a loop, so that each goes by several words at once; which entry fails, and
-// by what, is left to the check that goes by entries.
+// Whether all entries of a schedule's words pass 8 and 9. The loops have no early exit, so that each tests several words at once. Which entry fails, and
+// by which refusal, is found by the slower check entry by entry.
 ghost use mathlib.Core.Path.{_≡_};
 ghost use mathlib.Core.Bool.{true};
 ghost use mathlib.Core.Option.{none};
@@ -39,7 +39,7 @@ fn lies(value: u32, low: u32, limit: u32) -> bool
     value < limit
 }
 
-// Whether the values of the entries between two bounds lie from low on and below a limit: §3.5, §3.6.
+// Whether the values of the entries from `from` to before `to` are at least `low` and below a limit: §3.5, §3.6.
 fn values_lie(sheet: &[u32], from: usize, to: usize, low: u32, limit: u32) -> bool
     requires { ⌜ ShapePasses (now sheet) × (to ≤ entryCount (now sheet)) ⌝ }
     ensures { λ r. ⌜ (r ≡ true → ValuesLie (now (sheet .entry)) from to low limit) ⌝ }
@@ -56,7 +56,7 @@ fn values_lie(sheet: &[u32], from: usize, to: usize, low: u32, limit: u32) -> bo
     lie
 }
 
-// Where the keys rise, the last is the greatest, and the arcs come first.
+// If the keys rise, it is enough to compare the last one with the limit; and the arcs come first.
 pub(crate) fn entries_pass(sheet: &[u32], arcs: u32, limit: u32, counts: bool) -> bool
     requires { ⌜ ShapePasses (now sheet) ⌝ }
     ensures { λ r. ⌜ (r ≡ true → first (entryFault (now (sheet .entry)) limit (valueTest counts (now (sheet .entry)) arcs)) (entryCount (now (sheet .entry))) ≡ none) ⌝ }

@@ -1,4 +1,4 @@
--- An accepted schedule is readable; 1 to 17, with 26 and 27, one after the other, and the await nodes of what is accepted.
+-- An accepted schedule is readable; refusals 1 to 17, 26 and 27 in their order, and the await nodes of an accepted schedule.
 use Rattle.scan.proofs.Basics.{ℕ, arith, _≡_, refl, subst, sym, ap, _∙_, ltb, Option, none, some, List}
 use Rattle.scan.proofs.Tests.{le-ltb}
 use Rattle.scan.specs.Scan.{orElse, first, count}

@@ -22,12 +22,12 @@ abbrev pub checkAnswer : Verdict → Counts → CheckAnswer
 checkAnswer Accepted numbers = Passed numbers
 checkAnswer (Refused r) numbers = Failed r
 
--- number, kind, position, nodes, arcs, await nodes (§8.1); the last three 0 where refused (§8.3)
+-- number, kind, position, nodes, arcs, await nodes (§8.1); the last three are 0 if refused (§8.3)
 abbrev pub plainCheck : CheckAnswer → List ℕ
 plainCheck (Passed c) = 0 ∷ 0 ∷ 0 ∷ c .nodes ∷ c .arcs ∷ c .awaits ∷ []
 plainCheck (Failed r) = told r 3
 
--- ---- what both functions stand on: the verdict, and marks at the await nodes of what is accepted
+-- ---- what both public functions are built on: the verdict, and marks at the await nodes of an accepted schedule
 
 pub record Judged (net : List ℕ) (s : ℕ) (sheet : List ℕ) (answer : NodesAnswer) : Type 0 where
   pub reply : answer .verdict ≡ taskReply net s sheet

@@ -1,4 +1,4 @@
--- The paths of the call's code that come after what is measured: a buffer is too short, or both are written.
+-- The paths of the call's code after measuring: a buffer is too short, or both results are written.
 use Rattle.scan.proofs.Basics.{ℕ, _+_, _*_, _≤_, arith, _≡_, refl, sym, ap, _∙_, List, length, length-append}
 use Rattle.scan.specs.Placed.{placed}
 use Rattle.scan.proofs.Placed.{placed-front}

@@ -1,4 +1,4 @@
--- The checks in their order, and what they and the places' counts say of 25.
+-- The checks in their order, and how they and the counts of the places decide 25.
 use Rattle.scan.proofs.Basics.{ℕ, _-_, _≤_, _<_, arith, _≡_, refl, sym, ap, _∙_, true, not, ltb, Option, none, some, List, length, getD}
 use Rattle.scan.proofs.Tests.{le-leb, eq-eqb, not-false, not-true→false, and-both}
 use Rattle.scan.specs.Scan.{orElse, when, first}

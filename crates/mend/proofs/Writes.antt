@@ -1,4 +1,4 @@
--- What is written: words that are copied, and the rows of a part, which are those of the counts that the arcs force and of what changes.
+-- What is written: words that are copied, and the rows of a part, which are the counts that the arcs force, or their changes.
 use Rattle.scan.proofs.Basics.{ℕ, zero, suc, _+_, _-_, _*_, _≤_, _<_, arith, _≡_, refl, sym, ap, _∙_, not, ltb, eqb, Option, List, [], _∷_, _++_, length, getD, length-append}
 use native.Mathlib.Numerals.{add-one}
 use mathlib.Core.Bool.{and-false}

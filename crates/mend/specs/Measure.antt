@@ -19,14 +19,14 @@ use Rattle.mend.specs.Rows.{Mendable}
 use Rattle.mend.specs.Writing.{partOf, entriesOf}
 use Rattle.mend.specs.declared.writer.Part.the-variants.{Changes}
 
--- all that is asked before the counts: §7.62
+-- all checks before those of the counts: §7.62
 unfoldable pub arcsVerdict : List ℕ → List ℕ → Verdict
 arcsVerdict net sheet =
     let N = petriNet net in
     andThen (arcsReply net sheet) (verdictOf (orElse (orElse (first (nodeFault N sheet) (nodeCount sheet)) (rootFault N sheet))
     (orElse (first (reachFault N sheet) (nodeCount sheet)) (first (returnFault N sheet) (nodeCount sheet)))))
 
--- where nothing is refused
+-- what is known if nothing is refused
 pub record Ready (net sheet finder : List ℕ) (entries changes : ℕ) : Type 0 where
   pub mendable : Mendable net sheet finder
   pub entries-are : entries ≡ entriesOf net sheet

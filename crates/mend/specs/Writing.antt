@@ -22,7 +22,7 @@ use Rattle.mend.specs.declared.writer.Part.the-variants.{Counts, Changes
 unfoldable pub copied : List ℕ → ℕ → ℕ → ℕ
 copied words from i = getD words (from + i) 0
 
--- ---- a row as the code has it: at each place a number above 0 where there is an entry
+-- ---- a row as the code has it: for each place a number, which is above 0 exactly if there is an entry
 
 -- 1 more than a count that changes, 0 for one that does not
 unfoldable pub changedNumber : ℕ → ℕ → ℕ
@@ -32,7 +32,7 @@ unfoldable pub changedCell : List ℕ → List ℕ → ℕ → ℕ
 changedCell row given p = changedNumber (getD row p 0) (getD given p 0)
 
 module _ (net sheet : List ℕ) where
-  -- node n's, in a part: the keys of counts come behind those of all arcs (§3.6), the keys of changes from 0 on (§10.16)
+  -- the row of node n in a part: keys of counts follow those of all arcs (§3.6), keys of changes begin at 0 (§10.16)
   abbrev pub partRow : Part → ℕ → Row
   partRow Counts n = record { first = countsStart net (nodeCount sheet) n; cells = rowOf (petriNet net) sheet n }
   partRow Changes n = record {
@@ -49,7 +49,7 @@ module _ (net sheet : List ℕ) where
   abbrev pub partOf : Part → Section → List ℕ
   partOf part section = partTo part section (nodeCount sheet)
 
-  -- the keys of the mended schedule, or its values, those of arcs from an index of the words on
+  -- the keys of the mended schedule, or its values; those of the arcs are copied from an index of the words on
   unfoldable pub halfOf : ℕ → Section → List ℕ
   halfOf from section = tabulate (copied sheet from) (arcCount (petriNet net) sheet) ++ partOf Counts section
 

@@ -1,4 +1,4 @@
-// The call that mends a schedule (§10.14): the counts are worked out by firing from the root, and what changes is listed.
+// The call that mends a schedule (§10.14): it computes the counts anew by firing from the root, and lists those that change.
 mod arcs;
 mod measure;
 mod places;

@@ -1,4 +1,4 @@
-// What mending finds out before it writes: the checks in their order, and how many words both results have.
+// What mending works out before it writes: the checks in their order, and the lengths of both results.
 ghost use mathlib.Core.Path.{_≡_};
 ghost use Rattle.refusal.specs.Refusal.{refusal};
 ghost use Rattle.refusal.specs.declared.Position.the-variants.{Nothing};
@@ -19,7 +19,7 @@ pub(crate) struct Measure {
     pub changes: usize,
 }
 
-// Refusals 1 to 9 and 26, 9 of arcs alone, 11 to 13, 16 and 17.
+// Refusals 1 to 9 and 26 (9 asked of arcs only), then 11 to 13, 16 and 17.
 fn checked(net: &[u32], sheet: &[u32]) -> Verdict
     ensures { λ r. ⌜ r ≡ arcsVerdict (now (net .entry)) (now (sheet .entry)) ⌝ }
 {

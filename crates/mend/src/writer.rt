@@ -1,4 +1,4 @@
-// The words of the mended schedule and of the list of changes: the keys of a part, then its values, row by row.
+// The words of the mended schedule and of the list of changes: first the keys, then the values, each row by row.
 ghost use mathlib.Core.Path.{_≡_};
 ghost use Prim.Native.Nat.{ℕ, _+_, _≤_, _<_};
 ghost use lib.ListN.{length, getD};
@@ -16,13 +16,13 @@ use super::rows;
 use encoding::Row;
 use encoding::Section;
 
-// What is told of the nodes: their counts, or those that change.
+// Which counts of the nodes are written: all, or only those that change.
 pub(crate) enum Part {
     Counts,
     Changes,
 }
 
-// Writes so many words of the schedule from an index on.
+// Copies n words of the schedule from index `from` to index `at` of the buffer, and answers the index after them.
 fn copy(sheet: &[u32], from: usize, n: usize, out: &mut [u32], at: usize) -> usize
     requires { ⌜ from + n ≤ length (now sheet) ⌝ }
     ensures { λ r. ⌜ Appended (now (out .entry)) at (tabulate (copied (now (sheet .entry)) from) n) r (now (out .exit)) ⌝ }
@@ -59,7 +59,7 @@ fn changed_cells(row: [u32; 32], given: [u32; 32]) -> [u32; 32]
     cells
 }
 
-// Node n's row in a part, by its counts. The keys of counts come behind those of all arcs, the keys of changes from 0 on.
+// The row of node n in a part, given its counts. Keys of counts follow the keys of all arcs; keys of changes begin at 0.
 fn part_row(net: &[u32], sheet: &[u32], part: Part, n: u32, counts: [u32; 32]) -> Row
     requires { ⌜ Fitting (now net) (now sheet) ⌝ }
     requires { ⌜ KnownRow (now net) (now sheet) n n counts ⌝ }
@@ -136,7 +136,7 @@ fn write_part(
     next
 }
 
-// Writes the keys of the mended schedule, or its values: those of the arcs as they stand from an index on, then those of the counts.
+// Writes the keys of the mended schedule, or its values: those of the arcs, copied from an index on, then those of the counts.
 fn write_half(
     net: &[u32],
     sheet: &[u32],

@@ -1,4 +1,4 @@
--- What looks at nodes and arcs alone: following a list, the clauses of a schedule that speak of arcs, the routes, and with them the worked-out counts.
+-- What depends only on nodes and arcs: following a list, the clauses of a schedule about arcs, the routes, and so the counts worked out along them.
 use Rattle.scan.proofs.Basics.{ℕ, zero, suc, _-_, _≡_, refl, sym, ap, subst, _∙_, cond, ltb, Option, none, Option·getD, List, [], _∷_, getD}
 use Rattle.scan.specs.Scan.{found, foundOr, tabulate}
 use Rattle.automaton.specs.Automaton.{Automaton, follow, allows}

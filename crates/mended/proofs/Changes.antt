@@ -1,4 +1,4 @@
--- The list of changes: exactly the counts that differ, by rising key; none where none does.
+-- The list of changes: exactly the counts that differ, by rising key; it is empty if none does.
 use Rattle.scan.proofs.Basics.{ℕ, zero, suc, _+_, _*_, _≤_, _<_, arith, _≡_, refl, sym, ap, _∙_, _↔_, true, false, not, Option, none, some, List, [], _∷_, _++_, length, getD, length-append}
 use lib.ListN.{List·getD-append}
 use lib.Seq.{getD-append-add}

@@ -1,4 +1,4 @@
--- Mending as an instance of what every call is: how its words are judged, what they hold that pass, and how long its results are.
+-- Mending as an instance of what holds of every call: the checks of its words, what is known of words that pass, and how long its results are.
 use Rattle.scan.proofs.Basics.{ℕ, _+_, _*_, _≤_, _<_, arith, _≡_, refl, true, List, [], _∷_, _++_, length}
 use native.Mathlib.Nat.{mul-le-mul}
 use Rattle.refusal.specs.Limits.{mostEntries}

@@ -1,4 +1,4 @@
--- Counts fit exactly where some schedule has these arcs, and then the mended words are the only ones that do; so the tests decide the checks.
+-- Counts fit exactly if some schedule has these arcs, and then the mended words are the only such schedule; so the tests decide the checks.
 use Rattle.scan.proofs.Basics.{ℕ, _<_, arith, _≡_, refl, sym, ap, subst, _∙_, _↔_, true, not, List, _++_}
 use Rattle.scan.specs.Scan.{orElse, when, first}
 use Rattle.scan.proofs.Tests.{decides-not}

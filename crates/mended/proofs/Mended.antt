@@ -1,4 +1,4 @@
--- The mended graph: a schedule where the counts fit, and the only one with these arcs.
+-- The mended graph is a schedule if the counts fit, and the only one with these arcs.
 use Rattle.scan.proofs.Basics.{ℕ, _≤_, _<_, _≡_, refl, sym, ap, _∙_, true, ltb, some, List, [], length, getD}
 use Rattle.scan.proofs.Tests.{ltb-true, ltb-false, lt-ltb, le-ltb, leb-true, le-leb, eqb-true, eq-eqb, byTest, and-left, and-right, and-both}
 use Rattle.scan.specs.Scan.{all}

@@ -13,6 +13,6 @@ pub record SameArcs (A B : Automaton) : Type 0 where
   pub transitions : A .transitions ≡ B .transitions
   pub arcs : (n t : ℕ) → A .arc n t ≡ B .arc n t
 
--- some counts fit: words that pass every check of a schedule, the limits included, say the same arcs (§7.25)
+-- some counts fit: there are words with the same arcs that pass every check of a schedule, the limits included (§7.25)
 abbrev pub CountsExist : PetriNet → List ℕ → Type 0
 CountsExist N sheet = (other : List ℕ) × AllPass (sheetChecks N other) × SameArcs (graph N sheet) (graph N other)

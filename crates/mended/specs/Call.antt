@@ -23,11 +23,11 @@ mendCore net sheet = record {
   results = mendedWords net sheet ∷ changes net sheet ∷ [];
 }
 
--- without scratch
+-- the postcondition without scratch
 abbrev pub MendWritten : List ℕ → List ℕ → List ℕ → List ℕ → MendAnswer → List ℕ → List ℕ → Type 0
 MendWritten net sheet out list r out′ list′ = WordsDone (mendCore net sheet) (out ∷ list ∷ []) r (out′ ∷ list′ ∷ [])
 
--- under any limit of scratch
+-- the postcondition under any limit of scratch
 abbrev pub MendWithinDone : ℕ → List ℕ → List ℕ → List ℕ → List ℕ → List ℕ → MendAnswer → List ℕ → List ℕ → List ℕ → Type 0
 MendWithinDone limit net sheet out list scratch r out′ list′ scratch′ =
     CallDone limit (mendCore net sheet) (out ∷ list ∷ []) scratch r (out′ ∷ list′ ∷ []) scratch′
@@ -35,7 +35,7 @@ MendWithinDone limit net sheet out list scratch r out′ list′ scratch′ =
 abbrev pub MendDone : List ℕ → List ℕ → List ℕ → List ℕ → List ℕ → MendAnswer → List ℕ → List ℕ → List ℕ → Type 0
 MendDone = MendWithinDone scratchLimit
 
--- number, kind, position, both lengths (§8.1), which are 0 where refused (§8.3)
+-- number, kind, position, both lengths (§8.1), which are 0 if refused (§8.3)
 abbrev pub plainMend : MendAnswer → List ℕ
 plainMend (Written l) = 0 ∷ 0 ∷ 0 ∷ l .sheet ∷ l .list ∷ []
 plainMend (Refused r) = told r 2

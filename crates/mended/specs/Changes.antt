@@ -12,14 +12,14 @@ use Rattle.encoding.specs.Encoding.{gatherRows}
 use Rattle.mended.specs.Counts.{newCount}
 
 module _ (N : PetriNet) (sheet : List ℕ) where
-  -- the new count is unlike the value given, 0 where none is
+  -- the new count differs from the given one, which is 0 if none is given
   unfoldable pub changed : ℕ → ℕ → Bool
   changed n p = not (eqb (newCount N (graph N sheet) n p) (countAt N sheet n p))
 
   unfoldable pub changedKey : ℕ → ℕ → Option ℕ
   changedKey n p = when (changed n p) (n * N .places + p)
 
-  -- 0 is told too
+  -- the new count of a change, which may be 0
   unfoldable pub changedCount : ℕ → ℕ → Option ℕ
   changedCount n p = when (changed n p) (newCount N (graph N sheet) n p)
 

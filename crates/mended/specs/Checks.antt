@@ -11,7 +11,7 @@ use Rattle.sequential.specs.Checks.{arcWordChecks}
 use Rattle.mended.specs.Arcs.{CountsExist}
 
 module _ (N : PetriNet) (sheet : List ℕ) where
-  -- §7.11 to §7.13, §7.16 and §7.17 ask of arcs alone, and so does §7.25
+  -- §7.11 to §7.13, §7.16, §7.17 and §7.25: these checks look at arcs only
   abbrev pub arcChecks : List Check
   arcChecks =
       each (nodeCount sheet) Node ((λ n. (t : ℕ) × Offers N (graph N sheet) n t) else 11 ∷ OneChoiceSet N (graph N sheet) else 12 ∷ [])
@@ -21,6 +21,6 @@ module _ (N : PetriNet) (sheet : List ℕ) where
       ∷ once (CountsExist N sheet) 25
       ∷ []
 
-  -- before them the words, §7.9 of arcs alone
+  -- first the checks of the words, with §7.9 asked of arcs only, then those
   abbrev pub mendChecks : List Check
   mendChecks = arcWordChecks N sheet ++ arcChecks

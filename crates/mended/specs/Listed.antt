@@ -1,4 +1,4 @@
--- What a list of changes says (§10.16), of the counts given and the mended ones.
+-- What a list of changes says (§10.16) about the given and the mended counts.
 use Prim.Native.Nat.{ℕ, _+_, _*_, _<_}
 use mathlib.Core.Path.{_≡_}
 use mathlib.Core.Logic.{_↔_}
@@ -14,7 +14,7 @@ pub record Listed (list : List ℕ) (k v : ℕ) : Type 0 where
   pub key : getD list (1 + index) 0 ≡ k
   pub value : getD list (1 + getD list 0 0 + index) 0 ≡ v
 
--- v is the mended count of a place at a node, k is their key, and v is not what was given, absent being 0
+-- v is the mended count of a place at a node, k is the key of place and node, and v differs from the given count, which is 0 if absent
 pub record Changed (N : PetriNet) (given mended : List ℕ) (k v : ℕ) : Type 0 where
   pub node : ℕ
   pub place : ℕ

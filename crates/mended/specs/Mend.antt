@@ -1,4 +1,4 @@
--- Mending, as a computation: for each clause of `mendChecks` the test that it fails, what they find, and the mended schedule (§10.14).
+-- Mending as a computation: for each clause of `mendChecks` a test that it fails, what these tests find, and the mended schedule (§10.14).
 use Prim.Native.Nat.{ℕ, _-_}
 use mathlib.Core.List.{List, [], _∷_}
 use mathlib.Core.Bool.{not}
@@ -32,7 +32,7 @@ module _ (N : PetriNet) (sheet : List ℕ) where
   unfoldable pub arcsFault : Option Refusal
   arcsFault = finding (arcChecks N sheet) arcTests
 
-  -- 6 to 9, and then these
+  -- 6 to 9, and then the faults of the arcs
   unfoldable pub mendFault : Option Refusal
   mendFault = orElse (arcWordsFault N sheet) arcsFault
 
@@ -40,6 +40,6 @@ module _ (N : PetriNet) (sheet : List ℕ) where
 unfoldable pub mendVerdict : List ℕ → List ℕ → Verdict
 mendVerdict net sheet = andThen (netReply net) (verdictOf (mendFault (petriNet net) sheet))
 
--- these arcs with the worked-out counts, as words (§11.6)
+-- the words (§11.6) of the given arcs with the counts worked out
 unfoldable pub mendedWords : List ℕ → List ℕ → List ℕ
 mendedWords net sheet = encode (petriNet net) (mendedGraph (petriNet net) (graph (petriNet net) sheet))

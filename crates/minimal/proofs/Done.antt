@@ -1,4 +1,4 @@
--- The call as an instance of what every call is; and that what asks for words that can be read alone does the same for a schedule.
+-- The call as an instance of what holds of every call; and the function that asks only for readable words does the same for a schedule.
 use Rattle.scan.proofs.Basics.{ℕ, _≡_, refl, ap, _∙_, List, [], _∷_, _++_, length}
 use Rattle.net.specs.Check.{netReply}
 use Rattle.net.specs.Checks.{netChecks}

@@ -1,4 +1,4 @@
--- The minimal form of an accepted sheet: its graph is the minimal automaton, it is accepted, and two are equal exactly where the roots allow the same lists.
+-- The minimal form of an accepted sheet: its graph is the minimal automaton, it is accepted, and two forms are equal exactly if the roots allow the same lists.
 -- ---- a schedule that a sheet can say
 use Rattle.scan.proofs.Basics.{ℕ, _+_, _*_, _≤_, _<_, arith, _≡_, refl, sym, ap, subst, _∙_, _↔_, List, length}
 use Rattle.automaton.specs.Automaton.{Automaton, Closed, SameLists}

@@ -19,7 +19,7 @@ formCore net sheet = record {
   results = minimalForm net sheet ∷ [];
 }
 
--- the same of words that can be read, whether they are a schedule or not: only 1 to 9 and 26 are asked
+-- the same for readable words, whether they are a schedule or not: only 1 to 9 and 26 are asked
 abbrev pub readCore : List ℕ → List ℕ → Core FormAnswer
 readCore net sheet = record {
   verdict = wordsReply net sheet;
@@ -31,18 +31,18 @@ readCore net sheet = record {
 abbrev pub FormOf : List ℕ → List ℕ → List ℕ → FormAnswer → List ℕ → Type 0
 FormOf net sheet out r out′ = WordsDone (readCore net sheet) (out ∷ []) r (out′ ∷ [])
 
--- without scratch
+-- the postcondition without scratch
 abbrev pub FormWritten : List ℕ → List ℕ → List ℕ → FormAnswer → List ℕ → Type 0
 FormWritten net sheet out r out′ = WordsDone (formCore net sheet) (out ∷ []) r (out′ ∷ [])
 
--- under any limit of scratch
+-- the postcondition under any limit of scratch
 abbrev pub FormWithinDone : ℕ → List ℕ → List ℕ → List ℕ → List ℕ → FormAnswer → List ℕ → List ℕ → Type 0
 FormWithinDone limit net sheet out scratch r out′ scratch′ = CallDone limit (formCore net sheet) (out ∷ []) scratch r (out′ ∷ []) scratch′
 
 abbrev pub FormDone : List ℕ → List ℕ → List ℕ → List ℕ → FormAnswer → List ℕ → List ℕ → Type 0
 FormDone = FormWithinDone scratchLimit
 
--- number, kind, position, the length (§8.1), which is 0 where refused (§8.3)
+-- number, kind, position, the length (§8.1), which is 0 if refused (§8.3)
 abbrev pub plainForm : FormAnswer → List ℕ
 plainForm (Written n) = 0 ∷ 0 ∷ 0 ∷ n ∷ []
 plainForm (Refused r) = told r 1

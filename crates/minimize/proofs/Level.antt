@@ -1,4 +1,4 @@
--- Level rows: where two nodes have arcs by the same transitions, their entries go in step, and the rows agree where the targets do, entry by entry.
+-- Level rows: if two nodes have arcs by the same transitions, their entries correspond one by one, and the rows agree if the targets do, entry by entry.
 use Rattle.scan.proofs.Basics.{ℕ, zero, suc, _+_, _-_, _≤_, _<_, arith, _≡_, refl, sym, ap, _∙_, Bool, true, false, cond, none, some, List, length, getD}
 use native.Mathlib.Nat.{add-zero, add-assoc, suc-mul}
 use native.Mathlib.Numerals.{add-one}

@@ -1,4 +1,4 @@
--- The minimal forms of two schedules of a net, in two buffers: what is made of words that can be read, and what is measured before it is written.
+-- The minimal forms of two schedules of a net, in two buffers: what the call makes of its words, and what it measures before it writes.
 use Prim.Native.Nat.{ℕ}
 use mathlib.Core.List.{List, [], _∷_}
 use lib.ListN.{length}
@@ -11,7 +11,7 @@ use Rattle.minimize.specs.declared.both.Measure.{Measure}
 use Rattle.minimize.specs.declared.FormsAnswer.{FormsAnswer}
 use Rattle.minimize.specs.declared.FormsAnswer.the-variants.{Written, Refused}
 
--- the words of the first are asked before those of the second; only 1 to 9 and 26 are
+-- the words of the first are checked before those of the second; only 1 to 9 and 26 are asked
 abbrev pub bothCore : List ℕ → List ℕ → List ℕ → Core FormsAnswer
 bothCore net first second = record {
   verdict = andThen (wordsReply net first) (wordsReply net second);

@@ -21,11 +21,11 @@ pub record LeadersBy (r : ℕ → ℕ → Bool) (entries : ℕ) (classes : List 
 unfoldable pub rowsAlike : Automaton → Bool → (ℕ → ℕ) → ℕ → ℕ → Bool
 rowsAlike A counts class n m = cond counts (sameIn A 0 n m) (all (agree A (sameClass class) n m) (A .transitions))
 
--- one class, and rows that agree: what a round leaves together
+-- nodes that a round leaves together: they have the same class, and their rows agree
 unfoldable pub split : Automaton → Bool → (ℕ → ℕ) → ℕ → ℕ → Bool
 split A counts class n m = sameClass class n m && rowsAlike A counts class n m
 
--- what a round reads: where the rows start, and a table whose classes are known by their least nodes; of a level round, that the nodes of a class
+-- what a round relies on: the entries at which rows start, and a table in which each class is known by its least node; in a level round the nodes of a class
 -- have arcs by the same transitions
 pub record Round (net sheet starts classes : List ℕ) (counts level : Bool) : Type 0 where
   pub of : StartsOf net sheet counts starts
@@ -36,12 +36,12 @@ pub record Round (net sheet starts classes : List ℕ) (counts level : Bool) : T
   pub offers : level ≡ true → (m n : ℕ) → m < nodeCount sheet → n < nodeCount sheet → classIn classes m ≡ classIn classes n
       → SameOffers (graph (petriNet net) sheet) m n
 
--- a round that has come to node n: the nodes before it have their new classes
+-- a round that has come to node n: the lower nodes have their new classes
 pub record RoundAt (net sheet classes next : List ℕ) (counts : Bool) (n : ℕ) : Type 0 where
   pub node : n < nodeCount sheet
   pub led : LeadersBy (split (graph (petriNet net) sheet) counts (classIn classes)) n next
 
--- node j is of a class, and the least of its new one
+-- node j is in class `class`, and is the least node of its new class
 abbrev pub LeastIn : List ℕ → List ℕ → ℕ → ℕ → Type 0
 LeastIn classes next class j = (classIn classes j ≡ class) × (classIn next j ≡ j)
 
@@ -52,6 +52,6 @@ pub record NextLeast (classes next : List ℕ) (class k n r : ℕ) : Type 0 wher
   pub is : r < n → classIn classes r ≡ class
   pub skips : (j : ℕ) → k ≤ j → j < r → LeastIn classes next class j → ⊥
 
--- node n has one class in both tables
+-- node n has the same class in both tables
 unfoldable pub sameEntry : List ℕ → List ℕ → ℕ → Bool
 sameEntry a b n = eqb (classIn a n) (classIn b n)

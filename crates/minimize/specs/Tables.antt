@@ -1,4 +1,4 @@
--- What the tables hold that the functions hand to each other. No contract of a public function cites it.
+-- The contents of the tables that the functions hand to each other. No contract of a public function cites it.
 use Prim.Native.Nat.{ℕ, _≤_, _<_}
 use mathlib.Core.Path.{_≡_}
 use mathlib.Core.List.{List}
@@ -17,12 +17,12 @@ use Rattle.minimize.specs.declared.numbering.Numbers.{Numbers}
 unfoldable pub classIn : List ℕ → ℕ → ℕ
 classIn classes n = getD classes n 0
 
--- a table of classes: two nodes have one entry exactly where they are to become one
+-- a table of classes: two nodes have the same entry exactly if they are to become one
 pub record Classes (A : Automaton) (classes : List ℕ) : Type 0 where
   pub low : (n : ℕ) → n < A .nodes → classIn classes n < A .nodes
   pub right : (n m : ℕ) → n < A .nodes → m < A .nodes → sameClass (classIn classes) n m ≡ same A n m
 
--- the minimal form's nodes of words that can be read: the nodes that stand for them, so many, and the new number of each node that an arc of theirs leads to
+-- the nodes of the minimal form, for readable words: the old nodes that stand for them, how many there are, and the new number of each node to which an arc leads
 pub record NewNodes (net sheet : List ℕ) (new : Numbers) : Type 0 where
   pub readable : Readable net sheet
   pub size : minimal (graph (petriNet net) sheet) .nodes ≡ new .found

@@ -27,7 +27,7 @@ fn measured(net: &[u32], sheet: &[u32]) -> Measure
     Measure { new, entries }
 }
 
-// Both forms of words that can be read.
+// Writes both forms; the words have passed the checks that make them readable.
 pub(crate) fn written(
     net: &[u32],
     first: &[u32],

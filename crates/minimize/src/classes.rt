@@ -1,5 +1,5 @@
-// Classes of equivalent nodes (§11.3): nodes with equal counts, refined round by round by where their arcs lead, each class known by its
-// least node.
+// Classes of equivalent nodes (§11.3). They begin as the nodes with equal counts; each round splits them by the classes to which their arcs lead. A class
+// is known by its least node.
 ghost use mathlib.Core.Path.{_≡_};
 ghost use Prim.Native.Nat.{_+_, _*_, _≤_};
 ghost use lib.ListN.{length};
@@ -12,7 +12,7 @@ ghost use Rattle.minimize.specs.Tables.{classIn, Classes};
 ghost use Rattle.minimize.specs.Agree.{hasKey, valuesAgree, keysAgree, Valued, Rows, rowKey, rowWidth, StartsOf, targetsAgree, LevelRows, TwoRows};
 ghost use Rattle.minimize.specs.Leaders.{LeadersBy, rowsAlike, split, Round, RoundAt, NextLeast, sameEntry};
 
-// Whether there is an entry i and it has a key.
+// Whether there is an entry i, and its key is `key`.
 fn has_key(sheet: &[u32], i: usize, key: u32) -> bool
     requires { ⌜ length (now sheet) ≡ 2 + 2 * entryCount (now sheet) ⌝ }
     ensures { λ r. ⌜ r ≡ hasKey (now (sheet .entry)) i key ⌝ }
@@ -38,8 +38,8 @@ fn values_agree(sheet: &[u32], classes: &[u8], counts: bool, i: usize, j: usize)
     classes[v as usize] == classes[w as usize]
 }
 
-// Whether two rows of a width agree key by key: both keys have entries whose values agree, or neither has one. The rows go from keys a and b
-// on, and start at entries i and j.
+// Whether two rows of a width agree key by key: either both keys have entries, whose values agree, or neither has one. The rows begin at keys a and b
+// and at entries i and j.
 fn rows_agree(
     sheet: &[u32],
     classes: &[u8],
@@ -73,7 +73,7 @@ fn rows_agree(
     true
 }
 
-// Whether so many arcs from entries i and j on lead into one class each.
+// Whether `size` arcs from entry i on lead, one by one, into the same classes as those from entry j on.
 fn targets_agree(sheet: &[u32], classes: &[u8], size: usize, i: usize, j: usize) -> bool
     requires { ⌜ LevelRows (now sheet) (now classes) size i j ⌝ }
     ensures { λ r. ⌜ r ≡ all (targetsAgree (now (sheet .entry)) (now (classes .entry)) i j) size ⌝ }
@@ -88,7 +88,7 @@ fn targets_agree(sheet: &[u32], classes: &[u8], size: usize, i: usize, j: usize)
     true
 }
 
-// The first key of node n's row.
+// The first key of node n's row, of its counts or of its arcs.
 pub(crate) fn first_key(net: &[u32], sheet: &[u32], counts: bool, n: u32) -> u32
     requires { ⌜ Readable (now net) (now sheet) ⌝ }
     ensures { λ r. ⌜ r ≡ rowKey (now (net .entry)) (now (sheet .entry)) counts n ⌝ }
@@ -99,7 +99,7 @@ pub(crate) fn first_key(net: &[u32], sheet: &[u32], counts: bool, n: u32) -> u32
     graph::arcs_start(net, n)
 }
 
-// How many keys a row has.
+// How many keys a row of counts or of arcs has.
 pub(crate) fn row_width(net: &[u32], counts: bool) -> u32
     ensures { λ r. ⌜ r ≡ rowWidth (now (net .entry)) counts ⌝ }
 {
@@ -126,7 +126,7 @@ fn starts_of(net: &[u32], sheet: &[u32], counts: bool) -> [u16; 128]
     starts
 }
 
-// Whether the rows of n and m agree. Of level rows, which have the same transitions, only the targets are compared.
+// Whether the rows of n and m agree. `level` says that both have arcs by the same transitions, so that only the targets need be compared.
 fn nodes_agree(
     net: &[u32],
     sheet: &[u32],
@@ -152,7 +152,7 @@ fn nodes_agree(
     rows_agree(sheet, classes, counts, width, a, b, i, j)
 }
 
-// The first node from k on and before n that is of a class and is the least of its new one; n where there is none.
+// The first node from k on and below n that is in class `class` and is the least of its new class; n if there is none.
 fn next_least(classes: &[u8; 128], next: &[u8; 128], class: u8, k: u32, n: u32) -> u32
     requires { ⌜ (k ≤ n) × (n ≤ 128) ⌝ }
     ensures { λ r. ⌜ NextLeast (now (classes .entry)) (now (next .entry)) class k n r ⌝ }
@@ -170,7 +170,7 @@ fn next_least(classes: &[u8; 128], next: &[u8; 128], class: u8, k: u32, n: u32) 
     n
 }
 
-// The least node of n's class whose row agrees with n's: the least of the old class, or one that is the least of its new class.
+// The least node of n's class whose row agrees with n's. It is enough to try the least node of the old class and the least nodes of the new classes.
 fn leader(
     net: &[u32],
     sheet: &[u32],
@@ -219,7 +219,7 @@ fn round(
     next
 }
 
-// Whether two tables have equal entries for the nodes. No test leaves the loop, so that it goes by several entries at once.
+// Whether two tables have equal entries for the nodes. The loop has no early exit, so that several entries are compared at once.
 fn same_tables(a: &[u8; 128], b: &[u8; 128], nodes: usize) -> bool
     requires { ⌜ nodes ≤ 128 ⌝ }
     ensures { λ r. ⌜ r ≡ all (sameEntry (now (a .entry)) (now (b .entry))) nodes ⌝ }
@@ -236,7 +236,7 @@ fn same_tables(a: &[u8; 128], b: &[u8; 128], nodes: usize) -> bool
     same
 }
 
-// A table of classes in which two nodes have one entry exactly where they are equivalent.
+// The table of classes: two nodes have the same entry exactly if they are equivalent.
 pub(crate) fn classes(net: &[u32], sheet: &[u32]) -> [u8; 128]
     requires { ⌜ Readable (now net) (now sheet) ⌝ }
     ensures { λ r. ⌜ Classes (graph (petriNet (now (net .entry))) (now (sheet .entry))) r ⌝ }

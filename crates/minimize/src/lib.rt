@@ -20,13 +20,13 @@ pub struct FormLengths {
     pub second: usize,
 }
 
-// What is answered for two forms: the lengths of what was written, or a refusal.
+// The answer for two forms: the lengths of what was written, or a refusal.
 pub enum FormsAnswer {
     Written(FormLengths),
     Refused(Refusal),
 }
 
-// The minimal form of words that can be read.
+// The minimal form of words that 1 to 9 and 26 let pass.
 fn written(net: &[u32], sheet: &[u32], out: &mut [u32]) -> FormAnswer
     requires { ⌜ wordsReply (now net) (now sheet) ≡ Accepted ⌝ }
     ensures { λ r. ⌜ FormOf (now (net .entry)) (now (sheet .entry)) (now (out .entry)) r (now (out .exit)) ⌝ }
@@ -36,7 +36,7 @@ fn written(net: &[u32], sheet: &[u32], out: &mut [u32]) -> FormAnswer
     writer::write(net, sheet, new, out)
 }
 
-// The minimal form of words that can be read, whether they are a schedule or not: a refusal by 1 to 9 or 26 is the reply.
+// The minimal form of words that 1 to 9 and 26 let pass, whether they are a sequential schedule or not; else the refusal.
 pub fn form_of(net: &[u32], sheet: &[u32], out: &mut [u32]) -> FormAnswer
     ensures { λ r. ⌜ FormOf (now (net .entry)) (now (sheet .entry)) (now (out .entry)) r (now (out .exit)) ⌝ }
 {
@@ -47,7 +47,7 @@ pub fn form_of(net: &[u32], sheet: &[u32], out: &mut [u32]) -> FormAnswer
     written(net, sheet, out)
 }
 
-// The minimal forms of two such, the first asked before the second: both are written, or neither.
+// The minimal forms of two such schedules. The first is checked before the second; both forms are written, or neither.
 pub fn forms_of(
     net: &[u32],
     first: &[u32],

@@ -1,4 +1,4 @@
--- On a net that passes 1 to 4 the weight that bisection finds is the weight at the key, one by one and a row at once; so are capacities told.
+-- On a net that passes 1 to 4 the weight that bisection finds is the weight at the key, for one weight and for a whole row; the same for capacities.
 use Rattle.scan.proofs.Basics.{ℕ, zero, suc, _+_, _*_, _≤_, arith, _≡_, refl, sym, ap, _∙_, Bool, true, false, cond, _&&_, ltb, Option, none, some, Option·map, Option·getD, List, replicate}
 use lib.ListN.{getD-replicate}
 use Rattle.scan.proofs.Tests.{ne-eqb}

@@ -1,4 +1,4 @@
--- The net's tests decide its clauses; so it is accepted exactly where all pass, and refused exactly by the one that fails first.
+-- The net's tests decide its clauses; so a net is accepted exactly if all pass, and else refused by the one that fails first.
 use Rattle.scan.proofs.Basics.{ℕ, _≡_, refl, sym, ap, _∙_, _↔_, true, false, not, Option, none, some, List}
 use Rattle.scan.proofs.Tests.{ltb-false, le-ltb, leb-true, le-leb, eqb-true, eq-eqb, decides-not}
 use Rattle.scan.specs.Scan.{orElse, when, first}

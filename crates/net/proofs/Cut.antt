@@ -1,4 +1,4 @@
--- A net of more words than fit is answered as its first words are: the largest has 4,227.
+-- A net with too many words is answered as its first words are: the longest net has 4,227.
 use Rattle.scan.proofs.Basics.{ℕ, _+_, _*_, _≤_, _<_, arith, _≡_, sym, ap, _∙_, true, false, cond, ltb, leb, eqb, some, List, length, take}
 use lib.Seq.{getD-take, take-all, length-take-le}
 use Rattle.scan.proofs.Tests.{le-ltb, leb-true, leb-false, ne-eqb, byTest}

@@ -1,5 +1,5 @@
--- What the crates above use of a net: its sizes, the range of its weights and capacities, and that nothing else has any.
--- They stand on these and on the accessors' contracts, and open no definition of the net.
+-- What the crates above use about a net: its sizes, the range of its weights and capacities, and that what is no transition or place has none.
+-- They rely on these laws and on the accessors' contracts, and open no definition of the net.
 use Rattle.scan.proofs.Basics.{ℕ, _+_, _*_, _≤_, arith, _≡_, Bool, true, false, cond, _&&_, ltb, none, some, List}
 use native.Mathlib.Decide.{decLt}
 use mathlib.Core.Bool.{and-false}

@@ -1,4 +1,4 @@
--- A transition is a source exactly when no key lies in its row; so where bisection ends at the row's start tells.
+-- A transition is a source exactly if no key lies in its row; so it is enough to look where bisection for the start of the row ends.
 use Rattle.scan.proofs.Basics.{ℕ, _+_, _-_, _*_, _≤_, _<_, arith, _≡_, sym, ap, _∙_, true, false, leb, List}
 use native.Mathlib.Decide.{decLt}
 use Rattle.scan.proofs.Tests.{lt-ltb, le-leb, lt-leb, eq-eqb, ne-eqb}

@@ -1,4 +1,4 @@
--- What the net's accessors answer on any words: the weight that bisection finds, and the row that one walk from there finds; 0 where 1 or 2 refuses the net.
+-- What the net's accessors answer on any words: the weight that bisection finds, and the row that one walk from there finds; 0 if 1 or 2 refuses the net.
 -- On an accepted net these are the weights of §2.5 to §2.8 and the capacities of §2.10 (Demands, `AccessorsRight`): §10.2.
 use Prim.Native.Nat.{ℕ, zero, suc, _+_, _*_}
 use mathlib.Core.List.{List}
@@ -17,22 +17,22 @@ use Rattle.net.specs.Check.{shapeFault}
 use Rattle.net.specs.declared.PlaceCapacity.{PlaceCapacity}
 use Rattle.net.specs.declared.PlaceCapacity.the-variants.{Unlimited, AtMost}
 
--- a capacity as it is answered: by a case of its own where there is none
+-- a capacity as an answer; no capacity is a case of its own
 abbrev pub capacityTold : Option ℕ → PlaceCapacity
 capacityTold none = Unlimited
 capacityTold (some c) = AtMost c
 
--- and its plain number: 1 more than it is, 0 where there is none (§8.4)
+-- a capacity as a plain number: 1 more than it is, or 0 if there is none (§8.4)
 abbrev pub plainCapacity : PlaceCapacity → ℕ
 plainCapacity Unlimited = 0
 plainCapacity (AtMost c) = c + 1
 
--- as a word of a row 0 is none, which no capacity is
+-- the capacity that a word of a row gives: 0 is none, since no capacity is 0
 abbrev pub capacityOfWord : ℕ → PlaceCapacity
 capacityOfWord zero = Unlimited
 capacityOfWord (suc c) = AtMost (suc c)
 
--- a count is at most the capacity that such a word says
+-- a count is within the capacity that such a word gives
 unfoldable pub wordAllows : ℕ → ℕ → Bool
 wordAllows capacity n = eqb capacity 0 || leb n capacity
 
@@ -47,14 +47,14 @@ module _ (net : List ℕ) where
   unfoldable pub weightReply : ℕ → ℕ
   weightReply key = weightFound (lookUp net 3 (weightCount net) key)
 
-  -- the weight at place p of a row of keys, and the row at once
+  -- the weight at place p of a row of keys, and the whole row
   unfoldable pub rowReply : ℕ → ℕ → ℕ
   rowReply row p = cond (ltb p (placeCount net)) (weightReply (row * placeCount net + p)) 0
 
   unfoldable pub rowWeights : ℕ → List ℕ
   rowWeights row = valueRow net 3 (weightCount net) (row * placeCount net) (placeCount net)
 
-  -- both on any words; the test says whether there is such a row
+  -- the same on any words, 0 if there is no such row; `known` says whether the row is known to be there
   unfoldable pub weightOrZero : Bool → ℕ → ℕ → ℕ
   weightOrZero known row p = cond (known && shaped) (rowReply row p) 0
 

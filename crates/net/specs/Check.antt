@@ -1,4 +1,4 @@
--- The check of a net, as a computation: for each clause of `netChecks` the test that it fails, and what they find.
+-- The check of a net as a computation: for each clause of `netChecks` a test that it fails, and what these tests find.
 use Prim.Native.Nat.{ℕ, _+_, _*_}
 use mathlib.Core.Path.{_≡_}
 use mathlib.Core.List.{List, [], _∷_}

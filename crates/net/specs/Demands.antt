@@ -9,7 +9,7 @@ use Rattle.net.specs.Net.{placeCount, transitionCount, weightCount, weig
 use Rattle.net.specs.Checks.{IsNet}
 use Rattle.net.specs.Accessors.{capacityTold, takenReply, putReply, startReply, capacityReply, takenRowReply, putRowReply, startRowReply, capacityRowReply}
 
--- on a net the accessors answer the weights and the capacities that its words say, in a row 0 for none: §10.2
+-- on a net the accessors answer the weights and the capacities of its words; in a row, 0 stands for no capacity: §10.2
 pub record AccessorsRight (net : List ℕ) : Type 0 where
   pub takes : (t p : ℕ) → takenReply net t p ≡ taken net t p
   pub puts : (t p : ℕ) → putReply net t p ≡ put net t p
@@ -23,7 +23,7 @@ pub record AccessorsRight (net : List ℕ) : Type 0 where
 abbrev pub AccessorsMean : Type 0
 AccessorsMean = (net : List ℕ) → IsNet net → AccessorsRight net
 
--- what is no transition and what is no place has no weight and no capacity, on any words: §2.8, §2.10
+-- a number that is no transition or no place has no weight and no capacity, on any words: §2.8, §2.10
 pub record NothingOutside (net : List ℕ) : Type 0 where
   pub taken-no-transition : (t p : ℕ) → transitionCount net ≤ t → taken net t p ≡ 0
   pub taken-no-place : (t p : ℕ) → placeCount net ≤ p → taken net t p ≡ 0
@@ -35,7 +35,7 @@ pub record NothingOutside (net : List ℕ) : Type 0 where
 abbrev pub OutsideNothing : Type 0
 OutsideNothing = (net : List ℕ) → NothingOutside net
 
--- words without a key of a capacity have none, whether or not they are a net: §2.10
+-- words without a key of a capacity give no place a capacity, whether or not they are a net: §2.10
 abbrev pub NoCapacityKeys : List ℕ → Type 0
 NoCapacityKeys net = (i : ℕ) → i < weightCount net → weightKey net i < (2 * transitionCount net + 1) * placeCount net
 

@@ -1,4 +1,4 @@
--- What 1 and 2, and 1 to 4, leave of a net, for the functions that come after them and for proofs. No promise cites it.
+-- What is known of a net after 1 and 2, and after 1 to 4, for the functions that come after them and for proofs. No promise cites it.
 use Prim.Native.Nat.{ℕ, _+_, _*_, _≤_, _<_}
 use mathlib.Core.Path.{_≡_}
 use mathlib.Core.List.{List}
@@ -22,7 +22,7 @@ pub record Known (net : List ℕ) : Type 0 where
   pub few-keys : keyCount (getD net 0 0) (getD net 1 0) ≤ 2112
   pub few-entries : getD net 2 0 ≤ 2112
 
--- what 3 and 4 at entry i are told of the words
+-- what the check of entry i by 3 and 4 relies on
 pub record EntryAt (net : List ℕ) (entries limit i : ℕ) : Type 0 where
   pub within : 3 + entries + i < length net
   pub entries-are : entries ≡ weightCount net

@@ -13,7 +13,7 @@ use Rattle.table.specs.Table.{keyAt, valueAt, entryOf}
 abbrev pub keyCount : ℕ → ℕ → ℕ
 keyCount places transitions = (2 * transitions + 2) * places
 
--- a count is at most a capacity, where there is one: §2.10
+-- a count is at most a capacity, if there is one: §2.10
 abbrev pub Within : Option ℕ → ℕ → Type 0
 Within capacity n = (c : ℕ) → capacity ≡ some c → n ≤ c
 
@@ -38,7 +38,7 @@ module _ (net : List ℕ) where
   unfoldable pub netKeyLimit : ℕ
   netKeyLimit = keyCount placeCount transitionCount
 
-  -- the weight of a key, 0 where it is absent: §2.8
+  -- the weight of a key, 0 if the key is absent: §2.8
   unfoldable pub weightAt : ℕ → ℕ
   weightAt key = foundOr 0 entryWeight (entryOf net 3 weightCount key)
 

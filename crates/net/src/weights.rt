@@ -25,7 +25,7 @@ fn weight_in_row(net: &[u32], row: usize, p: u32) -> u32
     }
 }
 
-// The same on any words, 0 where it is not known that there is such a row.
+// The same on any words: 0 if it is not known that there is such a row.
 pub(crate) fn weight_or_zero(net: &[u32], known: bool, row: usize, p: u32) -> u32
     requires { ⌜ (known ≡ true → row ≤ 2 * transitionCount (now net) + 1) ⌝ }
     ensures { λ r. ⌜ r ≡ weightOrZero (now (net .entry)) known row p ⌝ }

@@ -12,7 +12,7 @@ use refusal::Position;
 use refusal::Refusal;
 use refusal::Verdict;
 
-// How many keys there are: as many entries may be (§2.2), and below it every key lies (§2.3).
+// How many different keys there can be. K is at most this number (§2.2), and every key is below it (§2.3).
 fn key_count(places: u32, transitions: u32) -> u32
     requires { ⌜ places ≤ mostPlaces ⌝ }
     requires { ⌜ transitions ≤ mostTransitions ⌝ }

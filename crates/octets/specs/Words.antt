@@ -16,32 +16,32 @@ wordFrom bytes at = getD bytes at 0 + 256 * getD bytes (at + 1) 0 + 65536 * getD
 unfoldable pub wordAt : List ℕ → ℕ → ℕ
 wordAt bytes i = wordFrom bytes (4 * i)
 
--- where at most so many words are handed on
+-- `most` is how many words are handed on at most
 module _ (most : ℕ) (bytes : List ℕ) where
-  -- the words that are handed on lie whole in it
+  -- the file has at least as many bytes as the most words need
   unfoldable pub isLong : Bool
   isLong = leb (4 * most) (length bytes)
 
-  -- §12.4; a longer file has none that counts (§12.3)
+  -- the file has a tail (§12.4); that of a longer file does not count (§12.3)
   unfoldable pub isRagged : Bool
   isRagged = not isLong && not (eqb (length bytes % 4) 0)
 
-  -- §12.3
+  -- how many words are handed on: §12.3
   unfoldable pub wordCount : ℕ
   wordCount = cond isLong most (length bytes / 4)
 
   unfoldable pub wordsOf : List ℕ
   wordsOf = tabulate (wordAt bytes) wordCount
 
-  -- the bytes of the words that are handed on of a longer file
+  -- the bytes of a longer file that are handed on as words
   unfoldable pub cut : List ℕ
   cut = take (4 * most) bytes
 
--- a buffer after a file was decoded into it: of a longer file as many words as the buffer has; what lies past them unchanged
+-- a buffer after a file was decoded into it: at most as many words as the buffer has, with what lies past them unchanged
 unfoldable pub decoded : List ℕ → List ℕ → List ℕ
 decoded bytes out = wordsOf (length out) bytes ++ drop (wordCount (length out) bytes) out
 
--- One decoding: what it is handed, what it answers, and what the buffer holds afterwards.
+-- The postcondition of decoding: what it is handed, what it answers, and what the buffer holds afterwards.
 pub record FileRead (bytes out : List ℕ) (r : Reading) (out′ : List ℕ) : Type 0 where
   pub words : r .words ≡ wordCount (length out) bytes
   pub ragged : r .ragged ≡ isRagged (length out) bytes
@@ -51,7 +51,7 @@ pub record FileRead (bytes out : List ℕ) (r : Reading) (out′ : List ℕ) : T
 unfoldable pub allWords : List ℕ → List ℕ
 allWords bytes = tabulate (wordAt bytes) (length bytes / 4)
 
--- §12.3; and a file is read as its cut is
+-- the words that are handed on (§12.3); and a file is read as its cut is
 pub record ReadAsCut (most : ℕ) (bytes : List ℕ) : Type 0 where
   pub handed-on : wordsOf most bytes ≡ take most (allWords bytes)
   pub words : wordsOf most (cut most bytes) ≡ wordsOf most bytes

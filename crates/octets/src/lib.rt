@@ -1,4 +1,4 @@
-// Bytes as words and numbers, the least significant byte first: read for the program's files and the calls over bytes, written for the latter.
+// Bytes as words and numbers, the least significant byte first. The program's files and the calls over bytes are read so; the calls' results are written so.
 ghost use mathlib.Core.Path.{_≡_};
 ghost use Prim.Native.Nat.{_+_, _<_, min};
 ghost use lib.ListN.{length, getD, set};
@@ -34,7 +34,7 @@ fn word_from(bytes: &[u8], at: usize) -> u32
     first + 256 * second + 65536 * third + 16777216 * fourth
 }
 
-// Word i, for who reads word by word and needs no buffer; 0 past the last whole one.
+// Word i, read without a buffer; 0 past the last whole word.
 pub fn word(bytes: &[u8], i: usize) -> u32
     ensures { λ r. ⌜ r ≡ getD (allWords (now (bytes .entry))) i 0 ⌝ }
 {
@@ -44,7 +44,7 @@ pub fn word(bytes: &[u8], i: usize) -> u32
     word_from(bytes, 4 * i)
 }
 
-// How much of a file is handed on where at most so many words are.
+// How many words of a file are handed on, if at most `most` are, and whether it has a tail.
 fn measure(bytes: &[u8], most: usize) -> Reading
     ensures { λ r. ⌜ (r .words ≡ wordCount most (now (bytes .entry))) × (r .ragged ≡ isRagged most (now (bytes .entry))) ⌝ }
 {
@@ -61,7 +61,7 @@ fn measure(bytes: &[u8], most: usize) -> Reading
     }
 }
 
-// Decodes bytes into a buffer; of a longer file as many words as the buffer has (§12.3).
+// Decodes bytes into a buffer, at most as many words as the buffer has (§12.3).
 pub fn decode(bytes: &[u8], out: &mut [u32]) -> Reading
     ensures { λ r. ⌜ FileRead (now (bytes .entry)) (now (out .entry)) r (now (out .exit)) ⌝ }
 {
@@ -130,7 +130,7 @@ fn write_word(x: usize, out: &mut [u8], at: usize)
     write_byte(x, 3, out, at + 3);
 }
 
-// Words over the front of a buffer, four bytes each; bytes past the buffer's end are dropped.
+// Writes words over the front of a buffer, four bytes each; bytes past the buffer's end are dropped.
 pub fn write_words(words: &[u32], out: &mut [u8])
     ensures { λ _. ⌜ now (out .exit) ≡ placed (now (out .entry)) 0 (bytesOf 4 (now (words .entry))) ⌝ }
 {
@@ -141,7 +141,7 @@ pub fn write_words(words: &[u32], out: &mut [u8])
     }
 }
 
-// Six numbers over the front of a buffer, eight bytes each; bytes past the buffer's end are dropped.
+// Writes six numbers over the front of a buffer, eight bytes each; bytes past the buffer's end are dropped.
 pub fn write_six(numbers: [usize; 6], out: &mut [u8])
     ensures { λ _. ⌜ now (out .exit) ≡ placed (now (out .entry)) 0 (bytesOf 8 numbers) ⌝ }
 {

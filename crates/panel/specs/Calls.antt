@@ -14,7 +14,7 @@ use Rattle.minimal.specs.declared.FormAnswer.{FormAnswer}
 use Rattle.mended.specs.Call.{MendWithinDone}
 use Rattle.mended.specs.declared.MendAnswer.{MendAnswer}
 
--- §1.12
+-- how many words of scratch a call of the panel needs: §1.12
 abbrev pub panelLimit : ℕ
 panelLimit = 1024
 

@@ -1,4 +1,4 @@
--- Sources, choice sets and what a node offers: by the cells as by the net and the graph that they tell.
+-- Sources, choice sets and what a node offers: the tests on cells agree with those on the net and the graph that the cells describe.
 use Rattle.scan.proofs.Basics.{ℕ, _≤_, _<_, arith, _≡_, sym, ap, _∙_, Bool, true, false, not, some, List, length}
 use Rattle.scan.specs.Scan.{when, all, least}
 use Rattle.scan.proofs.Every.{all-ext, any-ext, any-in, any-out}

@@ -1,4 +1,4 @@
--- The net and the graph that tables and grid tell, cell by cell.
+-- The net and the graph that tables and grid describe, cell by cell.
 use Rattle.scan.proofs.Basics.{ℕ, zero, suc, _+_, _*_, _<_, arith, _≡_, refl, sym, true, not, ltb, eqb, List, getD}
 use lib.IntN.{pos}
 use Rattle.scan.proofs.Tests.{lt-ltb}

@@ -1,4 +1,4 @@
--- The slow engine as a call (§10.40): what it answers, in its own terms. That this is what the schedule check answers is said in `demands`.
+-- The slow engine as a call (§10.40): what it answers, in its own terms. The crate `demands` says that the schedule check answers the same.
 use Prim.Native.Nat.{ℕ}
 use mathlib.Core.List.{List, []}
 use Rattle.refusal.specs.Limits.{scratchLimit}
@@ -24,7 +24,7 @@ slowCounts net sheet = record { nodes = nodeCount sheet; arcs = arcTotal (petriN
 abbrev pub slowCore : List ℕ → List ℕ → Core CheckAnswer
 slowCore net sheet = record { verdict = slowVerdict net sheet; accepted = Passed (slowCounts net sheet); refused = Failed; results = [] }
 
--- what the code answers where there is scratch enough
+-- what the code answers if there is enough scratch
 abbrev pub afterWords : Verdict → CheckAnswer → CheckAnswer
 afterWords Accepted a = a
 afterWords (Refused r) a = Failed r

@@ -1,7 +1,7 @@
--- what is spread, and what each number of it is
+-- the tables and the grid, and what each number in them is
 pub mod Tables
 pub mod Numbers
--- what is asked of it
+-- the tests on them
 pub mod Cells
 pub mod Clauses
 pub mod Marks

@@ -1,4 +1,4 @@
--- Every number that is spread is document 01's: what each cell of the tables and of the grid is, by the words of net and schedule (§10.41).
+-- Every number that is spread is one of document 01: what each cell of the tables and of the grid is, by the words of net and schedule (§10.41).
 use Prim.Native.Nat.{ℕ, _+_, _-_, _/_, _%_, _≤_, _<_}
 use mathlib.Core.Path.{_≡_}
 use mathlib.Core.Bool.{cond}
@@ -34,14 +34,14 @@ pub record NetSpread (net : List ℕ) (s : Spread) : Type 0 where
 
 -- ---- the schedule: cell k of the grid is in row k / 64, an arc in the first 32 columns, a count in the others
 
--- the value of a key and so much more, 0 where the key is absent
+-- the value of a key plus a number, or 0 if the key is absent
 unfoldable pub valueMore : List ℕ → ℕ → ℕ → ℕ
 valueMore sheet more i = entryValue sheet i + more
 
 unfoldable pub valueOf : List ℕ → ℕ → ℕ → ℕ
 valueOf sheet more key = foundOr 0 (valueMore sheet more) (entryWithKey sheet key)
 
--- a target, as a cell tells it: 1 more, and 0 for no arc
+-- a target as a cell holds it: 1 more, since 0 is no arc
 abbrev pub plusOne : ℕ → ℕ
 plusOne m = m + 1
 
@@ -55,12 +55,12 @@ pub record GridSpread (net sheet grid : List ℕ) : Type 0 where
   pub long : 8192 ≤ length grid
   pub cells : (k : ℕ) → k < 8192 → getD grid k 0 ≡ cellOf (petriNet net) sheet k
 
--- a buffer that may have changed in its front, and is as it was past it
+-- the front of a buffer may have changed, and the words behind it are as they were
 pub record FrontAlone (front : ℕ) (before after : List ℕ) : Type 0 where
   pub same-length : length after ≡ length before
   pub past : (k : ℕ) → front ≤ k → getD after k 0 ≡ getD before k 0
 
--- after the spreading: all cells, whatever was there before; and past them what was there
+-- the buffer after spreading: all cells, whatever it held before; the words behind them are as they were
 pub record GridCells (net sheet grid grid′ : List ℕ) : Type 0 where
   pub spread : GridSpread net sheet grid′
   pub front : FrontAlone 8192 grid grid′

@@ -1,5 +1,5 @@
--- What tables and grid tell: a net, and a graph (§10.41). Row t of a table has a cell for each place, at t × 32 + p; row n of the grid has 32 cells of arcs,
--- from n × 64 on, and after them 32 counts.
+-- The net that the tables describe, and the graph that the grid describes (§10.41). Row t of a table has a cell for each place, at t × 32 + p; row n of the grid
+-- has 32 cells for arcs, from n × 64 on, and after them 32 counts.
 use Prim.Native.Nat.{ℕ, zero, suc, _+_, _*_, _≤_, _<_}
 use mathlib.Core.Path.{_≡_}
 use mathlib.Core.Bool.{Bool, true, cond, _&&_}
@@ -19,17 +19,17 @@ abbrev pub arcOf : ℕ → Option ℕ
 arcOf zero = none
 arcOf (suc m) = some m
 
--- 0 for no capacity
+-- the capacity of a cell: 0 is none
 abbrev pub capacityOf : ℕ → Option ℕ
 capacityOf zero = none
 capacityOf (suc c) = some (suc c)
 
--- a change that is no less than 0 as a number
+-- a change that is not negative, as a natural number
 abbrev pub natOf : ℤ → ℕ
 natOf (pos n) = n
 natOf (negsuc n) = 0
 
--- what is put: what is taken and the change
+-- what is put: the sum of what is taken and the change
 unfoldable pub putBy : ℕ → ℤ → ℕ
 putBy taken change = natOf (pos taken +ℤ change)
 
@@ -49,7 +49,7 @@ module _ (s : Spread) where
   unfoldable pub capacityBy : ℕ → Option ℕ
   capacityBy p = cond (ltb p (s .places)) (capacityOf (getD (s .capacities) p 0)) none
 
-  -- the net that the tables tell
+  -- the net that the tables describe
   unfoldable pub netOf : PetriNet
   netOf = record { places = s .places; transitions = s .transitions; taken = takenBy; put = putTold; start = startBy; capacity = capacityBy; kept = λ t. true }
 
@@ -63,13 +63,13 @@ module _ (s : Spread) where
     unfoldable pub labelBy : ℕ → List ℕ
     labelBy n = cond (ltb n (s .nodes)) (tabulate (heldBy n) (s .places)) []
 
-    -- the graph that the grid tells
+    -- the graph that the grid describes
     unfoldable pub graphOf : Automaton
     graphOf = record { nodes = s .nodes; transitions = s .transitions; arc = arcBy; label = labelBy }
 
--- ---- what the clauses rely on: sizes and numbers in their limits
+-- ---- what the clauses rely on: sizes and numbers are within their limits
 
--- what is put is a weight, by what is taken and the change
+-- the sum of what is taken and the change is a weight: what is put
 pub record PutIs (taken : ℕ) (change : ℤ) : Type 0 where
   pub put : ℕ
   pub most : put ≤ mostCount

@@ -1,4 +1,4 @@
-// Choice sets by the published rule, from the table of what is taken alone; and what a node offers, from its row of the grid.
+// Choice sets by the published rule, from nothing but the table of what is taken; and what a node offers, from its row of the grid.
 ghost use mathlib.Core.Path.{_≡_};
 ghost use Prim.Native.Nat.{_≤_, _<_};
 ghost use Rattle.scan.specs.Scan.{all, least};
@@ -34,7 +34,7 @@ fn takes_same(taken: &[u32], places: usize, t: usize, u: usize) -> bool
     true
 }
 
-// Whether t and u draw on one place.
+// Whether there is a place on which both t and u draw.
 fn shares_place(taken: &[u32], places: usize, t: usize, u: usize) -> bool
     requires { ⌜ Taking (now taken) places × (t < 32) × (u < 32) ⌝ }
     ensures { λ r. ⌜ r ≡ cellsShared (now (taken .entry)) places t u ⌝ }
@@ -75,7 +75,7 @@ fn is_free(taken: &[u32], places: usize, transitions: usize, t: usize) -> bool
     true
 }
 
-// Whether u is in the choice set of t: t itself, and where t's choice is free all that take the same.
+// Whether u is in the choice set of t: it is t itself, or t's choice is free and u takes the same.
 fn same_choice(taken: &[u32], places: usize, t: usize, u: usize, free: bool) -> bool
     requires { ⌜ Taking (now taken) places × (t < 32) × (u < 32) ⌝ }
     ensures { λ r. ⌜ r ≡ cellsChosen (now (taken .entry)) places free t u ⌝ }

@@ -1,5 +1,5 @@
-// An engine that a chemist can read (§10.40, request #111): slow, and with the answers of the fast one. Net and schedule are spread into tables and a
-// grid; from then on the words are not read again, and one clause is asked after the other. docs/CHEMIST.md walks through it by hand.
+// The slow engine, made to be read (§10.40, request #111). It answers what the fast one answers. It spreads net and schedule into tables and a grid,
+// then reads the words no more and asks one clause after the other. docs/CHEMIST.md walks through it by hand.
 mod arcs;
 mod choices;
 mod clauses;
@@ -31,7 +31,7 @@ pub struct Spread {
     pub change: [i64; 1024],
 }
 
-// A cell of the grid's arcs: its row, its column and what it holds, 0 for no arc and else 1 more than the target; and how many arcs are before it.
+// A cell of the grid that is for an arc: its row, its column, what it holds (0 for no arc, else 1 more than the target), and how many arcs come before it.
 pub struct Cell {
     pub node: usize,
     pub transition: usize,
@@ -39,7 +39,7 @@ pub struct Cell {
     pub entry: usize,
 }
 
-// What is asked of tables and grid: the clauses, and the numbers of what is accepted.
+// The answer by tables and grid: the first clause that fails, or the numbers of an accepted schedule.
 fn judged(s: Spread, grid: &[u32]) -> CheckAnswer
     requires { ⌜ Fit s (now grid) ⌝ }
     ensures { λ r. ⌜ r ≡ clausesAnswer (netOf s) (graphOf s (now (grid .entry))) ⌝ }
@@ -55,7 +55,7 @@ fn judged(s: Spread, grid: &[u32]) -> CheckAnswer
     })
 }
 
-// 1 to 9 and 26; then both are spread, and the clauses asked. The grid lies in the scratch, whose front it leaves as it came to be.
+// Refusals 1 to 9 and 26; then net and schedule are spread and the clauses asked. The grid lies in the front of the scratch, which is not cleared here.
 fn answered(net: &[u32], sheet: &[u32], grid: &mut [u32]) -> CheckAnswer
     requires { ⌜ 8192 ≤ length (now grid) ⌝ }
     ensures { λ r. ⌜ r ≡ slowAnswer (now (net .entry)) (now (sheet .entry)) ⌝ }
@@ -70,7 +70,7 @@ fn answered(net: &[u32], sheet: &[u32], grid: &mut [u32]) -> CheckAnswer
     judged(s, grid)
 }
 
-// The call: §10.40. 21 comes first, and leaves the scratch alone; in every other answer it is cleared.
+// The call: §10.40. Refusal 21 comes first and leaves the scratch alone; after every other answer the scratch is cleared.
 pub fn check(net: &[u32], sheet: &[u32], scratch: &mut [u32]) -> CheckAnswer
     ensures { λ r. ⌜ SlowDone (now (net .entry)) (now (sheet .entry)) (now (scratch .entry)) r (now (scratch .exit)) ⌝ }
 {

@@ -48,7 +48,7 @@ pub(crate) fn spread_net(net: &[u32], nodes: usize) -> Spread
     }
 }
 
-// The value of a key and so much more, 0 where the key is absent.
+// The value of a key, plus `more`; 0 if the key is absent.
 fn value_of(sheet: &[u32], key: u32, more: u32) -> u32
     requires { ⌜ Keyed (now sheet) × (more ≤ 1) ⌝ }
     ensures { λ r. ⌜ r ≡ valueOf (now (sheet .entry)) more key ⌝ }
@@ -59,7 +59,7 @@ fn value_of(sheet: &[u32], key: u32, more: u32) -> u32
     }
 }
 
-// The arc by t from n: 1 more than its target, 0 for none. Its key is n × T + t: §3.5.
+// The cell of the arc by t from n: 1 more than its target, or 0 if there is none. The key is n × T + t: §3.5.
 fn arc_cell(net: &[u32], sheet: &[u32], n: u32, t: u32) -> u32
     requires { ⌜ Readable (now net) (now sheet) ⌝ }
     ensures { λ r. ⌜ r ≡ arcCode (arc (petriNet (now (net .entry))) (now (sheet .entry)) n t) ⌝ }
@@ -74,7 +74,7 @@ fn arc_cell(net: &[u32], sheet: &[u32], n: u32, t: u32) -> u32
     value_of(sheet, n * transitions + t, 1)
 }
 
-// What place p holds at n. Its key is V × T + n × P + p: §3.6.
+// The count of place p at n. The key is V × T + n × P + p: §3.6.
 fn count_cell(net: &[u32], sheet: &[u32], n: u32, p: u32) -> u32
     requires { ⌜ Readable (now net) (now sheet) ⌝ }
     ensures { λ r. ⌜ r ≡ countAt (petriNet (now (net .entry))) (now (sheet .entry)) n p ⌝ }

@@ -1,4 +1,4 @@
--- What is promised of marks and paths, as a statement: on words whose arcs are right, whatever the counts. proofs/Demands has the term.
+-- What is promised of marks and paths, as a statement on words whose arcs are right, whatever the counts are. proofs/Demands has the term.
 use Prim.Native.Nat.{ℕ, _<_}
 use mathlib.Core.Path.{_≡_}
 use mathlib.Core.Logic.{_↔_}
@@ -18,7 +18,7 @@ use Rattle.reach.specs.Reach.{AwaitMarks, reachedReply, pathsReply}
 pub record PathsRight (net sheet : List ℕ) : Type 0 where
   -- the marked nodes are those that the root leads to: §6.7
   pub reached : (n : ℕ) → n < nodeCount sheet → (getD (reachedReply net sheet) n 0 ≡ 1) ↔ Reachable (graph (petriNet net) sheet) n
-  -- with marks at the await nodes 16 and 17 are those of §7.57
+  -- if the marks handed in are those of the await nodes, 16 and 17 are answered as §7.57 says
   pub faults : (awaits : List ℕ) → AwaitMarks (petriNet net) sheet awaits
       → pathsReply net sheet awaits ≡ verdictOf (orElse (first (reachFault (petriNet net) sheet) (nodeCount sheet)) (first (returnFault (petriNet net) sheet) (nodeCount sheet)))
 

@@ -1,4 +1,4 @@
--- What the needs of the recursion come down to: a node that is await, kept, begun or closed, and the turns over its arcs.
+-- The proof obligations of the recursion: a node that awaits, whose time is known, that is begun or finished, and the turns over its arcs.
 use Rattle.scan.proofs.Basics.{ℕ, _+_, _-_, _≤_, _<_, arith, _≡_, sym, _∙_, Bool, true, false, List, none, getD, set, length-set}
 use Prim.Native.Nat.{min, max}
 use Rattle.net.specs.Net.{transitionCount}

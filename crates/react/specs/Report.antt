@@ -1,4 +1,4 @@
--- What writing the report is handed, and its length. No contract of a public function cites it.
+-- What the functions that write the report rely on, and its length. No contract of a public function cites it.
 use Prim.Native.Nat.{ℕ}
 use mathlib.Core.Path.{_≡_}
 use mathlib.Core.Bool.{true, false}
@@ -9,7 +9,7 @@ use Rattle.reaction.specs.Known.{Passed}
 use Rattle.react.specs.Rows.{IsNode, Mapped}
 use Rattle.react.specs.Times.{Ready, TimesOf}
 
--- the length, of every net and durations that nothing is refused of
+-- the length of the report, for every net and durations that pass all checks
 abbrev pub SizeTold : List ℕ → List ℕ → List ℕ → ℕ → Type 0
 SizeTold sheet starts awaits r = (net words : List ℕ) → Ready net sheet words starts awaits → r ≡ length (reportWords net sheet words)
 

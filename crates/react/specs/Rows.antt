@@ -1,4 +1,4 @@
--- Where the entries of each node's arcs begin, and what the functions over them are handed. No contract of a public function cites it.
+-- The entries at which each node's arcs begin, and what the functions that use them rely on. No contract of a public function cites it.
 use Prim.Native.Nat.{ℕ, _+_, _*_, _≤_, _<_}
 use mathlib.Core.Path.{_≡_}
 use mathlib.Core.List.{List}
@@ -15,7 +15,7 @@ use Rattle.reach.specs.Reach.{AwaitMarks}
 abbrev pub IsNode : List ℕ → ℕ → Type 0
 IsNode sheet n = n < nodeCount sheet
 
--- by each node where its arcs begin among the entries, and behind the last node where all arcs end
+-- for each node the entry at which its arcs begin, and after the last node the entry after all arcs
 pub record Starts (net sheet starts : List ℕ) : Type 0 where
   pub at : (n : ℕ) → n ≤ nodeCount sheet → getD starts n 0 ≡ lowerBound sheet 2 (entryCount sheet) (n * transitionCount net)
 
@@ -30,7 +30,7 @@ pub record HasEntry (sheet : List ℕ) (i : ℕ) : Type 0 where
   pub few : entryCount sheet ≤ mostEntries
   pub long : length sheet ≡ 2 + 2 * entryCount sheet
 
--- so can all arcs, and they lead to nodes
+-- the words of all arcs can be read, and the arcs lead to nodes
 pub record Rows (sheet starts : List ℕ) : Type 0 where
   pub few-nodes : nodeCount sheet ≤ mostNodes
   pub few : entryCount sheet ≤ mostEntries
@@ -39,7 +39,7 @@ pub record Rows (sheet starts : List ℕ) : Type 0 where
   pub rises : (n : ℕ) → IsNode sheet n → getD starts n 0 ≤ getD starts (n + 1) 0
   pub target : (n i : ℕ) → IsNode sheet n → ArcOf starts n i → IsNode sheet (entryValue sheet i)
 
--- an accepted schedule, and where its arcs begin
+-- an accepted schedule, and the entries at which its nodes' arcs begin
 pub record Mapped (net sheet starts : List ℕ) : Type 0 where
   pub accepted : scheduleReply net sheet ≡ Accepted
   pub starts-are : Starts net sheet starts

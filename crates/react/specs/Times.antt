@@ -1,4 +1,4 @@
--- The recursion for the best and the worst time: what it is handed, what it keeps, and what it leaves. No contract of a public function cites it.
+-- The recursion for the best and the worst time: what it relies on, what its table holds, and what it leaves. No contract of a public function cites it.
 use Prim.Native.Nat.{ℕ, suc, _<_, min, max}
 use mathlib.Core.Path.{_≡_}
 use mathlib.Core.Bool.{Bool, true, false}
@@ -43,17 +43,17 @@ pub record Ready (net sheet words starts awaits : List ℕ) : Type 0 where
   pub passed : Passed net sheet words
 
 module _ (net sheet words : List ℕ) (latest : Bool) where
-  -- what is kept is right, and every node that is begun has at least this depth
+  -- the times in the table are right, and every node that is begun has at least this depth
   abbrev pub Keeps : ℕ → List ℕ → Type 0
   Keeps level memo = Noted (timeOf net sheet words latest) (depthOf net sheet words) (nodeCount sheet) level memo
 
-  -- a node is asked for
+  -- before the time of node n is asked for
   pub record Entered (n : ℕ) (memo : List ℕ) : Type 0 where
     pub node : n < nodeCount sheet
     pub long : length memo ≡ mostNodes
     pub keeps : Keeps (suc (depthOf net sheet words n)) memo
 
-  -- and is begun
+  -- after node n is begun
   pub record Opened (n : ℕ) (memo : List ℕ) : Type 0 where
     pub node : n < nodeCount sheet
     pub long : length memo ≡ mostNodes

@@ -12,7 +12,7 @@ const BAD_DURATION: u32 = 32;
 
 const LONGEST: u32 = 1000000;
 
-// Whether they begin with the net's T, and are 1 + 2 × T words.
+// Whether the durations begin with the net's T and are 1 + 2 × T words.
 fn shape_passes(durations: &[u32], transitions: usize) -> bool
     requires { ⌜ transitions ≤ 32 ⌝ }
     ensures { λ r. ⌜ r ≡ shapePasses (now (durations .entry)) transitions ⌝ }
@@ -35,7 +35,7 @@ pub(crate) fn duration(durations: &[u32], transitions: usize, t: usize, latest: 
     durations[1 + t]
 }
 
-// Whether those of transition t are out of order or too long. The earliest is at most the latest, so that one limit holds both.
+// Whether the durations of transition t are out of order or too long. It is enough to compare the latest with the limit, since the earliest is not above it.
 fn duration_fails(durations: &[u32], transitions: usize, t: usize) -> bool
     requires { ⌜ ShapePasses (now durations) transitions ⌝ }
     requires { ⌜ t < transitions ⌝ }
@@ -48,7 +48,7 @@ fn duration_fails(durations: &[u32], transitions: usize, t: usize) -> bool
     LONGEST < late
 }
 
-// Refusal 32: of the shape with nothing, then at the lowest transition at fault, which is told as an entry (§7.66).
+// Refusal 32: at no position if the shape is wrong, else at the lowest transition at fault, which is told as an entry (§7.66).
 pub(crate) fn durations_fault(durations: &[u32], transitions: usize) -> Verdict
     requires { ⌜ transitions ≤ 32 ⌝ }
     ensures { λ r. ⌜ r ≡ verdictOf (durationsFault (now (durations .entry)) transitions) ⌝ }

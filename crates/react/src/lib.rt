@@ -1,4 +1,4 @@
-// The call that reports reaction times (§10.46): the checks, best and worst of every node, and the report.
+// The call that reports reaction times (§10.46): the checks, the best and the worst time of every node, and the report.
 mod backs;
 mod clean;
 mod durations;
@@ -26,7 +26,7 @@ fn checked(net: &[u32], sheet: &[u32], durations: &[u32]) -> Verdict
     durations::durations_fault(durations, net::transitions(net) as usize)
 }
 
-// Then 33, room for the report, and the report.
+// After these checks: refusal 33, then 22, then the report is written.
 fn reported(net: &[u32], sheet: &[u32], durations: &[u32], out: &mut [u32]) -> ReactionAnswer
     requires { ⌜ checkedVerdict (now net) (now sheet) (now durations) ≡ Accepted ⌝ }
     ensures { λ r. ⌜ ReactionWritten (now (net .entry)) (now (sheet .entry)) (now (durations .entry)) (now (out .entry)) r (now (out .exit)) ⌝ }
@@ -63,7 +63,7 @@ pub fn reaction_into(
     reported(net, sheet, durations, out)
 }
 
-// The best and the worst time from each await node and source to the next await node.
+// Reaction times: for each await node and each source, the times at best and at worst until the next await node.
 pub fn reactions(
     net: &[u32],
     sheet: &[u32],

@@ -12,7 +12,7 @@ use super::durations;
 use super::rows;
 use super::times;
 
-// Its length in words: a pair for each arc of an await node.
+// The length of the report in words: a pair for each arc of an await node.
 pub(crate) fn size(sheet: &[u32], starts: &[u16; 129], awaits: &[u8; 128]) -> usize
     requires { ⌜ Rows (now sheet) (now starts) ⌝ }
     ensures { λ r. ⌜ SizeTold (now (sheet .entry)) (now (starts .entry)) (now (awaits .entry)) r ⌝ }
@@ -38,7 +38,7 @@ fn write_pair(best: u32, worst: u32, out: &mut [u32], at: usize) -> usize
     encoding::put(worst, out, next)
 }
 
-// The pairs of one await node from a place on, and the place behind them.
+// Writes the pairs of one await node from an index on, and answers the index after them.
 fn write_row(
     net: &[u32],
     sheet: &[u32],
@@ -69,7 +69,7 @@ fn write_row(
     next
 }
 
-// The whole report: the rows of all await nodes.
+// Writes the whole report: the rows of all await nodes.
 pub(crate) fn write(
     net: &[u32],
     sheet: &[u32],

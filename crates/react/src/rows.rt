@@ -5,7 +5,7 @@ ghost use Rattle.sequential.specs.Words.{entryKey, entryValue};
 ghost use Rattle.graph.specs.Readable.{ArcsReadable};
 ghost use Rattle.react.specs.Rows.{Starts, HasEntry};
 
-// Where the entries of each node's arcs begin, and where those of all arcs end.
+// The entry at which each node's arcs begin, and the one after all arcs.
 pub(crate) fn starts(net: &[u32], sheet: &[u32]) -> [u16; 129]
     requires { ⌜ ArcsReadable (now net) (now sheet) ⌝ }
     ensures { λ r. ⌜ Starts (now (net .entry)) (now (sheet .entry)) r ⌝ }

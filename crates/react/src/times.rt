@@ -1,4 +1,4 @@
-// The best or the worst time to the next await node (§10.47): of a node by its arcs, of an arc by its target. Each busy node is worked out once.
+// The best or the worst time to the next await node (§10.47). A node's time follows from its arcs, an arc's from its target. Each node is worked out once.
 ghost use mathlib.Core.Path.{_≡_};
 ghost use Rattle.react.specs.Times.{pickOf, startOf, Ready, Entered, Opened, Worked, TimesOf};
 use super::durations;
@@ -20,7 +20,7 @@ fn pick(a: u32, b: u32, latest: bool) -> u32
     b
 }
 
-// What the loop over the arcs begins with: every time of an arc is picked before it.
+// The time with which the loop over the arcs begins: the time of any arc is picked in its place.
 fn start(latest: bool) -> u32
     ensures { λ r. ⌜ r ≡ startOf latest ⌝ }
 {
@@ -30,7 +30,7 @@ fn start(latest: bool) -> u32
     4294967295
 }
 
-// The time of node n. In the table 0 is a node not visited yet, 1 one whose arcs are being gone through, and x + 2 one whose time is x.
+// The time of node n. In the table, 0 is a node that was not visited, 1 a node whose arcs are being visited, and x + 2 a node whose time is x.
 fn time_of_node(
     net: &[u32],
     sheet: &[u32],

@@ -1,4 +1,4 @@
--- The tests of durations decide their clauses: 32, exactly.
+-- The tests of durations decide their clauses: when 32 is answered.
 use Rattle.scan.proofs.Basics.{ℕ, _<_, arith, _≡_, refl, inl, inr, _↔_, true, false, eqb, ltb, none, some, List}
 use Rattle.scan.proofs.Tests.{ltb-false, le-ltb, eqb-true, eq-eqb, and-left, and-right, and-both, or-none-left, or-none-right, decides-not, true-false}
 use Rattle.refusal.specs.Refusal.{refusal}

@@ -1,4 +1,4 @@
--- 32 and 33 exactly, and reporting as an instance of what every call is: how its words are judged, and what they hold that pass.
+-- When 32 and 33 are answered, and reporting as an instance of what holds of every call: the checks of its words, and what is known of words that pass.
 use Rattle.scan.proofs.Basics.{ℕ, _≡_, refl, sym, List, [], _∷_, _++_, length}
 use Rattle.scan.specs.Scan.{orElse, first}
 use Rattle.scan.proofs.First.{orElse-assoc}

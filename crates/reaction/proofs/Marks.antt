@@ -1,4 +1,4 @@
--- The loop test of one node by marks that spread along the busy arcs: sound and closed marks decide it.
+-- The loop test of one node by marks that spread along the busy arcs: if each mark is right and they spread no further, they decide it.
 use Prim.Native.Nat.{ℕ, _<_}
 use mathlib.Core.Path.{_≡_}
 use mathlib.Core.Bool.{Bool, true, false}

@@ -1,5 +1,5 @@
--- What lies between two await nodes (§10.46, §10.47): runs that fire from busy nodes alone, loops of such runs, and reactions.
--- A node is await where a test says so and busy otherwise; which test it is matters to nothing here.
+-- What lies between two await nodes (§10.46, §10.47): runs that fire only from busy nodes, loops of such runs, and reactions.
+-- A test says which nodes are await nodes; the others are busy. Nothing here depends on which test it is.
 use Prim.Native.Nat.{ℕ}
 use mathlib.Core.Path.{_≡_}
 use mathlib.Core.Bool.{Bool, true, false, cond}
@@ -13,11 +13,11 @@ module _ (A : Automaton) (await : ℕ → Bool) where
     pub leads : follow A n σ ≡ some m
     pub busy : (τ : List ℕ) (t : ℕ) (ρ : List ℕ) (p : ℕ) → σ ≡ τ ++ (t ∷ ρ) → follow A n τ ≡ some p → await p ≡ false
 
-  -- §7.33, node n is on a loop that meets no await node: at least one firing, from busy nodes alone, leads from n back to n
+  -- §7.33, node n is on a loop that meets no await node: one or more firings, all from busy nodes, lead from n back to n
   abbrev pub BusyLoop : ℕ → Type 0
   BusyLoop n = (t : ℕ) × (σ : List ℕ) × BusyRun n (t ∷ σ) n
 
-  -- §10.46, a reaction: await node a fires t, and σ leads on, by busy nodes alone, to the next await node.
+  -- §10.46, a reaction: await node a fires t, and σ leads on, through busy nodes only, to the next await node.
   pub record Reaction (a t : ℕ) (σ : List ℕ) (next : ℕ) : Type 0 where
     pub awaits : await a ≡ true
     pub reached : ℕ
@@ -27,7 +27,7 @@ module _ (A : Automaton) (await : ℕ → Bool) where
 
   -- ---- the same, computed
 
-  -- only the arcs of the busy nodes: what can be followed here is a busy run
+  -- the graph with the arcs of the busy nodes only: a list that can be followed here is a busy run
   unfoldable pub busyPart : Automaton
   busyPart = record {
     nodes = A .nodes;

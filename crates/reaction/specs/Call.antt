@@ -26,7 +26,7 @@ sheetGraph net sheet = graph (petriNet net) sheet
 abbrev pub sheetAwait : List ℕ → List ℕ → ℕ → Bool
 sheetAwait net sheet = isAwait (petriNet net) (sheetGraph net sheet)
 
--- best and worst of a node, and of an await node with a source: §10.47
+-- the best and the worst time of a node, and of an await node with a source: §10.47
 module _ (net sheet durations : List ℕ) where
   abbrev pub bestTime : ℕ → ℕ
   bestTime = best (sheetGraph net sheet) (sheetAwait net sheet) (early durations)
@@ -44,7 +44,7 @@ module _ (net sheet durations : List ℕ) where
 unfoldable pub reactionVerdict : List ℕ → List ℕ → List ℕ → Verdict
 reactionVerdict net sheet durations = andThen (scheduleReply net sheet) (verdictOf (reactionFault (petriNet net) sheet durations))
 
--- best and worst of every await node with every source: §10.48
+-- the report, with the best and the worst time of every await node with every source: §10.48
 unfoldable pub reportWords : List ℕ → List ℕ → List ℕ → List ℕ
 reportWords net sheet durations = report (sheetGraph net sheet) (sheetAwait net sheet) (early durations) (late durations)
 
@@ -56,14 +56,14 @@ reactionCore net sheet durations = record {
   results = reportWords net sheet durations ∷ [];
 }
 
--- without scratch
+-- the postcondition without scratch
 abbrev pub ReactionWritten : List ℕ → List ℕ → List ℕ → List ℕ → ReactionAnswer → List ℕ → Type 0
 ReactionWritten net sheet durations out r out′ = WordsDone (reactionCore net sheet durations) (out ∷ []) r (out′ ∷ [])
 
 abbrev pub ReactionDone : List ℕ → List ℕ → List ℕ → List ℕ → List ℕ → ReactionAnswer → List ℕ → List ℕ → Type 0
 ReactionDone net sheet durations out scratch r out′ scratch′ = CallDone scratchLimit (reactionCore net sheet durations) (out ∷ []) scratch r (out′ ∷ []) scratch′
 
--- number, kind, position, length (§8.1), which is 0 where refused (§8.3)
+-- number, kind, position, length (§8.1), which is 0 if refused (§8.3)
 abbrev pub plainReaction : ReactionAnswer → List ℕ
 plainReaction (Written length) = 0 ∷ 0 ∷ 0 ∷ length ∷ []
 plainReaction (Refused r) = told r 1

@@ -9,7 +9,7 @@ use Rattle.sequential.specs.Tests.{isAwait}
 use Rattle.reaction.specs.Loop.{OnNoLoop}
 use Rattle.reaction.specs.Words.{ShapePasses, DurationPasses}
 
--- §7.32: T and the length with nothing, then each transition as an entry
+-- §7.32: T and the length are refused at no position, then each transition as an entry
 abbrev pub durationChecks : List ℕ → ℕ → List Check
 durationChecks durations transitions =
     once (ShapePasses durations transitions) 32
@@ -21,6 +21,6 @@ module _ (N : PetriNet) (sheet : List ℕ) where
   abbrev pub loopChecks : List Check
   loopChecks = each (nodeCount sheet) Node (OnNoLoop (graph N sheet) (isAwait N (graph N sheet)) else 33 ∷ []) ∷ []
 
-  -- after 32
+  -- 33 after 32
   abbrev pub reactionChecks : List ℕ → List Check
   reactionChecks durations = durationChecks durations (N .transitions) ++ loopChecks

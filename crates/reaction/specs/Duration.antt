@@ -7,6 +7,6 @@ unfoldable pub lasting : (ℕ → ℕ) → List ℕ → ℕ
 lasting d [] = 0
 lasting d (t ∷ σ) = d t + lasting d σ
 
--- one for each firing: then a list lasts as many as it has
+-- a duration of 1 for every transition: with it a list lasts as long as it has firings
 abbrev pub each : ℕ → ℕ
 each t = 1

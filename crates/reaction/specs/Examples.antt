@@ -1,4 +1,4 @@
--- Schedules with durations to try: what is answered, as plain numbers, and the words of the report, none where it is refused.
+-- Schedules with durations to try: the answer as plain numbers, and the words of the report, none if refused.
 use Prim.Native.Nat.{ℕ}
 use mathlib.Core.Path.{_≡_}
 use mathlib.Core.List.{List, [], _∷_}
@@ -46,7 +46,7 @@ table =
     timed netA sheetA (2 ∷ 5 ∷ 7 ∷ 10 ∷ 20 ∷ []) (12 ∷ 30 ∷ []) ∷
     -- two await nodes
     timed netA (4 ∷ 6 ∷ 0 ∷ 3 ∷ 4 ∷ 7 ∷ 9 ∷ 11 ∷ 1 ∷ 2 ∷ 3 ∷ 0 ∷ 1 ∷ 1 ∷ []) (2 ∷ 5 ∷ 7 ∷ 10 ∷ 20 ∷ []) (12 ∷ 30 ∷ 12 ∷ 30 ∷ []) ∷
-    -- best and worst by different ways
+    -- the best and the worst time go by different paths
     timed netC (3 ∷ 6 ∷ 0 ∷ 5 ∷ 6 ∷ 11 ∷ 14 ∷ 17 ∷ 1 ∷ 0 ∷ 2 ∷ 0 ∷ 1 ∷ 1 ∷ []) (4 ∷ 1 ∷ 10 ∷ 2 ∷ 3 ∷ 1 ∷ 10 ∷ 20 ∷ 30 ∷ []) (6 ∷ 51 ∷ []) ∷
     -- the limits
     timed netA sheetA (2 ∷ 0 ∷ 1000000 ∷ 1000000 ∷ 1000000 ∷ []) (1000000 ∷ 2000000 ∷ []) ∷

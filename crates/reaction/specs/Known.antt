@@ -1,4 +1,4 @@
--- What the checks leave, for the functions that come after them and for proofs. No promise cites it.
+-- What is known after the checks, for the functions that come after them and for proofs. No promise cites it.
 use Prim.Native.Nat.{ℕ, _<_}
 use mathlib.Core.Path.{_≡_}
 use mathlib.Core.List.{List}

@@ -11,7 +11,7 @@ pub mod Words
 pub mod Checks
 pub mod Tests
 pub mod Call
--- what passes is known, and what is told of it
+-- what the checks leave, and what the report tells
 pub mod Known
 pub mod Times
 pub mod Examples

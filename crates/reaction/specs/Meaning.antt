@@ -1,5 +1,5 @@
 -- What best and worst mean (§10.47): the equations, and the extreme of all runs to the next await node.
--- Said once for both, over a duration d and the order in which the value comes before all others: ≤ for the best, ≥ for the worst.
+-- This is said once for both, over durations d and an order: ≤ for the best, ≥ for the worst.
 use Prim.Native.Nat.{ℕ, _+_}
 use mathlib.Core.Path.{_≡_}
 use mathlib.Core.Bool.{Bool, true, false}
@@ -10,7 +10,7 @@ use Rattle.reaction.specs.Busy.{BusyRun, Reaction}
 use Rattle.reaction.specs.Duration.{lasting}
 
 module _ (A : Automaton) (await : ℕ → Bool) (d : ℕ → ℕ) (Before : ℕ → ℕ → Type 0) where
-  -- The equations at node n: 0 where it is await; where it is busy, the value of one of its arcs and beaten by none of them.
+  -- The equations at node n: the value of an await node is 0; that of a busy node is the value of one of its arcs, and no arc has a better one.
   pub record Solves (value : ℕ → ℕ) (n : ℕ) : Type 0 where
     pub awaits : await n ≡ true → value n ≡ 0
     pub bounds : await n ≡ false → (t m : ℕ) → A .arc n t ≡ some m → Before (value n) (d t + value m)

@@ -1,4 +1,4 @@
--- The checks of durations and of loops, as a computation: for each clause of `reactionChecks` the test that it fails, and what they find.
+-- The checks of durations and of loops as a computation: for each clause of `reactionChecks` a test that it fails, and what these tests find.
 use Prim.Native.Nat.{ℕ, _+_, _*_}
 use mathlib.Core.Bool.{Bool, not, _&&_, _||_}
 use mathlib.Core.List.{List, [], _∷_, _++_}
@@ -18,7 +18,7 @@ module _ (durations : List ℕ) where
   unfoldable pub shapePasses : ℕ → Bool
   shapePasses transitions = eqb (durationCount durations) transitions && eqb (length durations) (1 + 2 * transitions)
 
-  -- the earliest is at most the latest, so the limit on the latest holds both
+  -- the earliest must not be above the latest, so it is enough to compare the latest with the limit
   unfoldable pub durationFails : ℕ → Bool
   durationFails t = ltb (late durations t) (early durations t) || ltb mostDuration (late durations t)
 

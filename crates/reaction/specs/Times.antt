@@ -1,4 +1,4 @@
--- What the report tells of a schedule and durations that pass: times of nodes and of reactions, bounds that are attained (§10.47), and where each pair stands (§10.48).
+-- What the report says about a schedule and durations that pass: times of nodes and of reactions, bounds that are attained (§10.47), and where each pair stands (§10.48).
 use Prim.Native.Nat.{ℕ, _+_, _*_, _-_, _≤_}
 use mathlib.Core.Path.{_≡_}
 use mathlib.Core.List.{List, _∷_, _++_}
@@ -21,7 +21,7 @@ use Rattle.reaction.specs.Call.{sheetGraph, sheetAwait, bestTime, worstT
 -- ---- the times
 
 module _ (net sheet durations : List ℕ) where
-  -- of a node: both values solve their equations, bound every run to the next await node, and are attained
+  -- the times of a node: both values solve their equations, bound every run to the next await node, and are attained
   pub record NodeTimes (n : ℕ) : Type 0 where
     pub best-solves : Solves (sheetGraph net sheet) (sheetAwait net sheet) (early durations) AtMost (bestTime net sheet durations) n
     pub worst-solves : Solves (sheetGraph net sheet) (sheetAwait net sheet) (late durations) AtLeast (worstTime net sheet durations) n
@@ -30,7 +30,7 @@ module _ (net sheet durations : List ℕ) where
     pub ordered : bestTime net sheet durations n ≤ worstTime net sheet durations n
     pub fits : worstTime net sheet durations n ≤ 127000000
 
-  -- of an await node and a source there: the least and the greatest time to the next await node, attained, and where they are written
+  -- the times of an await node and a source: the least and the greatest time to the next await node, both attained, and where they are written
   pub record ReactionTimes (report : List ℕ) (a t : ℕ) : Type 0 where
     pub best-of-reactions : ExtremeOfReactions (sheetGraph net sheet) (sheetAwait net sheet) (early durations) AtMost a t (bestOfSource net sheet durations a t)
     pub worst-of-reactions : ExtremeOfReactions (sheetGraph net sheet) (sheetAwait net sheet) (late durations) AtLeast a t (worstOfSource net sheet durations a t)
@@ -51,7 +51,7 @@ pub record ReportLong (net sheet report : List ℕ) : Type 0 where
 
 -- ---- how many firings
 
--- after the source each firing uses up a busy node: at most as many as there are, and so at most V - 1
+-- after the source each firing leaves another busy node, so there are at most as many firings as busy nodes, and at most V - 1
 pub record FewFirings (net sheet : List ℕ) (σ : List ℕ) : Type 0 where
   pub busy-nodes : length σ ≤ count (isBusy (sheetAwait net sheet)) (nodeCount sheet)
   pub short : length σ ≤ nodeCount sheet - 1

@@ -37,7 +37,7 @@ module _ (durations : List ℕ) where
 
 -- ---- the report (§10.48): two words for every await node with every source of its own, nodes rising and sources rising within a node
 
--- the lists of f one behind another
+-- the lists f 0, f 1, .. one after the other
 unfoldable pub strung : (ℕ → List ℕ) → ℕ → List ℕ
 strung f zero = []
 strung f (suc n) = strung f n ++ f n
@@ -52,6 +52,6 @@ module _ (A : Automaton) (await : ℕ → Bool) (early late : ℕ → ℕ) where
   unfoldable pub report : List ℕ
   report = strung rowAt (A .nodes)
 
--- where the pair of await node n and source t stands: behind every pair of a lower await node, and those of lower sources at n
+-- the index of the pair of await node n and source t: after the pairs of all lower await nodes, and those of lower sources at n
 unfoldable pub placeOf : (ℕ → Bool) → (ℕ → Bool) → ℕ → ℕ → ℕ → ℕ
 placeOf await source transitions n t = 2 * (count await n * count source transitions) + 2 * count source t

@@ -1,4 +1,4 @@
--- What checks in an order find is the one that fails first, and they find nothing exactly where all pass: where the tests decide the clauses.
+-- If the tests decide the clauses, checks in an order find the one that fails first, and nothing exactly if all pass.
 use Rattle.scan.proofs.Basics.{ℕ, _<_, arith, _≡_, refl, sym, ap, _∙_, _⊎_, inl, inr, ⊎-elim, _↔_, Bool, false, Option, none, some, List, [], _∷_}
 use Rattle.scan.specs.Scan.{orElse, when, first}
 use Rattle.scan.proofs.Tests.{byTest, true-false}

@@ -1,4 +1,4 @@
--- Verdicts and what they tell: a finding that refuses, and one check after the other.
+-- Verdicts: a finding that refuses, and one check after the other.
 use Rattle.scan.proofs.Basics.{ℕ, _<_, arith, _≡_, refl, sym, ap, _∙_, _⊎_, inl, inr, Option, none, some, [], _∷_, _++_, replicate}
 use Rattle.scan.specs.Scan.{orElse, first}
 use Rattle.scan.proofs.First.{first-hit, orElse-hit, orElse-next}

@@ -8,7 +8,7 @@ use Rattle.refusal.specs.declared.Position.{Position}
 use Rattle.refusal.specs.declared.Position.the-variants.{Nothing}
 use Rattle.refusal.specs.declared.Refusal.{Refusal}
 
--- what must hold at an index, and the number that refuses where it does not
+-- what must hold at an index, and the number of the refusal if it does not
 pub record Clause : Type 1 where
   pub holds : ℕ → Type 0
   pub number : ℕ

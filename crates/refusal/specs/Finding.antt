@@ -1,5 +1,5 @@
--- Checks in an order, as a computation: given for each clause a test that it fails, the refusal of the first that does.
--- That this is the check that fails first, where the tests decide the clauses, is `finding-tells` of proofs/Checks.
+-- Checks in an order as a computation: each clause is given with a test that it fails, and the refusal is that of the first clause whose test says so.
+-- `finding-tells` of proofs/Checks shows that, if the tests decide the clauses, this is the check that fails first.
 use Prim.Native.Nat.{ℕ, zero, suc}
 use mathlib.Core.Bool.{Bool}
 use mathlib.Core.List.{List, [], _∷_}

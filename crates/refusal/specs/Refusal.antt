@@ -13,7 +13,7 @@ refusal number position = record { number = number; at = position }
 
 -- ---- plain numbers: §8.1, case by case (§13.9)
 
--- the kind of a position (§8.2), and its index, 0 where nothing is counted (§7.52)
+-- the kind of a position (§8.2), and its index, 0 if it counts nothing (§7.52)
 abbrev pub positionTold : Position → List ℕ
 positionTold Nothing = 0 ∷ 0 ∷ []
 positionTold (Entry i) = 1 ∷ i ∷ []
@@ -21,11 +21,11 @@ positionTold (Place i) = 2 ∷ i ∷ []
 positionTold (Node i) = 3 ∷ i ∷ []
 positionTold (Record i) = 4 ∷ i ∷ []
 
--- a refusal, of a call that has so many numbers of its own, which are 0: §8.3
+-- a refusal of a call with the given number of own numbers, all of which are 0: §8.3
 abbrev pub told : Refusal → ℕ → List ℕ
 told r own = r .number ∷ (positionTold (r .at) ++ replicate own 0)
 
--- a verdict, of a call that has no numbers of its own
+-- a verdict of a call without own numbers
 abbrev pub plainOf : Verdict → List ℕ
 plainOf Accepted = 0 ∷ 0 ∷ 0 ∷ []
 plainOf (Refused r) = told r 0

@@ -1,4 +1,4 @@
-// Refusals (§7.51): by number, at a position; what a check answers; and both as plain numbers.
+// Refusals (§7.51), each with a number and a position; what a check answers; and both as plain numbers.
 ghost use mathlib.Core.Path.{_≡_};
 ghost use Rattle.refusal.specs.Refusal.{refusal, numberOf, positionOf, kindOf, indexOf, plainOf};
 
@@ -25,7 +25,7 @@ impl Position {
         }
     }
 
-    // The index as a plain number, 0 where the position counts nothing: §7.52.
+    // The index as a plain number, 0 if the position counts nothing: §7.52.
     pub fn index(self) -> usize
         ensures { λ r. ⌜ r ≡ indexOf self ⌝ }
     {
@@ -58,7 +58,7 @@ impl Limits {
     pub const SCRATCH: usize = 8192; // §1.6
 }
 
-// It holds an enum of kinds, each with its index: §13.8.
+// A refusal. Its position is an enum of the kinds, each with its index: §13.8.
 pub struct Refusal {
     pub number: u32,
     pub at: Position,
@@ -121,7 +121,7 @@ impl Refusal {
     pub const OVER_CAPACITY: u32 = 27; // §7.27, over capacity
 }
 
-// What a check answers that has no numbers of its own.
+// What a check without numbers of its own answers.
 pub enum Verdict {
     Accepted,
     Refused(Refusal),
@@ -138,7 +138,7 @@ impl Verdict {
         }
     }
 
-    // The refusal's position, or that of nothing: §7.51.
+    // The refusal's position, or `Nothing` if accepted: §7.51.
     pub fn at(self) -> Position
         ensures { λ r. ⌜ r ≡ positionOf self ⌝ }
     {

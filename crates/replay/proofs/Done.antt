@@ -1,4 +1,4 @@
--- The replay as an instance of what every call is: how its words are judged, and the paths of its code.
+-- The replay as an instance of what holds of every call: the checks of its words, and the paths of its code.
 use Rattle.scan.proofs.Basics.{ℕ, _≡_, refl, sym, ap, _∙_, none, List, [], _∷_, _++_, length}
 use Rattle.scan.specs.Scan.{tabulate}
 use Rattle.scan.proofs.First.{orElse-next}

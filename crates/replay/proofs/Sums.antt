@@ -1,4 +1,4 @@
--- The sum over the firings of a log is the sum over the transitions, each as often as it fires. And how far such sums go.
+-- The sum over the firings of a log is the sum over the transitions, each as often as it fires. And how great such sums can be.
 use Rattle.scan.proofs.Basics.{ℕ, zero, suc, _+_, _*_, _≤_, _<_, arith, _≡_, refl, sym, ap, _∙_, ⊎-elim, Bool, true, false, cond, eqb, List, length, getD, set, replicate}
 use Prim.Native.Nat.{zero-le}
 use native.Mathlib.Nat.{add-mul, mul-le-mul, suc-mul, zero-mul, one-mul}

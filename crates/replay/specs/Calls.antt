@@ -26,7 +26,7 @@ replayVerdict net sheet log = andThen (scheduleReply net sheet) (verdictOf (repl
 unfoldable pub totalsOf : PetriNet → List ℕ → Totals
 totalsOf N log = record { taken = sum (moved (N .taken) log) (N .places); put = sum (moved (N .put) log) (N .places) }
 
--- and at each place
+-- what the log takes at each place, and what it puts
 unfoldable pub takenRow : PetriNet → List ℕ → List ℕ
 takenRow N log = tabulate (moved (N .taken) log) (N .places)
 
@@ -42,11 +42,11 @@ replayCore net sheet log = record {
   results = takenRow (petriNet net) log ∷ putRow (petriNet net) log ∷ [];
 }
 
--- without scratch
+-- the postcondition without scratch
 abbrev pub ReplayWritten : List ℕ → List ℕ → List ℕ → List ℕ → List ℕ → ReplayAnswer → List ℕ → List ℕ → Type 0
 ReplayWritten net sheet log taken put r taken′ put′ = WordsDone (replayCore net sheet log) (taken ∷ put ∷ []) r (taken′ ∷ put′ ∷ [])
 
--- under any limit of scratch
+-- the postcondition under any limit of scratch
 abbrev pub ReplayWithinDone : ℕ → List ℕ → List ℕ → List ℕ → List ℕ → List ℕ → List ℕ → ReplayAnswer → List ℕ → List ℕ → List ℕ → Type 0
 ReplayWithinDone limit net sheet log taken put scratch r taken′ put′ scratch′ =
     CallDone limit (replayCore net sheet log) (taken ∷ put ∷ []) scratch r (taken′ ∷ put′ ∷ []) scratch′
@@ -54,7 +54,7 @@ ReplayWithinDone limit net sheet log taken put scratch r taken′ put′ scratch
 abbrev pub ReplayDone : List ℕ → List ℕ → List ℕ → List ℕ → List ℕ → List ℕ → ReplayAnswer → List ℕ → List ℕ → List ℕ → Type 0
 ReplayDone = ReplayWithinDone scratchLimit
 
--- ---- what following the firings finds, and all checks: a fault, or the entry of the last arc where there is none
+-- ---- what following the firings finds, and what all checks find: a fault, or, if there is none, the entry of the last arc
 
 pub record LogFollowed (N : PetriNet) (sheet log : List ℕ) (r : Verdict) (e : Index) : Type 0 where
   pub reply : r ≡ verdictOf (first (firingFault N sheet log) (firingCount log))

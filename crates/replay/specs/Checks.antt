@@ -30,10 +30,10 @@ module _ (N : PetriNet) (sheet log : List ℕ) where
   abbrev pub FiringOffered : ℕ → Type 0
   FiringOffered i = allows (graph N sheet) 0 (firingsTo log (suc i)) ≡ true
 
-  -- and lead to the node that is logged there: §7.24
+  -- they lead to the node that is logged for it: §7.24
   abbrev pub NodeReached : ℕ → Type 0
   NodeReached i = leads (suc i) ≡ some (loggedAt log i)
 
-  -- at each firing in turn; both tell its index: §7.61
+  -- both checks at each firing in turn, with its index as the position: §7.61
   abbrev pub replayChecks : List Check
   replayChecks = logChecks log ++ (each (firingCount log) Record (FiringOffered else 20 ∷ NodeReached else 24 ∷ []) ∷ [])

@@ -9,15 +9,15 @@ use Rattle.sequential.specs.Words.{nodeCount, entryCount}
 use Rattle.graph.specs.Readable.{ArcsReadable}
 use Rattle.graph.specs.Rows.{arcsStart}
 
--- by each node, the first key of its arcs: §3.5
+-- for each node, the first key of its arcs: §3.5
 pub record FirstKeys (net sheet keys : List ℕ) : Type 0 where
   pub key : (n : ℕ) → n < nodeCount sheet → getD keys n 0 ≡ arcsStart net n
 
--- by each node, the entry at which its arcs begin
+-- for each node, the entry at which its arcs begin
 pub record ArcStarts (net sheet starts : List ℕ) : Type 0 where
   pub start : (n : ℕ) → n < nodeCount sheet → getD starts n 0 ≡ lowerBound sheet 2 (entryCount sheet) (arcsStart net n)
 
--- both, T, and a node
+-- both tables, T, and a node
 pub record LooksUp (net sheet keys starts : List ℕ) (transitions node : ℕ) : Type 0 where
   pub readable : ArcsReadable net sheet
   pub keys-are : FirstKeys net sheet keys
@@ -25,12 +25,12 @@ pub record LooksUp (net sheet keys starts : List ℕ) (transitions node : ℕ) :
   pub all : transitions ≡ transitionCount net
   pub at-node : node < nodeCount sheet
 
--- ranks, whichever they are: a guess by one is a word
+-- ranks of any value; a guess that uses one still fits a word
 pub record Ranks (ranks : List ℕ) : Type 0 where
   pub long : length ranks ≡ 32
   pub low : (t : ℕ) → t < 32 → getD ranks t 0 ≤ 4096
 
--- an entry of words that are whole
+-- an entry of words that have their right length
 pub record EntryThere (sheet : List ℕ) (e : ℕ) : Type 0 where
   pub whole : length sheet ≡ 2 + 2 * entryCount sheet
   pub there : e < entryCount sheet

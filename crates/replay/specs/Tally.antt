@@ -20,7 +20,7 @@ pub record LogHolds (log : List ℕ) : Type 0 where
   pub few : firingCount log ≤ mostFirings
   pub whole : length log ≡ 1 + 2 * firingCount log
 
--- whether firing i is one of t
+-- whether firing i fires t
 unfoldable pub fires : List ℕ → ℕ → ℕ → Bool
 fires log t i = eqb (firedAt log i) t
 
@@ -32,7 +32,7 @@ abbrev pub sideOf : PetriNet → Bool → ℕ → ℕ → ℕ
 sideOf N true = N .put
 sideOf N false = N .taken
 
--- what t moves at p where each transition has fired so often, and the first n transitions together
+-- what t moves at p, if `often` says how often each transition has fired; and what the first n transitions move together
 module _ (moves : ℕ → ℕ → ℕ) (often : List ℕ) where
   unfoldable pub weighedBy : ℕ → ℕ → ℕ
   weighedBy p t = getD often t 0 * moves t p
@@ -40,24 +40,24 @@ module _ (moves : ℕ → ℕ → ℕ) (often : List ℕ) where
   unfoldable pub weighed : ℕ → ℕ → ℕ
   weighed n p = sum (weighedBy p) n
 
--- a row so many times, on top of sums
+-- the sum at p after `times` times a row is added
 unfoldable pub added : List ℕ → List ℕ → ℕ → ℕ → ℕ
 added sums row times p = getD sums p 0 + times * getD row p 0
 
 abbrev pub at : List ℕ → ℕ → ℕ
 at row p = getD row p 0
 
--- no number of a row of 32 is above that
+-- no number of a row of 32 is above `most`
 abbrev pub AtMost : ℕ → List ℕ → Type 0
 AtMost most row = (p : ℕ) → p < 32 → getD row p 0 ≤ most
 
--- what both sides ask: a net, and a log whose firings are transitions of it
+-- what adding up both sides relies on: a net, and a log whose firings are transitions of the net
 pub record Countable (net log : List ℕ) : Type 0 where
   pub accepted : netReply net ≡ Accepted
   pub holds : LogHolds log
   pub low : (i : ℕ) → i < firingCount log → firedAt log i < transitionCount net
 
--- what one side asks: a net, and how often each transition fires, 4,096 times at most
+-- what adding up one side relies on: a net, and how often each transition fires, at most 4,096 times
 pub record Weighable (net often : List ℕ) : Type 0 where
   pub accepted : netReply net ≡ Accepted
   pub most : AtMost 4096 often
@@ -67,12 +67,12 @@ pub record Rooms (net taken put : List ℕ) : Type 0 where
   pub taken-room : placeCount net ≤ length taken
   pub put-room : placeCount net ≤ length put
 
--- one side written by place, and its total
+-- one side is written place by place, and its total is answered
 pub record SideDone (moves : ℕ → ℕ → ℕ) (often : List ℕ) (transitions places : ℕ) (out : List ℕ) (r : ℕ) (out′ : List ℕ) : Type 0 where
   pub written : out′ ≡ tabulate (weighed moves often transitions) places ++ drop places out
   pub total : r ≡ sum (weighed moves often transitions) places
 
--- both
+-- both sides are written, and both totals answered
 pub record Settled (net log taken put : List ℕ) (r : Totals) (taken′ put′ : List ℕ) : Type 0 where
   pub all : r ≡ totalsOf (petriNet net) log
   pub taken-written : taken′ ≡ takenRow (petriNet net) log ++ drop (placeCount net) taken

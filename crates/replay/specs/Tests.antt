@@ -1,4 +1,4 @@
--- The checks of a log, as a computation: for each clause of `replayChecks` the test that it fails, and what they find.
+-- The checks of a log as a computation: for each clause of `replayChecks` a test that it fails, and what these tests find.
 use Prim.Native.Nat.{ℕ, suc, _+_, _*_}
 use mathlib.Core.Bool.{Bool, true, not}
 use mathlib.Core.List.{List, [], _∷_, _++_}

@@ -1,4 +1,4 @@
-// The firings of a log followed along the arcs from node 0, each node reached compared with the one that is logged.
+// Follows the firings of a log along the arcs from node 0, and compares each node that is reached with the one that is logged.
 ghost use Rattle.sequential.specs.Petri.{petriNet};
 ghost use Rattle.graph.specs.Readable.{ArcsReadable};
 ghost use Rattle.replay.specs.Calls.{LogFollowed};
@@ -10,7 +10,7 @@ use refusal::Refusal;
 use refusal::Verdict;
 use table::Found;
 
-// What is found, and the entry of the last arc where nothing is.
+// The verdict, and the entry of the last arc if it is accepted.
 pub(crate) struct Findings {
     pub verdict: Verdict,
     pub entry: Index,
@@ -55,7 +55,7 @@ pub(crate) fn followed(net: &[u32], sheet: &[u32], log: &[u32]) -> Findings
                         entry,
                     };
                 }
-                // the schedule's own node, by the log: the next firing does not wait for the schedule
+                // The logged node is the one that was reached. It is taken from the log, so that the next firing does not wait for a read of the schedule.
                 node = logged;
                 entry = Index::Known(e as u32);
                 i += 1;

@@ -41,7 +41,7 @@ pub(crate) fn arc_starts(net: &[u32], sheet: &[u32], keys: &[u16; 128]) -> [u16;
     starts
 }
 
-// The entry of the arc of t at a node. The ranks are those found before; where the guess by one fails, it is found anew.
+// The entry of the arc by t at a node, guessed by the rank at which t was last found. If the guess fails, the arc is looked up, and the rank kept.
 pub(crate) fn arc(
     net: &[u32],
     sheet: &[u32],
@@ -56,7 +56,7 @@ pub(crate) fn arc(
     requires { ⌜ Ranks (now ranks) ⌝ }
     ensures { λ r. ⌜ (r ≡ arcLookUp (now (net .entry)) (now (sheet .entry)) node t) × Ranks (now (ranks .exit)) ⌝ }
 {
-    // no node offers it: §3.7
+    // t is no transition, so no node offers it: §3.7
     if transitions <= t {
         return Found::Nothing;
     }

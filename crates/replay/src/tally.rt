@@ -1,4 +1,4 @@
-// What a log moves: how often each transition fires, times its row.
+// What a log moves: for each transition, how often it fires times its row of weights.
 ghost use mathlib.Core.Path.{_≡_};
 ghost use mathlib.Core.Bool.{cond};
 ghost use Prim.Native.Nat.{ℕ, _≤_, _<_};
@@ -45,7 +45,7 @@ fn wide(x: u32) -> u64
     x as u64
 }
 
-// A row so many times, on top of the sums. 4,096 times a word, 32 times over, is far below 2 ^ 50.
+// The sums, with `times` times a row added. A sum has at most 32 such terms of at most 4,096 times a word, which is far below 2 ^ 50.
 fn add_row(sums: [u64; 32], row: [u32; 32], times: u32) -> [u64; 32]
     requires { ⌜ times ≤ 4096 ⌝ }
     requires { ⌜ AtMost 1125899906842624 sums ⌝ }
@@ -58,7 +58,7 @@ fn add_row(sums: [u64; 32], row: [u32; 32], times: u32) -> [u64; 32]
     next
 }
 
-// What all firings put into each place, or take from it, 0 from P on.
+// What all firings together put into each place, or take from it; 0 from P on.
 fn weigh(net: &[u32], often: [u32; 32], putting: bool) -> [u64; 32]
     requires { ⌜ Weighable (now net) often ⌝ }
     ensures { λ r. ⌜ r ≡ tabulate (weighed (sideOf (petriNet (now (net .entry))) putting) often (transitionCount (now (net .entry)))) 32 ⌝ }
@@ -107,7 +107,7 @@ fn write_row(row: [u64; 32], out: &mut [u64], n: usize)
     }
 }
 
-// One side: what is moved written by place, and its total.
+// One side, taken or put: writes what is moved at each place, and answers the total.
 fn side(net: &[u32], often: [u32; 32], putting: bool, out: &mut [u64]) -> u64
     requires { ⌜ Weighable (now net) often ⌝ }
     requires { ⌜ placeCount (now net) ≤ length (now out) ⌝ }
@@ -119,7 +119,7 @@ fn side(net: &[u32], often: [u32; 32], putting: bool, out: &mut [u64]) -> u64
     total(row, places)
 }
 
-// Both sides.
+// Both sides, taken and put.
 pub(crate) fn settle(net: &[u32], log: &[u32], taken: &mut [u64], put: &mut [u64]) -> Totals
     requires { ⌜ Countable (now net) (now log) ⌝ }
     requires { ⌜ Rooms (now net) (now taken) (now put) ⌝ }

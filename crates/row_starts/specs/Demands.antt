@@ -1,5 +1,5 @@
--- What is promised of the page of row starts, as a statement (§3.9). proofs/Demands has the term. That the lines of the code are those of the page is the
--- contract of `line`.
+-- What is promised of the page of row starts, as a statement (§3.9). proofs/Demands has the term. The contract of `line` says that the lines of the code are those
+-- of the page.
 use Prim.Native.Nat.{ℕ, _+_, _*_, _-_, _≤_, _<_}
 use mathlib.Core.Path.{_≡_}
 use lib.ListN.{getD}

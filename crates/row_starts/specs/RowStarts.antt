@@ -7,6 +7,6 @@ use lib.Dec.{ltb, leb}
 unfoldable pub onPage : ℕ → ℕ → Bool
 onPage n T = ltb n 128 && (leb 1 T && leb T 32)
 
--- the number that the page has, 0 where it has none
+-- the number that the page has, 0 if it has none
 unfoldable pub rowStart : ℕ → ℕ → ℕ
 rowStart n T = cond (onPage n T) (n * T) 0

@@ -6,7 +6,7 @@ ghost use Prim.Native.Nat.{_-_, _≤_, _<_};
 ghost use Rattle.row_starts.specs.Page.{lines};
 ghost use Rattle.row_starts.specs.RowStarts.{rowStart};
 
-// The page of the manual: a line for each node, in it a number for each count of transitions, n × T.
+// The page of the manual: a line for each node n, with the number n × T for each T.
 const LINE_0: [u16; 32] = [0, 0, 0, 0, 0, 0, 0, 0, 0, 0, 0, 0, 0, 0, 0, 0, 0, 0, 0, 0, 0, 0, 0, 0, 0, 0, 0, 0, 0, 0, 0, 0];
 const LINE_1: [u16; 32] = [1, 2, 3, 4, 5, 6, 7, 8, 9, 10, 11, 12, 13, 14, 15, 16, 17, 18, 19, 20, 21, 22, 23, 24, 25, 26, 27, 28, 29, 30, 31, 32];
 const LINE_2: [u16; 32] = [2, 4, 6, 8, 10, 12, 14, 16, 18, 20, 22, 24, 26, 28, 30, 32, 34, 36, 38, 40, 42, 44, 46, 48, 50, 52, 54, 56, 58, 60, 62, 64];
@@ -272,7 +272,7 @@ fn line(n: u32) -> [u16; 32]
     }
 }
 
-// Its number for so many transitions: by constant indices no line is stored.
+// The number of a line for a count of transitions. The indices are constants, so that the compiled code stores no line.
 fn number(line: [u16; 32], transitions: u32) -> u16
     requires { ⌜ (1 ≤ transitions) × (transitions ≤ 32) ⌝ }
     ensures { λ r. ⌜ r ≡ getD line (transitions - 1) 0 ⌝ }
@@ -319,7 +319,7 @@ fn wide(x: u16) -> u32
     x as u32
 }
 
-// The start of node n's row where there are so many transitions; 0 where the page has no number.
+// The first key of node n's arcs for a count of transitions; 0 if the page has no such number.
 pub fn start(n: u32, transitions: u32) -> u32
     ensures { λ r. ⌜ (r ≡ rowStart n transitions) × (r ≤ 65535) ⌝ }
 {

@@ -1,4 +1,4 @@
--- The words of the logic that nearly every proof uses, passed on from one place: numbers and their arithmetic, equality, alternatives, truth values, options and lists.
+-- The vocabulary of the logic that nearly every proof uses, exported from one file: numbers and their arithmetic, equality, alternatives, truth values, options and lists.
 pub use Prim.Native.Nat.{ℕ, zero, suc, _+_, _-_, _*_, _/_, _%_, _≤_, _<_}
 pub use native.Mathlib.Omega.{arith}
 pub use mathlib.Core.Path.{_≡_, refl, sym, ap, subst, _∙_}

@@ -1,4 +1,4 @@
--- How tests that decide clauses are put together: of every index and of some, both of two, one unless another passes, and two that agree.
+-- How tests that decide clauses are combined: for every index, for some index, for both of two clauses, for one unless another holds, and for two that agree.
 use Rattle.scan.proofs.Basics.{ℕ, _≤_, _<_, _≡_, refl, _↔_, Bool, true, false, _&&_, _||_, ltb, leb, eqb}
 use mathlib.Core.Bool.{Bool·beq}
 use Rattle.scan.proofs.Tests.{ltb-true, lt-ltb, leb-true, le-leb, eqb-true, eq-eqb, true-false, iff→eq, and-left, and-right, and-both}

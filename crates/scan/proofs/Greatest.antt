@@ -1,4 +1,4 @@
--- The greatest value: a bound on each, and attained.
+-- The greatest value: it bounds every value, and some value equals it.
 -- a turn of a loop
 use Rattle.scan.proofs.Basics.{ℕ, zero, suc, _+_, _≤_, _<_, arith, _≡_, ⊎-elim}
 use Prim.Native.Nat.{max}

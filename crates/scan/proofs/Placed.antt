@@ -1,4 +1,4 @@
--- Words written one after the other from a place on: more words, one more, and a buffer that is full.
+-- Words written one after the other from an index on: more words, one more word, and a buffer that is full.
 use Rattle.scan.proofs.Basics.{ℕ, suc, _+_, _≤_, _<_, arith, _≡_, refl, sym, ap, _∙_, leb, List, [], _∷_, _++_, length, getD, take, drop, set, length-append}
 use native.Mathlib.Nat.{add-zero, zero-add}
 use native.Mathlib.Numerals.{add-one}

@@ -31,7 +31,7 @@ module _ {A : Type 0} where
   tabulate f zero = []
   tabulate f (suc n) = tabulate f n ++ (f n ∷ [])
 
--- of what is found, or d where nothing is
+-- a function of what is found, or d if nothing is
 abbrev pub foundOr {ℓ} : {X : Type ℓ} → X → (ℕ → X) → Option ℕ → X
 foundOr d f none = d
 foundOr d f (some i) = f i

@@ -1,4 +1,4 @@
--- The bounds that are answered without judging are what they are promised to be.
+-- The bounds that are answered without a check of the schedule are what they are promised to be.
 use Rattle.net.proofs.Checks.{net-judged}
 use Rattle.sequential.specs.Petri.{petriNet}
 use Rattle.sequential.proofs.Words.{words-hold}

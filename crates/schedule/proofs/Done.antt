@@ -1,4 +1,4 @@
--- The calls as instances of what every call is: the schedule check's answer, and how each call's words are judged.
+-- The calls as instances of what holds of every call: the schedule check's answer, and the checks of each call's words.
 use Rattle.scan.proofs.Basics.{ℕ, _≡_, refl, ap, _∙_, Option, List, [], _∷_, _++_, length}
 use Rattle.refusal.specs.Refusal.{plainOf}
 use Rattle.refusal.specs.Checks.{Check}

@@ -1,4 +1,4 @@
--- Single firings one after the other, each with the walker that the one before handed back, go as the graph's arcs do.
+-- Single firings one after the other, each with the walker that the one before handed back, follow the arcs of the graph.
 use Rattle.scan.proofs.Basics.{ℕ, _≡_, refl, sym, ap, _∙_, none, some, List, [], _∷_, length}
 use Rattle.scan.specs.Scan.{foundOr}
 use Rattle.automaton.specs.Automaton.{follow}

@@ -27,7 +27,7 @@ use Rattle.schedule.specs.declared.RunAnswer.the-variants.{Done, Stopped
 abbrev pub checkCore : List ℕ → List ℕ → Core CheckAnswer
 checkCore net sheet = record { verdict = scheduleReply net sheet; accepted = Passed (countsOf net sheet); refused = Failed; results = [] }
 
--- under any limit of scratch
+-- the postcondition under any limit of scratch
 abbrev pub CheckWithinDone : ℕ → List ℕ → List ℕ → List ℕ → CheckAnswer → List ℕ → Type 0
 CheckWithinDone limit net sheet scratch r scratch′ = CallDone limit (checkCore net sheet) [] scratch r [] scratch′
 
@@ -39,7 +39,7 @@ CheckDone = CheckWithinDone scratchLimit
 abbrev pub boundsCore : List ℕ → List ℕ → Core Verdict
 boundsCore net sheet = record { verdict = scheduleReply net sheet; accepted = Accepted; refused = Refused; results = bounds (petriNet net) sheet ∷ [] }
 
--- without scratch
+-- the postcondition without scratch
 abbrev pub BoundsWritten : List ℕ → List ℕ → List ℕ → Verdict → List ℕ → Type 0
 BoundsWritten net sheet out r out′ = WordsDone (boundsCore net sheet) (out ∷ []) r (out′ ∷ [])
 
@@ -65,7 +65,7 @@ fireCore net sheet w t = record {
   results = [];
 }
 
--- without scratch
+-- the postcondition without scratch
 abbrev pub StepDone : List ℕ → List ℕ → Walker → ℕ → FireAnswer → Walker → Type 0
 StepDone net sheet w t r next = WordsDone (fireCore net sheet w t) [] (r, next) []
 
@@ -85,7 +85,7 @@ runCore net sheet firings = record {
   results = endCounts net firings ∷ [];
 }
 
--- without scratch
+-- the postcondition without scratch
 abbrev pub RunWritten : List ℕ → List ℕ → List ℕ → List ℕ → RunAnswer → List ℕ → Type 0
 RunWritten net sheet firings out r out′ = WordsDone (runCore net sheet firings) (out ∷ []) r (out′ ∷ [])
 

@@ -1,4 +1,4 @@
--- What is promised of the bounds that are answered without judging, as a statement: on words that 1 to 9 and 26 do not refuse. proofs/Demands has the term.
+-- What is promised of the bounds that are answered without a check of the schedule, as a statement on words that pass 1 to 9 and 26. proofs/Demands has the term.
 use Prim.Native.Nat.{ℕ}
 use mathlib.Core.Path.{_≡_}
 use mathlib.Core.List.{List}

@@ -60,12 +60,12 @@ module _ (N : PetriNet) (sheet : List ℕ) (w : Walker) where
 -- ---- a run: §10.8
 
 module _ (N : PetriNet) (sheet firings : List ℕ) where
-  -- the node after so many firings; it stays where there is no arc
+  -- the node after n firings; a firing without an arc leaves it as it is
   unfoldable pub nodeAfter : ℕ → ℕ
   nodeAfter zero = 0
   nodeAfter (suc i) = foundOr (nodeAfter i) (λ m. m) (arc N sheet (nodeAfter i) (getD firings i 0))
 
-  -- the entry of the arc of the last of so many firings, at the node that those before it lead to; none where nothing is fired: §10.13
+  -- the entry of the last arc after n firings, at the node to which the firings before lead; none if nothing is fired: §10.13
   unfoldable pub entryAfter : ℕ → Option ℕ
   entryAfter zero = none
   entryAfter (suc i) = arcEntry N sheet (nodeAfter i) (getD firings i 0)
@@ -83,7 +83,7 @@ module _ (N : PetriNet) (sheet firings : List ℕ) where
 unfoldable pub endCounts : List ℕ → List ℕ → List ℕ
 endCounts net firings = fireAll (petriNet net) (initial (petriNet net)) firings
 
--- what following the firings finds: the first that is not offered, or the node at the end and the entry of the last arc where all are
+-- what following the firings finds: the first that is not offered; or, if all are, the node at the end and the entry of the last arc
 pub record FollowedTo (N : PetriNet) (sheet firings : List ℕ) (r : Verdict) (n : ℕ) (e : Index) : Type 0 where
   pub reply : r ≡ verdictOf (runFault N sheet firings)
   pub node : r ≡ Accepted → n ≡ nodeAfter N sheet firings (length firings)

@@ -9,12 +9,12 @@ use Rattle.schedule.specs.declared.FireAnswer.the-variants as fire
 use Rattle.schedule.specs.declared.RunAnswer.{RunAnswer}
 use Rattle.schedule.specs.declared.RunAnswer.the-variants.{Done, Stopped}
 
--- number, kind, position, the entry (§10.13); missing where refused (§8.3)
+-- number, kind, position, the entry (§10.13), which is missing if refused (§8.3)
 abbrev pub plainFire : FireAnswer → List ℕ
 plainFire (fire.Done e) = 0 ∷ 0 ∷ 0 ∷ plainIndex (Known e) ∷ []
 plainFire (fire.Stopped r) = told r 1
 
--- number, kind, position, how many were fired, the node at the end (§10.8), the entry (§10.13); the last three 0 where refused (§8.3)
+-- number, kind, position, how many were fired, the node at the end (§10.8), the entry (§10.13); the last three are 0 if refused (§8.3)
 abbrev pub plainRun : RunAnswer → List ℕ
 plainRun (Done d) = 0 ∷ 0 ∷ 0 ∷ d .fired ∷ d .node ∷ plainIndex (d .entry) ∷ []
 plainRun (Stopped r) = told r 3

@@ -1,4 +1,4 @@
--- Walkers: where one stands, and the checks of one that is to fire, each with its clause and its number.
+-- Walkers: where a walker stands, and the checks before it fires, each with its clause and its number.
 use Prim.Native.Nat.{ℕ, suc, _≤_, _<_}
 use mathlib.Core.Path.{_≡_}
 use mathlib.Core.List.{List, [], _∷_, _++_}
@@ -16,7 +16,7 @@ use Rattle.schedule.specs.declared.Walker.{Walker}
 abbrev pub walker : ℕ → List ℕ → Walker
 walker n counts = record { node = n; counts = counts }
 
--- at a node, with as many counts as there can be places, those from P on being 0: §10.5
+-- a walker stands at node n, with 32 counts, which are `held` and 0 from P on: §10.5
 pub record Stands (N : PetriNet) (w : Walker) (n : ℕ) (held : ℕ → ℕ) : Type 0 where
   pub node : w .node ≡ n
   pub counts : length (w .counts) ≡ mostPlaces
@@ -30,7 +30,7 @@ standChecks N sheet w =
     ∷ each mostPlaces Place ((λ p. getD (w .counts) p 0 ≡ countAt N sheet (w .node) p) else 19 ∷ [])
     ∷ []
 
--- §7.18 to §7.20, in the order of §7.58; 20 counts nothing here (§7.53)
+-- §7.18 to §7.20, in the order of §7.58; 20 has no position here (§7.53)
 abbrev pub walkerChecks : PetriNet → List ℕ → Walker → ℕ → List Check
 walkerChecks N sheet w t = standChecks N sheet w ++ (once (Offers N (graph N sheet) (w .node) t) 20 ∷ [])
 

@@ -1,4 +1,4 @@
--- What holds of walkers on an accepted schedule, for proofs: the one handed back, and one firing after the other.
+-- What holds of walkers on an accepted schedule, for proofs: of the walker handed back, and of firings one after the other.
 use Prim.Native.Nat.{ℕ, _+_, _-_}
 use mathlib.Core.Path.{_≡_}
 use mathlib.Core.List.{List, [], _∷_}
@@ -10,7 +10,7 @@ use Rattle.schedule.specs.Walker.{Stands}
 use Rattle.schedule.specs.Firing.{walkerFault, stepFault, follows}
 use Rattle.schedule.specs.declared.Walker.{Walker}
 
--- it stands on the arc's target, with what firing gives, and passes 18 and 19 again
+-- the walker handed back stands at the arc's target, with the counts that firing gives, and passes 18 and 19 again
 pub record HandedBack (N : PetriNet) (sheet : List ℕ) (w : Walker) (t : ℕ) (next : Walker) : Type 0 where
   pub target : arc N sheet (w .node) t ≡ some (next .node)
   pub enabled : Enabled N (w .counts) t

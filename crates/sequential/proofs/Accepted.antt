@@ -1,4 +1,4 @@
--- Accepted exactly where all checks pass, and so exactly where the net is one, the words pass, and the graph that they say is a schedule.
+-- A schedule is accepted exactly if all checks pass, and so exactly if the net's words are right, its own words are right, and its graph is a sequential schedule.
 use Rattle.scan.proofs.Basics.{ℕ, _<_, arith, _≡_, refl, _↔_, some, List, _++_}
 use Rattle.automaton.specs.Automaton.{Closed}
 use Rattle.refusal.specs.Checks.{AllPass}

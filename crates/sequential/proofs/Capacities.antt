@@ -1,4 +1,4 @@
--- Capacities: firing enabled transitions keeps every place within its own; and what enabling is where there are none.
+-- Capacities: firing enabled transitions keeps every place within its capacity; and when a transition is enabled if there are no capacities.
 use Rattle.scan.proofs.Basics.{ℕ, _<_, arith, _≡_, none, List, [], _∷_, getD}
 use Rattle.scan.proofs.Tests.{byLess}
 use Rattle.scan.proofs.First.{none-some}

@@ -1,4 +1,4 @@
--- A net or a sheet of more words than fit is answered as its first words are: the longest sheet has 8,194.
+-- A net or a sheet with too many words is answered as its first words are: the longest sheet has 8,194.
 use Rattle.scan.proofs.Basics.{ℕ, _+_, _*_, _≤_, _<_, arith, _≡_, sym, ap, _∙_, true, false, cond, ltb, eqb, some, List, length, take}
 use lib.Seq.{getD-take, take-all, length-take-le}
 use Rattle.scan.proofs.Tests.{le-ltb, ne-eqb, byTest, byLess}

@@ -1,4 +1,4 @@
--- A net with one source alone: what is removed with the others, what of a schedule's words and arcs does not ask for it, and which choice sets are left.
+-- A net with one source left: what is removed, which checks of a schedule's words and arcs do not depend on it, and which choice sets are left.
 use Rattle.scan.proofs.Basics.{ℕ, _<_, arith, _≡_, refl, sym, _∙_, ap, inl, inr, ⊎-elim, _↔_, Bool, true, false, not, _&&_, ltb, eqb, List}
 use mathlib.Core.Path.{fun-ext}
 use Rattle.scan.proofs.Tests.{ltb-true, le-ltb, eqb-true, eq-eqb, ne-eqb, byTest, true-false, not-true→false, and-left, and-right, and-true}

@@ -1,4 +1,4 @@
--- Paths of at most V - 1 firings: to every node that is reached, and to an await node where there is one.
+-- Paths of at most V - 1 firings: to every node that is reached, and to an await node if some path leads to one.
 use Rattle.scan.proofs.Basics.{ℕ, _<_, List}
 use Rattle.automaton.proofs.Reach.{reachable-short}
 use Rattle.automaton.proofs.Lead.{leads-short}

@@ -1,4 +1,4 @@
--- The published definition and §6.1: a schedule is one in the published sense (§6.12), and one of those whose states are all reached is a schedule.
+-- The published definition and §6.1: a schedule by that clause is one in the published sense (§6.12), and a published one whose states are all reached is one by the clause.
 use Rattle.scan.proofs.Basics.{ℕ, _<_, _≡_, _↔_, some, List, [], _∷_}
 use Rattle.automaton.specs.Automaton.{Automaton, Closed, follow}
 use Rattle.automaton.specs.Reach.{Reachable}

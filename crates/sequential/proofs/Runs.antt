@@ -1,4 +1,4 @@
--- Lists that a schedule allows: they fire from the initial marking, go on by one choice set, and lead on to an await node.
+-- Lists that a schedule allows: they can be fired from the initial marking, can be continued by one choice set, and some continuation leads to an await node.
 use Rattle.scan.proofs.Basics.{ℕ, _<_, _≡_, sym, ap, _∙_, true, some, List, [], _∷_, _++_, length}
 use Rattle.scan.proofs.Tabulate.{tabulate-length}
 use Rattle.automaton.specs.Automaton.{Automaton, Closed, follow, allows}

@@ -1,4 +1,4 @@
--- 6 to 9: the tests decide the clauses, and what a schedule's words hold that pass.
+-- 6 to 9: the tests decide the clauses, and what is known of words that pass.
 use Rattle.scan.proofs.Basics.{ℕ, _+_, _≤_, _<_, arith, _≡_, sym, ap, _∙_, _↔_, Bool, true, false, ltb, eqb, none, List, [], _∷_, _++_, length}
 use Rattle.scan.proofs.Tests.{ltb-true, ltb-false, lt-ltb, le-ltb, leb-false, lt-leb, eqb-true, eqb-false, eq-eqb, ne-eqb, byTest, decides-not, or-none-left, or-none-right}
 use Rattle.scan.specs.Scan.{orElse, first}

@@ -1,4 +1,4 @@
--- The check of a schedule, as a computation: for each clause of `sheetChecks` the test that it fails, and what they find.
+-- The check of a schedule as a computation: for each clause of `sheetChecks` a test that it fails, and what these tests find.
 use Prim.Native.Nat.{ℕ, _+_, _*_, _-_}
 use mathlib.Core.List.{List, [], _∷_, _++_}
 use mathlib.Core.Bool.{Bool, cond, not, _&&_, _||_}
@@ -43,11 +43,11 @@ targetFails nodes value = leb nodes value
 unfoldable pub countFails : ℕ → Bool
 countFails value = eqb value 0 || ltb mostCount value
 
--- 0 is right for an arc alone: §3.8
+-- the value of an entry fails; 0 is right only for an arc: §3.8
 unfoldable pub valueFails : List ℕ → ℕ → ℕ → Bool
 valueFails sheet arcs i = cond (ltb (entryKey sheet i) arcs) (targetFails (nodeCount sheet) (entryValue sheet i)) (countFails (entryValue sheet i))
 
--- of arcs alone
+-- the same, but asked of arcs only: a count never fails
 unfoldable pub arcValueFails : List ℕ → ℕ → ℕ → Bool
 arcValueFails sheet arcs i = ltb (entryKey sheet i) arcs && targetFails (nodeCount sheet) (entryValue sheet i)
 
@@ -60,7 +60,7 @@ unfoldable pub entryFault : List ℕ → ℕ → (ℕ → Bool) → ℕ → Opti
 entryFault sheet limit fails i = orElse (when (keyFails sheet 2 limit i) (refusal 8 (Entry i))) (when (fails i) (refusal 9 (Entry i)))
 
 module _ (N : PetriNet) (sheet : List ℕ) where
-  -- given the test of an entry's value
+  -- the tests of the words, given the test of an entry's value
   abbrev pub wordTests : (ℕ → Bool) → List Tests
   wordTests fails = shapeTests sheet ++ ((keyFails sheet 2 (keyLimit N sheet) ∷ fails ∷ []) ∷ [])
 
@@ -68,7 +68,7 @@ module _ (N : PetriNet) (sheet : List ℕ) where
   unfoldable pub wordsFault : Option Refusal
   wordsFault = finding (wordChecks N sheet) (wordTests (valueFails sheet (arcKeys N sheet)))
 
-  -- 6 to 8, and 9 of arcs alone
+  -- 6 to 9, with 9 asked of arcs only
   unfoldable pub arcWordsFault : Option Refusal
   arcWordsFault = finding (arcWordChecks N sheet) (wordTests (arcValueFails sheet (arcKeys N sheet)))
 
@@ -100,7 +100,7 @@ module _ (N : PetriNet) (sheet : List ℕ) where
       ∷ ((λ n. not (leadsIn (graph N sheet) (isAwait N (graph N sheet)) (nodeCount sheet - 1) n)) ∷ [])
       ∷ []
 
-  -- what each line finds at one place, node or entry
+  -- what each line of `graphTests` finds at one place, node or entry
   unfoldable pub startFault : ℕ → Option Refusal
   startFault p = lineFinds (graphChecks N sheet) graphTests 0 p
 
@@ -139,6 +139,6 @@ module _ (N : PetriNet) (sheet : List ℕ) where
 unfoldable pub scheduleReply : List ℕ → List ℕ → Verdict
 scheduleReply net sheet = andThen (netReply net) (verdictOf (scheduleFault (petriNet net) sheet))
 
--- the same of a schedule of the net with one source alone: an arc of a removed one is refused by 12
+-- the same for the net with one source left: an arc by a removed source is refused by 12
 unfoldable pub taskReply : List ℕ → ℕ → List ℕ → Verdict
 taskReply net s sheet = andThen (netReply net) (verdictOf (scheduleFault (only (petriNet net) s) sheet))

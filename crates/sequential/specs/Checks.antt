@@ -1,4 +1,4 @@
--- The checks of a schedule in their order, each with its clause and its number: of its words, and of the graph that they say.
+-- The checks of a schedule in their order, each with its clause and its number: of its words, and of the graph that they describe.
 use Prim.Native.Nat.{ℕ, _+_, _*_, _≤_, _<_}
 use mathlib.Core.Path.{_≡_}
 use mathlib.Core.List.{List, [], _∷_, _++_}
@@ -22,7 +22,7 @@ SizesPass sheet = (1 ≤ nodeCount sheet) × (nodeCount sheet ≤ mostNodes) × 
 abbrev pub ArcValuePasses : List ℕ → ℕ → ℕ → Type 0
 ArcValuePasses sheet arcs i = entryKey sheet i < arcs → entryValue sheet i < nodeCount sheet
 
--- and §3.6 for a count, with the limit of §1.5
+-- the same, and §3.6 for a count, with the limit of §1.5
 pub record ValuePasses (sheet : List ℕ) (arcs i : ℕ) : Type 0 where
   pub target : ArcValuePasses sheet arcs i
   pub some : arcs ≤ entryKey sheet i → 1 ≤ entryValue sheet i
@@ -41,7 +41,7 @@ module _ (N : PetriNet) (sheet : List ℕ) where
   abbrev pub wordChecks : List Check
   wordChecks = shapeChecks sheet ++ (each (entryCount sheet) Entry (KeyPasses sheet 2 (keyLimit N sheet) else 8 ∷ ValuePasses sheet (arcKeys N sheet) else 9 ∷ []) ∷ [])
 
-  -- the same with §7.9 of arcs alone, whatever the counts are
+  -- the same, but §7.9 is asked of arcs only: the counts may be anything
   abbrev pub arcWordChecks : List Check
   arcWordChecks = shapeChecks sheet ++ (each (entryCount sheet) Entry (KeyPasses sheet 2 (keyLimit N sheet) else 8 ∷ ArcValuePasses sheet (arcKeys N sheet) else 9 ∷ []) ∷ [])
 

@@ -1,4 +1,4 @@
--- What the checks leave, for the functions that come after them and for proofs. No promise cites it.
+-- What is known after the checks, for the functions that come after them and for proofs. No promise cites it.
 use Prim.Native.Nat.{ℕ, _+_, _*_, _≤_, _<_}
 use mathlib.Core.Path.{_≡_}
 use mathlib.Core.List.{List}
@@ -19,7 +19,7 @@ pub record ShapePasses (sheet : List ℕ) : Type 0 where
   pub few-entries : entryCount sheet ≤ mostEntries
   pub whole : length sheet ≡ 2 + 2 * entryCount sheet
 
--- 6 to 8 refuse nothing, and 9 no arc
+-- 6 to 8 refuse nothing, and 9 refuses no arc
 pub record ArcsHold (N : PetriNet) (sheet : List ℕ) : Type 0 where
   pub shape : ShapePasses sheet
   pub keys : (i : ℕ) → i < entryCount sheet → KeyPasses sheet 2 (keyLimit N sheet) i
@@ -30,12 +30,12 @@ pub record WordsHold (N : PetriNet) (sheet : List ℕ) : Type 0 where
   pub arcs : ArcsHold N sheet
   pub values : (i : ℕ) → i < entryCount sheet → ValuePasses sheet (arcKeys N sheet) i
 
--- 1 to 17, 26 and 27 refuse nothing of what is read as a schedule of N
+-- 1 to 17, 26 and 27 refuse nothing, if the words are read as a schedule of N
 pub record AcceptsAs (N : PetriNet) (net sheet : List ℕ) : Type 0 where
   pub net-accepted : netReply net ≡ Accepted
   pub words : WordsHold N sheet
   pub schedule : IsSchedule N (graph N sheet)
 
--- of the whole net
+-- the same with the whole net
 abbrev pub Accepts : List ℕ → List ℕ → Type 0
 Accepts net sheet = AcceptsAs (petriNet net) net sheet

@@ -1,4 +1,4 @@
--- A net with one source alone (§10.31; source document 001, Definition 6): the others are removed, and every transition keeps its number.
+-- A net with one source left (§10.31; source document 001, Definition 6): the other sources are removed, and every transition keeps its number.
 use Prim.Native.Nat.{ℕ}
 use mathlib.Core.Bool.{Bool, not, _&&_}
 use lib.Dec.{ltb, eqb}
@@ -6,7 +6,7 @@ use Rattle.sequential.specs.Petri.{PetriNet}
 use Rattle.sequential.specs.Tests.{isSource}
 
 module _ (N : PetriNet) (s : ℕ) where
-  -- a number that is none of the net's sources removes nothing
+  -- whether s is a source; if it is not, nothing is removed
   unfoldable pub isSourceOf : Bool
   isSourceOf = ltb s (N .transitions) && isSource N s
 

@@ -52,7 +52,7 @@ pub record SequentialSchedule (N : PetriNet) (A : Automaton) : Type 0 where
   pub fires : (s t s′ : ℕ) → s < A .nodes → A .arc s t ≡ some s′ → Enabled N (A .label s) t × (A .label s′ ≡ fire N (A .label s) t)
   -- 3: with one transition exactly those of its free-choice set are fireable
   pub chooses : (s t₁ t₂ : ℕ) → s < A .nodes → t₂ < N .transitions → Offers N A s t₁ → Offers N A s t₂ ↔ InFCS N t₁ t₂
-  -- 4: in s₀ exactly the sources are
+  -- 4: in s₀ exactly the sources are fireable
   pub sources : (t : ℕ) → t < N .transitions → Offers N A 0 t ↔ Source N t
-  -- 5: from each state a path leads to one where a given source is
+  -- 5: from each state and for each source, a path leads to a state in which the source is fireable
   pub serves : (s t : ℕ) → s < A .nodes → t < N .transitions → Source N t → (σ : List ℕ) × (s′ : ℕ) × (follow A s σ ≡ some s′) × Offers N A s′ t

@@ -12,7 +12,7 @@ use Rattle.net.specs.Net.{Within}
 use Rattle.sequential.specs.Petri.{PetriNet, initial, fire, fireAll, FiresEnabled, SameChoice}
 use Rattle.sequential.specs.Schedule.{Offers, Await, ToAwait}
 
--- place p holds at most b after every allowed list, and b after some allowed list: no lower number would do: §13.3
+-- place p holds at most b after every allowed list, and exactly b after some allowed list, so that no lower bound holds: §13.3
 pub record LeastBound (N : PetriNet) (A : Automaton) (p b : ℕ) : Type 0 where
   pub kept : (σ : List ℕ) → allows A 0 σ ≡ true → getD (fireAll N (initial N) σ) p 0 ≤ b
   pub attained : (σ : List ℕ) × (allows A 0 σ ≡ true) × (getD (fireAll N (initial N) σ) p 0 ≡ b)
@@ -24,7 +24,7 @@ pub record Runs (N : PetriNet) (A : Automaton) (σ : List ℕ) : Type 0 where
   pub enabled : FiresEnabled N (initial N) σ
   pub holds : fireAll N (initial N) σ ≡ A .label end
 
--- a list goes on by the members of the choice set that is offered where it ends, and by nothing else: §13.3
+-- a list can be continued by each member of the choice set offered at its end, and by nothing else: §13.3
 pub record GoesOn (N : PetriNet) (A : Automaton) (σ : List ℕ) : Type 0 where
   pub end : ℕ
   pub leads : follow A 0 σ ≡ some end
@@ -33,7 +33,7 @@ pub record GoesOn (N : PetriNet) (A : Automaton) (σ : List ℕ) : Type 0 where
   pub extended : (t : ℕ) → (allows A 0 (σ ++ (t ∷ [])) ≡ true) ↔ ((t < N .transitions) × SameChoice N member t)
   pub goes : allows A 0 (σ ++ (member ∷ [])) ≡ true
 
--- where any list leads to a node, or from it to an await node, one of fewer firings than there are nodes does: §6.9
+-- if some list leads to node n, or from n to an await node, then one with fewer firings than there are nodes does: §6.9
 pub record ShortWhereAny (N : PetriNet) (A : Automaton) (n : ℕ) : Type 0 where
   pub reached : Reachable A n → (σ : List ℕ) × (length σ ≤ A .nodes - 1) × (follow A 0 σ ≡ some n)
   pub returns : ToAwait N A n → (σ : List ℕ) × (m : ℕ) × (length σ ≤ A .nodes - 1) × (follow A n σ ≡ some m) × Await N A m
@@ -43,7 +43,7 @@ module _ (N : PetriNet) where
   abbrev pub WithinCapacities : List ℕ → Type 0
   WithinCapacities marking = (p : ℕ) → p < N .places → Within (N .capacity p) (getD marking p 0)
 
-  -- nor does one at any marking through which a list fires, before its first firing and after each
+  -- the same at every marking that firing a list goes through, before its first firing and after each
   unfoldable pub StaysWithin : List ℕ → List ℕ → Type 0
   StaysWithin marking [] = WithinCapacities marking
   StaysWithin marking (t ∷ σ) = WithinCapacities marking × StaysWithin (fire N marking t) σ

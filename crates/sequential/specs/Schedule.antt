@@ -21,7 +21,7 @@ module _ (N : PetriNet) (A : Automaton) where
   abbrev pub OneChoiceSet : ℕ → Type 0
   OneChoiceSet n = (t : ℕ) × Transition N t × ((u : ℕ) → u < N .transitions → Offers n u ↔ SameChoice N t u)
 
-  -- some path to an await node, of any length: not every one (§6.10), and none to the root (§6.11)
+  -- some path of any length leads to an await node. Not every path need do so (§6.10), and no path back to the root is asked for (§6.11)
   abbrev pub ToAwait : ℕ → Type 0
   ToAwait n = (σ : List ℕ) × (m : ℕ) × (follow A n σ ≡ some m) × Await m
 

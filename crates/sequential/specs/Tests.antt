@@ -19,7 +19,7 @@ module _ (N : PetriNet) where
   unfoldable pub holdsTaken : List ℕ → ℕ → Bool
   holdsTaken marking t = all (holdsEnough marking t) (N .places)
 
-  -- nothing is asked where nothing is put, and what is taken makes no room: §4.5
+  -- if nothing is put, nothing is asked; and what is taken makes no room: §4.5
   unfoldable pub roomAt : List ℕ → ℕ → ℕ → Bool
   roomAt marking t p = eqb (N .put t p) 0 || within (N .capacity p) (getD marking p 0 + N .put t p)
 

@@ -27,7 +27,7 @@ module _ (sheet : List ℕ) where
   entryWithKey key = entryOf sheet 2 entryCount key
 
 module _ (N : PetriNet) (sheet : List ℕ) where
-  -- the keys of arcs lie below this (§3.5), those of counts from here on (§3.6)
+  -- keys of arcs are below this number (§3.5), keys of counts are not (§3.6)
   unfoldable pub arcKeys : ℕ
   arcKeys = nodeCount sheet * N .transitions
 
@@ -35,14 +35,14 @@ module _ (N : PetriNet) (sheet : List ℕ) where
   unfoldable pub keyLimit : ℕ
   keyLimit = nodeCount sheet * (N .transitions + N .places)
 
-  -- V rows of T keys for the arcs of nodes, then V rows of P keys for what their places hold; none where the key is missing, and for what is no node or transition: §3.7
+  -- the keys are V rows of T keys for arcs, then V rows of P keys for counts. There is no entry if the key is missing, or if n is no node or t no transition: §3.7
   unfoldable pub arcEntry : ℕ → ℕ → Option ℕ
   arcEntry n t = cond (ltb n (nodeCount sheet) && ltb t (N .transitions)) (entryWithKey sheet (n * N .transitions + t)) none
 
   unfoldable pub arc : ℕ → ℕ → Option ℕ
   arc n t = Option·map (entryValue sheet) (arcEntry n t)
 
-  -- 0 where the key is missing: §3.8
+  -- the count of place p at node n, 0 if the key is missing: §3.8
   unfoldable pub countAt : ℕ → ℕ → ℕ
   countAt n p = cond (ltb n (nodeCount sheet) && ltb p (N .places)) (foundOr 0 (entryValue sheet) (entryWithKey sheet (arcKeys + n * N .places + p))) 0
 
@@ -50,16 +50,16 @@ module _ (N : PetriNet) (sheet : List ℕ) where
   unfoldable pub marking : ℕ → List ℕ
   marking n = cond (ltb n (nodeCount sheet)) (tabulate (countAt n) (N .places)) []
 
-  -- the graph that the words say, each node with its marking
+  -- the graph that the words describe, each node with its marking
   abbrev pub graph : Automaton
   graph = record { nodes = nodeCount sheet; transitions = N .transitions; arc = arc; label = marking }
 
-  -- ---- the arc that an entry says
+  -- ---- the arc of an entry
 
   unfoldable pub isArc : ℕ → Bool
   isArc i = ltb (entryKey sheet i) arcKeys
 
-  -- from this node, by this transition; its value is the target
+  -- the node that it leaves, and its transition; the value of the entry is its target
   unfoldable pub arcNode : ℕ → ℕ
   arcNode i = entryKey sheet i / N .transitions
 

@@ -1,1 +1,1 @@
-// What a sequential schedule over words is (§6.1), and what follows of one. Theory only.
+// What a sequential schedule over words is (§6.1), and what follows from being one. Theory only.

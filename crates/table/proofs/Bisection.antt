@@ -1,4 +1,4 @@
--- Bisection, turn by turn for any test; and, where the test passes up to some place and not from there on, that place.
+-- Bisection, turn by turn for any test; if the test passes below some index and not from there on, bisection finds that index.
 -- So the look-up among rising keys is the entry with the key.
 -- ---- the turns of the loop
 use Rattle.scan.proofs.Basics.{ℕ, zero, suc, _+_, _-_, _≤_, _<_, arith, _≡_, refl, sym, ap, _∙_, Bool, true, false, cond, _&&_, ltb, leb, eqb, none, some, List, length}

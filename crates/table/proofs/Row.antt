@@ -1,4 +1,4 @@
--- The rows of a run of keys: on any words each place is 0 or has an entry with its key; where the keys rise, the walk meets every entry of the run.
+-- The rows of a run of keys: on any words each cell is 0 or has an entry with its key; if the keys rise, the walk meets every entry of the run.
 use Rattle.scan.proofs.Basics.{ℕ, zero, suc, _+_, _-_, _*_, _≤_, _<_, arith, _≡_, refl, sym, ap, _∙_, ⊎-elim, cond, ltb, leb, Option, none, some, List, length, getD, set, replicate, length-set}
 use native.Mathlib.Decide.{ℕ-discrete, decLt}
 use lib.ListN.{getD-replicate}

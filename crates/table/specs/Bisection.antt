@@ -1,5 +1,5 @@
 -- The look-up by bisection, for any words: what the code answers whether the keys rise or not.
--- That it is the entry with the key where they rise is `look-up` of proofs/Bisection.
+-- `look-up` of proofs/Bisection shows that it is the entry with the key if the keys rise.
 use Prim.Native.Nat.{ℕ, zero, suc, _+_, _-_, _/_}
 use mathlib.Core.List.{List}
 use mathlib.Core.Bool.{Bool, cond, _&&_}
@@ -13,7 +13,7 @@ use Rattle.table.specs.declared.Found.the-variants.{At, Nothing}
 abbrev pub middle : ℕ → ℕ → ℕ
 middle low high = low + (high - low) / 2
 
--- where halving ends between low and high, going up past each middle that passes; at most so many turns
+-- where halving between low and high ends; it goes up past each middle that passes, and makes at most the given number of turns
 unfoldable pub bisect : (ℕ → Bool) → ℕ → ℕ → ℕ → ℕ
 bisect f zero low high = low
 bisect f (suc turns) low high =
@@ -25,7 +25,7 @@ module _ (words : List ℕ) (offset : ℕ) where
   unfoldable pub keyBelow : ℕ → ℕ → Bool
   keyBelow key i = ltb (keyAt words offset i) key
 
-  -- where the keys lie within the words; else the number of entries
+  -- the result of bisection if the keys lie within the words, else the number of entries
   unfoldable pub lowerBound : ℕ → ℕ → ℕ
   lowerBound entries key = cond (leb (offset + entries) (length words)) (bisect (keyBelow key) entries 0 entries) entries
 

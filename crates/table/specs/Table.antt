@@ -1,4 +1,4 @@
--- Keyed words (§2.1, §3.1): from an offset on, as many keys as there are entries, then as many values.
+-- Keyed words (§2.1, §3.1): from an offset on, one key for each entry, and after all keys one value for each.
 use Prim.Native.Nat.{ℕ, _+_, _-_, _<_}
 use mathlib.Core.List.{List}
 use mathlib.Core.Option.{Option}

@@ -1,5 +1,5 @@
-// Keyed words (§2.1, §3.1): from an offset on, as many keys as there are entries and then as many values. The test of a key, the look-up of
-// a key by bisection, and of a run of keys by one walk over its entries.
+// Keyed words (§2.1, §3.1): from an offset on, one key for each entry, and after all keys one value for each. The test of a key, the look-up of
+// one key by bisection, and the look-up of a run of keys by one walk over its entries.
 ghost use mathlib.Core.Path.{_≡_};
 ghost use Prim.Native.Nat.{_+_, _<_};
 ghost use lib.ListN.{length};
@@ -8,14 +8,14 @@ ghost use Rattle.table.specs.Keys.{keyFails};
 ghost use Rattle.table.specs.Bisection.{lowerBound, lookUp};
 ghost use Rattle.table.specs.Row.{runPlace, entryRow, valueRow};
 
-// The entry that a key stands at.
+// The entry that has a key, or that there is none.
 pub enum Found {
     At(usize),
     Nothing,
 }
 
-// Where bisection ends: the first entry whose key is not below the one asked for, where the keys rise; the number of entries
-// where there is none, or where the keys do not fit the words.
+// Where bisection ends: if the keys rise, the first entry whose key is not below the one asked for. The number of entries if there is no such
+// entry, or if the words are too short for the keys.
 pub fn lower_bound(words: &[u32], offset: usize, entries: usize, key: u32) -> usize
     ensures { λ r. ⌜ r ≡ lowerBound (now (words .entry)) offset entries key ⌝ }
 {
@@ -79,7 +79,7 @@ pub fn key_fails(words: &[u32], offset: usize, limit: u32, i: usize) -> bool
     key <= key_at(words, offset, i - 1)
 }
 
-// The place of entry i's key in a run of keys, and 32 where it is not of the run.
+// The index of entry i's key in the run of keys from `first` on, or 32 if the key is outside the run.
 fn run_place(words: &[u32], offset: usize, first: u32, width: usize, i: usize) -> usize
     requires { ⌜ offset + i < length (now words) ⌝ }
     ensures { λ r. ⌜ r ≡ runPlace (now (words .entry)) offset first width i ⌝ }
@@ -95,8 +95,8 @@ fn run_place(words: &[u32], offset: usize, first: u32, width: usize, i: usize) -
     place
 }
 
-// For a run of at most 32 keys from the first on: at p, 1 plus the entry with key p of the run, or 0 where there is none or the
-// run is no wider than p. The walk is over the entries, of which a run may have few.
+// For a run of at most 32 keys from `first` on: at p, 1 plus the entry with the key first + p, or 0 if there is none or p is not below the
+// width. It walks over the entries of the run, which may be few.
 pub fn entry_row(
     words: &[u32],
     offset: usize,
@@ -119,7 +119,7 @@ pub fn entry_row(
     row
 }
 
-// The same walk: at p the value of the entry with key p of the run. All are 0 where keys and values do not fit the words.
+// The same walk: at p the value of the entry with the key first + p. All are 0 if the words are too short for keys and values.
 pub fn value_row(
     words: &[u32],
     offset: usize,

@@ -1,4 +1,4 @@
--- Decimal text grows by its last digit, as a number does by ten times; so it reads as the number, and how long it is at most.
+-- To append a digit to decimal text is to multiply the number by ten and add the digit; so the text reads as the number. And how long it is at most.
 use Rattle.scan.proofs.Basics.{ℕ, zero, suc, _+_, _-_, _*_, _/_, _%_, _≤_, _<_, arith, _≡_, refl, sym, ap, _∙_, ltb, List, [], _∷_, _++_, length, getD, length-append}
 use Prim.Native.Nat.{_^_}
 use mathlib.Core.List.{append-assoc}

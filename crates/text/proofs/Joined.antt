@@ -1,4 +1,4 @@
--- Bytes, digits and texts one behind the other.
+-- Bytes, digits and texts one after the other.
 use Rattle.scan.proofs.Basics.{ℕ, zero, suc, _+_, _/_, _%_, _≤_, _<_, arith, _≡_, refl, List, [], _∷_, _++_, length, getD, take}
 use native.Mathlib.Numerals.{add-one}
 use lib.Seq.{take-suc, take-all}

@@ -1,4 +1,4 @@
--- How long the lines are at most where no number has more than ten digits.
+-- How long the lines are at most if no number has more than ten digits.
 use Rattle.scan.proofs.Basics.{ℕ, zero, suc, _+_, _*_, _≤_, _<_, arith, List, length, getD, length-append}
 use Prim.Native.Nat.{_^_}
 use Prim.Native.String.{String}

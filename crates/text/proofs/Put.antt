@@ -1,4 +1,4 @@
--- Pieces that are put one behind the other are one text; a text that has room stands whole at the buffer's front.
+-- Pieces that are put one after the other are one text; a text for which there is room lies whole at the buffer's front.
 use Rattle.scan.proofs.Basics.{ℕ, zero, suc, _+_, _-_, _≤_, _<_, arith, _≡_, refl, ap, _∙_, List, [], _∷_, _++_, length, take, drop, set, length-append}
 use Prim.Native.Nat.{min}
 use native.Mathlib.Nat.{not-suc-le-zero, le-of-suc-le-suc}

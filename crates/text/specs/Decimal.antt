@@ -15,7 +15,7 @@ ascii (c then s) = code c ∷ ascii s
 abbrev pub digit : ℕ → ℕ
 digit d = code "0" + d
 
--- the digits of n, of which there are at most so many, the last one at the end
+-- the digits of n, at most as many as the first argument says, the last digit at the end
 unfoldable pub digits : ℕ → ℕ → List ℕ
 digits zero n = []
 digits (suc more) n = cond (ltb n 10) (digit n ∷ []) (digits more (n / 10) ++ (digit (n % 10) ∷ []))

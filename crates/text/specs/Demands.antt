@@ -5,7 +5,7 @@ use mathlib.Core.List.{List, [], _∷_}
 use lib.ListN.{length, getD}
 use Rattle.text.specs.Decimal.{digit, decimal}
 
--- the number that digits say behind those that say n
+-- the number that is read when digits follow those of n
 unfoldable pub readOn : ℕ → List ℕ → ℕ
 readOn n [] = n
 readOn n (b ∷ bytes) = readOn (10 * n + (b - digit 0)) bytes

@@ -5,11 +5,11 @@ use mathlib.Core.List.{List, [], _++_}
 use lib.ListN.{length, getD}
 use Rattle.text.specs.Decimal.{ascii, decimal}
 
--- a text, and a number behind it
+-- a text, and a number after it
 unfoldable pub field : String → ℕ → List ℕ
 field name n = ascii name ++ decimal n
 
--- the texts f 0, f 1, .., f (n - 1), one behind the other
+-- the texts f 0, f 1, .., f (n - 1), one after the other
 unfoldable pub joined : (ℕ → List ℕ) → ℕ → List ℕ
 joined f zero = []
 joined f (suc n) = joined f n ++ f n
@@ -27,7 +27,7 @@ kindName (suc (suc (suc (suc k)))) = " record"
 unfoldable pub answerLine : ℕ → ℕ → ℕ → List ℕ
 answerLine number kind index = field "answer " number ++ (ascii (kindName kind) ++ (field " " index ++ ascii "\n"))
 
--- ---- the lines behind it: §12.7
+-- ---- the lines after line 1: §12.7
 
 unfoldable pub countsLine : ℕ → ℕ → ℕ → List ℕ
 countsLine nodes arcs awaits = field "nodes " nodes ++ (field " arcs " arcs ++ (field " awaits " awaits ++ ascii "\n"))

@@ -34,7 +34,7 @@ fn two_digits(out: &mut [u8], at: usize, n: u64) -> usize
     byte(out, next, 48 + (n % 10) as u8)
 }
 
-// The digits before the last two are those of a hundredth.
+// A number as decimal text: first the digits of n / 100, then the last two digits.
 pub(crate) fn decimal(out: &mut [u8], at: usize, n: u64) -> usize
     ensures { λ r. ⌜ Put (now (out .entry)) at (Decimal·decimal n) r (now (out .exit)) ⌝ }
 {
@@ -48,7 +48,7 @@ pub(crate) fn decimal(out: &mut [u8], at: usize, n: u64) -> usize
     two_digits(out, next, n)
 }
 
-// A text, and a number behind it.
+// A text, and a number after it.
 pub(crate) fn field(out: &mut [u8], at: usize, name: &[u8], n: u64) -> usize
     ensures { λ r. ⌜ Put (now (out .entry)) at (now (name .entry) ++ Decimal·decimal n) r (now (out .exit)) ⌝ }
 {

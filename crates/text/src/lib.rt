@@ -1,5 +1,5 @@
 // Numbers as decimal text, and the lines that the program prints, put into a lent buffer. Every function puts its text at an index and answers the
-// index behind it; what the buffer has no room for is dropped.
+// index after it. Bytes for which the buffer has no room are dropped.
 mod buffer;
 
 ghost use lib.ListN.{length};

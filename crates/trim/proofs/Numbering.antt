@@ -1,4 +1,4 @@
--- Marked nodes, numbered as they rise, are the kept nodes under their new numbers.
+-- The marked nodes, numbered in rising order, are the kept nodes with their new numbers.
 use Rattle.scan.proofs.Basics.{ℕ, _+_, _≤_, _<_, arith, _≡_, refl, sym, _∙_, ⊎-elim, Bool, true, false, List, set, replicate, length-set, length-replicate}
 use native.Mathlib.Numerals.{add-one}
 use lib.Seq.{getD-set-other}

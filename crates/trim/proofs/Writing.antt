@@ -1,4 +1,4 @@
--- What the writer has written after some entries: the keys of those that are kept, and their values as many places behind as there are keys in all.
+-- What the writer has written after some entries: the keys of the kept ones, and the value of each as many words behind its key as there are keys in all.
 use Rattle.scan.proofs.Basics.{ℕ, suc, _+_, _*_, _≤_, _<_, arith, _≡_, refl, sym, ap, _∙_, Bool, true, false, none, some, List, [], _∷_, _++_, length, getD, set}
 use mathlib.Core.List.{append-nil}
 use lib.Seq.{sets, set-comm}

@@ -1,4 +1,4 @@
--- What the tables hold that the functions hand to each other. No contract of a public function cites it.
+-- The contents of the tables that the functions hand to each other. No contract of a public function cites it.
 use Prim.Native.Nat.{ℕ, _+_, _≤_, _<_}
 use mathlib.Core.Path.{_≡_}
 use mathlib.Core.Bool.{Bool, true, cond}
@@ -13,11 +13,11 @@ use Rattle.encoding.specs.Encoding.{keys}
 use Rattle.trimmed.specs.Trim.{isKept, newNumber, trimmedGraph}
 use Rattle.trimmed.specs.Entries.{entryKept}
 
--- 1 plus the rank of an index that passes, 0 for one that does not
+-- 1 plus the rank of an index among those that pass, or 0 if it does not pass
 unfoldable pub rankCell : (ℕ → Bool) → ℕ → ℕ
 rankCell p m = cond (p m) (count p m + 1) 0
 
--- the indices below n that pass, numbered as they rise
+-- the indices below n that pass, numbered in rising order
 pub record Numbered (p : ℕ → Bool) (n : ℕ) (cells : List ℕ) (found : ℕ) : Type 0 where
   pub size : length cells ≡ 128
   pub found-is : found ≡ count p n
@@ -29,13 +29,13 @@ pub record Numbered (p : ℕ → Bool) (n : ℕ) (cells : List ℕ) (found : ℕ
 unfoldable pub newCell : Automaton → ℕ → ℕ
 newCell A n = cond (isKept A n) (newNumber A n + 1) 0
 
--- of words that can be read
+-- a table with the cell of each node, for readable words
 pub record NewCells (net sheet cells : List ℕ) : Type 0 where
   pub readable : Readable net sheet
   pub size : length cells ≡ 128
   pub cell : (n : ℕ) → n < nodeCount sheet → getD cells n 0 ≡ newCell (graph (petriNet net) sheet) n
 
--- and so many are kept
+-- the same table, and how many nodes are kept
 pub record NewNodes (net sheet cells : List ℕ) (found : ℕ) : Type 0 where
   pub new : NewCells net sheet cells
   pub found-is : found ≡ trimmedGraph (graph (petriNet net) sheet) .nodes

@@ -1,4 +1,4 @@
-// The call that trims a schedule (§10.35): nodes that nobody reaches are dropped, and the numbers that they had go to those kept.
+// The call that trims a schedule (§10.35): nodes that the root does not reach are dropped, and the kept ones are numbered anew without gaps.
 mod numbers;
 mod writer;
 
@@ -19,7 +19,7 @@ pub fn trim_into(net: &[u32], sheet: &[u32], out: &mut [u32], list: &mut [u32]) 
     writer::write(net, sheet, new, out, list)
 }
 
-// The trimmed schedule, and for each new number the old one.
+// Trimming: writes the trimmed schedule, and the old number of each new node.
 pub fn trim(
     net: &[u32],
     sheet: &[u32],

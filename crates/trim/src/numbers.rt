@@ -10,7 +10,7 @@ pub(crate) struct Numbers {
     pub found: usize,
 }
 
-// The marked nodes, numbered as they rise.
+// Numbers the marked nodes in rising order.
 fn ranks(marks: [u8; 128], nodes: usize) -> Numbers
     requires { ⌜ nodes ≤ 128 ⌝ }
     ensures { λ r. ⌜ Numbered (isMarked marks) nodes (r .cells) (r .found) ⌝ }
@@ -29,7 +29,7 @@ fn ranks(marks: [u8; 128], nodes: usize) -> Numbers
     Numbers { cells, found }
 }
 
-// The kept nodes of words that can be read.
+// The nodes that the root reaches, numbered so; the words have passed 1 to 9 and 26.
 pub(crate) fn kept(net: &[u32], sheet: &[u32]) -> Numbers
     requires { ⌜ Readable (now net) (now sheet) ⌝ }
     ensures { λ r. ⌜ NewNodes (now (net .entry)) (now (sheet .entry)) (r .cells) (r .found) ⌝ }

@@ -1,5 +1,5 @@
-// The words of the trimmed schedule (§10.36), and the list of old numbers (§10.37). Kept nodes keep their order, and so do the entries that they have: one pass
-// over the entries writes them all, each key at a place and its value as many places behind it as there are keys.
+// The words of the trimmed schedule (§10.36), and the list of old numbers (§10.37). Kept nodes keep their order, and so do their entries. So one pass over the
+// entries writes them all: each key at the next index, and its value as many words behind it as there are keys.
 ghost use mathlib.Core.Path.{_≡_};
 ghost use Prim.Native.Nat.{_<_};
 ghost use Rattle.sequential.specs.Petri.{petriNet};
@@ -16,7 +16,7 @@ use refusal::Verdict;
 use trimmed::Lengths;
 use trimmed::TrimAnswer;
 
-// The cell of the node that entry i is of (§3.5, §3.6): 0 where it is dropped.
+// The cell of the node to which entry i belongs (§3.5, §3.6): 1 plus the node's new number, or 0 if the node is dropped.
 fn cell_of(net: &[u32], sheet: &[u32], cells: &[u8; 128], i: usize) -> u8
     requires { ⌜ NewCells (now net) (now sheet) (now cells) ⌝ }
     requires { ⌜ i < entryCount (now sheet) ⌝ }
@@ -66,7 +66,7 @@ fn new_key(net: &[u32], sheet: &[u32], cells: &[u8; 128], found: usize, i: usize
     found as u32 * transitions + number * places + (key - arcs) % places
 }
 
-// Its new value: of an arc the new number of its target, which is kept as well; a count stays.
+// The new value of a kept entry: of an arc the new number of its target, which is kept as well; a count stays.
 fn new_value(net: &[u32], sheet: &[u32], cells: &[u8; 128], i: usize) -> u32
     requires { ⌜ NewCells (now net) (now sheet) (now cells) ⌝ }
     requires { ⌜ KeptEntry (now net) (now sheet) i ⌝ }
@@ -110,7 +110,7 @@ fn write_sheet(
     }
 }
 
-// Writes the list: the old number of each new one.
+// Writes the list of old numbers, in the order of the new ones.
 fn write_list(net: &[u32], sheet: &[u32], cells: &[u8; 128], list: &mut [u32])
     requires { ⌜ NewCells (now net) (now sheet) (now cells) ⌝ }
     ensures { λ _. ⌜ now (list .exit) ≡ placed (now (list .entry)) 0 (keptList (now (net .entry)) (now (sheet .entry))) ⌝ }
@@ -127,7 +127,7 @@ fn write_list(net: &[u32], sheet: &[u32], cells: &[u8; 128], list: &mut [u32])
     }
 }
 
-// Both, where the buffers hold them, and refused by 22 where one does not (§9.6).
+// Writes both if the buffers hold them, and else refuses by 22 (§9.6).
 pub(crate) fn write(
     net: &[u32],
     sheet: &[u32],

@@ -1,4 +1,4 @@
--- Trimming as an instance of what every call is: how its words are judged.
+-- Trimming as an instance of what holds of every call: the checks of its words.
 use Rattle.scan.proofs.Basics.{ℕ, refl, List, [], _∷_, _++_}
 use Rattle.refusal.proofs.Judges.{Judges, judges-then, judges-found}
 use Rattle.net.specs.Checks.{netChecks}

@@ -1,4 +1,4 @@
--- What is gathered rises where what is found does; and keys of rows rise where the rows get numbers that do.
+-- What is gathered rises if the findings rise; and keys of rows rise if the numbers of the rows do.
 use Rattle.scan.proofs.Basics.{ℕ, zero, suc, _+_, _*_, _<_, arith, _≡_, ap, Option, some}
 use mathlib.Core.List.{append-nil}
 use Rattle.scan.proofs.Tests.{byLess}

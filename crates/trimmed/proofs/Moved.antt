@@ -1,4 +1,4 @@
--- What becomes of an entry: one of a kept node is an entry of the trimmed graph, with its new key and value; every entry of that graph is such a one; and the new keys rise.
+-- What becomes of an entry: an entry of a kept node becomes an entry of the trimmed graph, with its new key and value; every entry of that graph comes from one; and the new keys rise.
 use Rattle.scan.proofs.Basics.{ℕ, _+_, _-_, _*_, _≤_, _<_, arith, _≡_, refl, sym, ap, _∙_, inl, inr, ⊎-elim, true, false, Option·map, List}
 use Rattle.scan.proofs.Tests.{lt-ltb, le-ltb}
 use Rattle.table.proofs.Table.{rising}

@@ -1,4 +1,4 @@
--- The indices that pass a test, listed as they rise: each stands at its rank, as many as pass before it.
+-- The indices that pass a test, listed in rising order: each stands at its rank, which is how many pass before it.
 use Rattle.scan.proofs.Basics.{ℕ, zero, suc, _+_, _<_, arith, _≡_, refl, sym, ap, _∙_, ⊎-elim, Bool, true, false, List, [], _∷_, _++_, length, getD}
 use mathlib.Core.List.{append-nil}
 use lib.ListN.{List·getD-append}

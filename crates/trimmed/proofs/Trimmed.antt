@@ -1,4 +1,4 @@
--- The trimmed graph is the graph cut down to what is reached; a graph that is all reached is its own trimmed one.
+-- The trimmed graph is the graph cut down to its reached nodes; a graph whose nodes are all reached is its own trimmed one.
 use Rattle.scan.proofs.Basics.{ℕ, _<_, _≤_, arith, _≡_, refl, sym, ap, _∙_, _↔_, true, some, Option·map, length, getD}
 use Rattle.scan.specs.Scan.{count, tabulate}
 use Rattle.scan.proofs.Tests.{lt-ltb, le-ltb, byLess}

@@ -1,4 +1,4 @@
--- What a graph that is cut down to what is reached keeps: where lists lead, the lists allowed, and the clauses of a schedule; all of it is reached.
+-- What a graph keeps that is cut down to its reached nodes: where lists lead, the lists allowed, and the clauses of a schedule; and all its nodes are reached.
 use Rattle.scan.proofs.Basics.{ℕ, _<_, _≡_, refl, sym, ap, _∙_, _↔_, some, Option·map, List, [], _∷_}
 use mathlib.Core.Option.{map-eq-some-iff}
 use Rattle.scan.specs.Scan.{found}

@@ -1,4 +1,4 @@
--- The words of the trimmed graph, of words that 1 to 9 and 26 do not refuse: they pass 6 to 9 again, and say the graph cut down to what is reached.
+-- The words of the trimmed graph, for words that pass 1 to 9 and 26: they pass 6 to 9 again, and describe the graph cut down to its reached nodes.
 use Rattle.scan.proofs.Basics.{ℕ, _≤_, _<_, arith, _≡_, refl, sym, ap, subst, _∙_, _↔_, true, some, List, _++_, length, getD}
 use Rattle.scan.specs.Scan.{tabulate}
 use Rattle.scan.proofs.Tests.{byLess}

@@ -15,7 +15,7 @@ use Rattle.trimmed.specs.declared.TrimAnswer.the-variants.{Written, Refu
 abbrev pub lengths : List ℕ → List ℕ → Lengths
 lengths net sheet = record { sheet = length (trimmedWords net sheet); list = length (keptList net sheet) }
 
--- 1 to 9 and 26, nothing from 10 on: §7.64
+-- 1 to 9 and 26 are asked, and nothing from 10 on: §7.64
 abbrev pub trimCore : List ℕ → List ℕ → Core TrimAnswer
 trimCore net sheet = record {
   verdict = wordsReply net sheet;
@@ -24,7 +24,7 @@ trimCore net sheet = record {
   results = trimmedWords net sheet ∷ keptList net sheet ∷ [];
 }
 
--- without scratch
+-- the postcondition without scratch
 abbrev pub TrimWritten : List ℕ → List ℕ → List ℕ → List ℕ → TrimAnswer → List ℕ → List ℕ → Type 0
 TrimWritten net sheet out list r out′ list′ = WordsDone (trimCore net sheet) (out ∷ list ∷ []) r (out′ ∷ list′ ∷ [])
 
@@ -32,7 +32,7 @@ abbrev pub TrimDone : List ℕ → List ℕ → List ℕ → List ℕ → List �
 TrimDone net sheet out list scratch r out′ list′ scratch′ =
     CallDone scratchLimit (trimCore net sheet) (out ∷ list ∷ []) scratch r (out′ ∷ list′ ∷ []) scratch′
 
--- number, kind, position, both lengths (§8.1), which are 0 where refused (§8.3)
+-- number, kind, position, both lengths (§8.1), which are 0 if refused (§8.3)
 abbrev pub plainTrim : TrimAnswer → List ℕ
 plainTrim (Written l) = 0 ∷ 0 ∷ 0 ∷ l .sheet ∷ l .list ∷ []
 plainTrim (Refused r) = told r 2

@@ -1,4 +1,4 @@
--- The clauses of a schedule other than reachability (§6.7), each of the nodes that the root leads to: when a trimmed schedule is accepted (§13.18).
+-- The clauses of a schedule other than reachability (§6.7), asked only of the nodes that the root leads to: when a trimmed schedule is accepted (§13.18).
 use Prim.Native.Nat.{ℕ, _<_}
 use mathlib.Core.Path.{_≡_}
 use mathlib.Core.Option.{some}
@@ -16,7 +16,7 @@ pub record HoldsOnReached (N : PetriNet) (A : Automaton) : Type 0 where
   pub lands : (n t m : ℕ) → Reachable A n → A .arc n t ≡ some m → A .label m ≡ fire N (A .label n) t
   pub returns : (n : ℕ) → Reachable A n → ToAwait N A n
 
--- the same of every node: what a schedule is, but that 16 may refuse it
+-- the same of every node: a schedule, except that 16 may refuse it
 pub record HoldsOnAll (N : PetriNet) (A : Automaton) : Type 0 where
   pub starts : A .label 0 ≡ initial N
   pub choices : (n : ℕ) → n < A .nodes → OneChoiceSet N A n

@@ -1,4 +1,4 @@
--- The words of the trimmed schedule, entry by entry (§10.36): those of kept nodes in their old order, each with its new key and value. So a writer passes over the entries once.
+-- The words of the trimmed schedule, entry by entry (§10.36): the entries of kept nodes in their old order, each with its new key and value. So one pass over the entries writes them.
 use Prim.Native.Nat.{ℕ, _+_, _*_, _-_, _/_, _%_}
 use mathlib.Core.Bool.{Bool, cond}
 use mathlib.Core.List.{List, _∷_, _++_}
@@ -15,21 +15,21 @@ module _ (N : PetriNet) (sheet : List ℕ) where
   abbrev A : Automaton
   A = graph N sheet
 
-  -- the node and the place that an entry of a count is of: §3.6
+  -- the node and the place to which an entry of a count belongs: §3.6
   unfoldable pub countNode : ℕ → ℕ
   countNode i = (entryKey sheet i - arcKeys N sheet) / N .places
 
   unfoldable pub countPlace : ℕ → ℕ
   countPlace i = (entryKey sheet i - arcKeys N sheet) % N .places
 
-  -- the node that an entry is of, whether an arc's or a count's
+  -- the node to which an entry of an arc or of a count belongs
   unfoldable pub entryNode : ℕ → ℕ
   entryNode i = cond (isArc N sheet i) (arcNode N sheet i) (countNode i)
 
   unfoldable pub entryKept : ℕ → Bool
   entryKept i = isKept A (entryNode i)
 
-  -- §3.5, §3.6, of the new node
+  -- the new key of an entry: §3.5, §3.6
   unfoldable pub newKey : ℕ → ℕ
   newKey i =
       cond (isArc N sheet i) (newNumber A (entryNode i) * N .transitions + arcTransition N sheet i)

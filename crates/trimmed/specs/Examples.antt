@@ -1,4 +1,4 @@
--- Trimmed schedules: what is answered, as plain numbers, and the words of both results, none where it is refused.
+-- Trimmed schedules: the answer as plain numbers, and the words of both results, none if refused.
 use Prim.Native.Nat.{ℕ}
 use mathlib.Core.Path.{_≡_}
 use mathlib.Core.List.{List, [], _∷_}
@@ -30,19 +30,19 @@ abbrev pub table : List Row
 table =
     -- an accepted schedule comes back, with the list 0, 1
     row netA two (0 ∷ 0 ∷ 0 ∷ 8 ∷ 2 ∷ []) two (0 ∷ 1 ∷ [])
-    -- refused by 16 alone, at node 1, which leads to node 2: accepted without it
+    -- refused only by 16, at node 1, which leads to node 2: accepted without node 1
     ∷ row netA (3 ∷ 4 ∷ 0 ∷ 2 ∷ 5 ∷ 8 ∷ 2 ∷ 2 ∷ 0 ∷ 1 ∷ []) (0 ∷ 0 ∷ 0 ∷ 8 ∷ 2 ∷ []) two (0 ∷ 2 ∷ [])
-    -- with a count of node 1 that is wrong as well
+    -- the same with a wrong count at node 1
     ∷ row netA (3 ∷ 5 ∷ 0 ∷ 2 ∷ 5 ∷ 7 ∷ 8 ∷ 2 ∷ 2 ∷ 0 ∷ 4 ∷ 1 ∷ []) (0 ∷ 0 ∷ 0 ∷ 8 ∷ 2 ∷ []) two (0 ∷ 2 ∷ [])
-    -- an unreached cycle, and node 3 that only it reaches
+    -- a cycle that is not reached, and node 3, to which only the cycle leads
     ∷ row netA (4 ∷ 4 ∷ 0 ∷ 2 ∷ 3 ∷ 4 ∷ 0 ∷ 2 ∷ 3 ∷ 1 ∷ []) (0 ∷ 0 ∷ 0 ∷ 4 ∷ 1 ∷ []) (1 ∷ 1 ∷ 0 ∷ 0 ∷ []) (0 ∷ [])
-    -- met as 0, 3, 1 and numbered in their old order, 0, 1, 3: node 2 goes
+    -- a search meets 0, 3, 1, but the old order is kept: 0, 1, 3. Node 2 is dropped
     ∷ row netA (4 ∷ 2 ∷ 0 ∷ 6 ∷ 3 ∷ 1 ∷ []) (0 ∷ 0 ∷ 0 ∷ 6 ∷ 3 ∷ []) (3 ∷ 2 ∷ 0 ∷ 4 ∷ 2 ∷ 1 ∷ []) (0 ∷ 1 ∷ 3 ∷ [])
-    -- met as 0, 2, 1: nothing moves
+    -- a search meets 0, 2, 1, but the numbers stay
     ∷ row netA (3 ∷ 2 ∷ 0 ∷ 4 ∷ 2 ∷ 1 ∷ []) (0 ∷ 0 ∷ 0 ∷ 6 ∷ 3 ∷ []) (3 ∷ 2 ∷ 0 ∷ 4 ∷ 2 ∷ 1 ∷ []) (0 ∷ 1 ∷ 2 ∷ [])
     -- stale counts are carried over; no arc at the root
     ∷ row netA (2 ∷ 2 ∷ 4 ∷ 5 ∷ 7 ∷ 9 ∷ []) (0 ∷ 0 ∷ 0 ∷ 4 ∷ 1 ∷ []) (1 ∷ 1 ∷ 2 ∷ 7 ∷ []) (0 ∷ [])
-    -- 9 of an arc, 9 of a count, 8, 6
+    -- 9 at an arc, 9 at a count, 8, 6
     ∷ row netA (2 ∷ 3 ∷ 0 ∷ 3 ∷ 5 ∷ 2 ∷ 0 ∷ 1 ∷ []) (9 ∷ 1 ∷ 0 ∷ 0 ∷ 0 ∷ []) [] []
     ∷ row netA (2 ∷ 3 ∷ 0 ∷ 3 ∷ 5 ∷ 1 ∷ 0 ∷ 0 ∷ []) (9 ∷ 1 ∷ 2 ∷ 0 ∷ 0 ∷ []) [] []
     ∷ row netA (2 ∷ 3 ∷ 0 ∷ 3 ∷ 6 ∷ 1 ∷ 0 ∷ 1 ∷ []) (8 ∷ 1 ∷ 2 ∷ 0 ∷ 0 ∷ []) [] []

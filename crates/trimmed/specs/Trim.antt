@@ -1,4 +1,4 @@
--- Trimming (§10.35): the graph cut down to the nodes that the root leads to, numbered anew in their old order; and what it means that one graph is another cut down.
+-- Trimming (§10.35): the graph cut down to the nodes that the root leads to, numbered anew in their old order; and when one graph is another one cut down in this way.
 use Prim.Native.Nat.{ℕ, _-_, _<_}
 use mathlib.Core.Path.{_≡_}
 use mathlib.Core.Logic.{_↔_}
@@ -23,11 +23,11 @@ module _ (A : Automaton) where
   unfoldable pub oldNumbers : List ℕ
   oldNumbers = gather (passing isKept) (A .nodes)
 
-  -- a kept node's new number: as many as are kept before it (§10.36)
+  -- a kept node's new number: how many kept nodes come before it (§10.36)
   unfoldable pub newNumber : ℕ → ℕ
   newNumber n = count isKept n
 
-  -- their arcs, with the new numbers of the targets, and their counts (§10.36); nothing past the nodes
+  -- the kept nodes with their arcs, to the new numbers of the targets, and their counts (§10.36); nothing past the nodes
   unfoldable pub trimmedGraph : Automaton
   trimmedGraph = record {
     nodes = length oldNumbers;
@@ -36,16 +36,16 @@ module _ (A : Automaton) where
     label = λ i. cond (ltb i (length oldNumbers)) (A .label (getD oldNumbers i 0)) [];
   }
 
--- what is written: the one encoding of that graph (§11.6), and the list
+-- what is written: the words of that graph (§11.6), and the list
 unfoldable pub trimmedWords : List ℕ → List ℕ → List ℕ
 trimmedWords net sheet = encode (petriNet net) (trimmedGraph (graph (petriNet net) sheet))
 
 unfoldable pub keptList : List ℕ → List ℕ → List ℕ
 keptList net sheet = oldNumbers (graph (petriNet net) sheet)
 
--- ---- what it is to be
+-- ---- what trimming means
 
--- M is A cut down to what is reached, and nothing else: f takes the reached nodes one to one onto the nodes of M, in their order, the root to the root, with arcs and labels
+-- M is A cut down to its reached nodes: f takes these one to one onto the nodes of M, keeps their order, takes the root to the root, and carries arcs and labels over
 pub record Trimming (A M : Automaton) (f : ℕ → ℕ) : Type 0 where
   pub root : f 0 ≡ 0
   pub node : (n : ℕ) → Reachable A n → f n < M .nodes

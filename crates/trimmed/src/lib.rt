@@ -1,4 +1,4 @@
-// Schedules with nodes that nobody reaches (request #109): what trimming one answers (§10.35). The code that does it is the crate `trim`.
+// Schedules with nodes that the root does not reach (request #109): what trimming one answers (§10.35). The code that does it is the crate `trim`.
 ghost use mathlib.Core.Path.{_≡_};
 ghost use Rattle.trimmed.specs.Call.{plainTrim};
 use refusal::Refusal;

@@ -1,4 +1,4 @@
--- `compare::same_fronts` meets its contract: whether the words before the counter are alike.
+-- `compare::same_fronts` meets its contract: it is known whether the words before the counter are equal.
 use Rattle.scan.proofs.Basics.{_-_, _≤_, arith, _≡_, refl, sym, _∙_, ⊎-elim}
 use borrow.Author.Needs.{needs}
 use Rattle.scan.proofs.Tests.{eq-eqb, ne-eqb}

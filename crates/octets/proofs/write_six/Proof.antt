@@ -1,4 +1,4 @@
--- `octets::write_six` meets its contract: when the counter is i the first i bytes are the numbers'.
+-- `octets::write_six` meets its contract: when the counter is i the first i bytes are those of the numbers.
 use Rattle.scan.proofs.Basics.{_-_, _≤_, arith, _≡_, refl, _∙_, length, length-set}
 use Prim.Native.Nat.{min}
 use borrow.Author.Needs.{needs}

@@ -1,4 +1,4 @@
--- `text::bound_lines` meets its contract: when the counter is p so many lines are put.
+-- `text::bound_lines` meets its contract: when the counter is p the first p lines are put.
 use Rattle.scan.proofs.Basics.{_-_, _≤_, arith, _≡_, ap, _∙_, length}
 use borrow.Author.Needs.{needs}
 use Rattle.text.specs.Buffer.{Put}

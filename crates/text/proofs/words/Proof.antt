@@ -1,4 +1,4 @@
--- `text::words` meets its contract: when the counter is i so many words are put.
+-- `text::words` meets its contract: when the counter is i the first i words are put.
 use Rattle.scan.proofs.Basics.{_-_, _≤_, arith, _≡_, ap, _∙_, length}
 use borrow.Author.Needs.{needs}
 use Rattle.text.specs.Buffer.{Put}

@@ -1,4 +1,4 @@
--- `choice::choice_sets::choices_of` meets its contract: the leaders before the counter are right, and so is what is noted.
+-- `choice::choice_sets::choices_of` meets its contract: the leaders before the counter are right, and so are the notes.
 use Rattle.scan.proofs.Basics.{ℕ, _-_, _≤_, _<_, arith, _≡_, _∙_, length, getD, length-set}
 use lib.ListN.{getD-replicate}
 use borrow.Author.Needs.{needs}

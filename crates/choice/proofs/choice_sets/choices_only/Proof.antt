@@ -1,4 +1,4 @@
--- `choice::choice_sets::choices_only` meets its contract: the table before the counter is that of the net with one source alone.
+-- `choice::choice_sets::choices_only` meets its contract: before the counter the table is that of the net with one source left.
 use Rattle.scan.proofs.Basics.{ℕ, _-_, _≤_, _<_, arith, _≡_, _∙_, List, length, getD, length-set}
 use Prim.Native.Nat.{min}
 use borrow.Author.Needs.{needs}

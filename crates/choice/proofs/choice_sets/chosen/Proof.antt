@@ -1,4 +1,4 @@
--- `choice::choice_sets::chosen` meets its contract: by what is noted.
+-- `choice::choice_sets::chosen` meets its contract: the note decides.
 use Rattle.scan.proofs.Tests.{eq-eqb, ne-eqb}
 use Rattle.choice.proofs.choice_sets.chosen.Statement.{statement}
 use Rattle.choice.proofs.choice_sets.chosen.Tie as tie

@@ -1,4 +1,4 @@
--- `choice::choice_sets::is_free` meets its contract: a source's choice is free, and of t's no transition before the counter hinders it.
+-- `choice::choice_sets::is_free` meets its contract: a source's choice is free; else no transition before the counter draws on a place of t's without taking the same.
 use Rattle.scan.proofs.Basics.{_-_, _≤_, arith, _≡_, sym, _∙_, true}
 use Rattle.scan.proofs.Tests.{not-true, not-false}
 use borrow.Author.Needs.{needs}

@@ -1,4 +1,4 @@
--- `choice::choice_sets::noted` meets its contract: what was noted stays, and nothing is asked of a transition alone.
+-- `choice::choice_sets::noted` meets its contract: a note stays, and nothing is asked for the leader itself.
 use Rattle.scan.proofs.Basics.{arith, sym, _∙_}
 use borrow.Author.Needs.{needs}
 use Rattle.choice.proofs.Choices.{nothing-noted}

@@ -1,4 +1,4 @@
--- `choice::offers::offer_at` meets its contract: a row that is whole offers its choice set, and any other is looked at as a row.
+-- `choice::offers::offer_at` meets its contract: if the walk finds one whole choice set, that is offered; else the row of arcs is built and looked at.
 use Rattle.scan.proofs.Basics.{arith, sym, _∙_}
 use borrow.Author.Needs.{needs}
 use Rattle.graph.proofs.HasRow.{row-known}

@@ -1,4 +1,4 @@
--- `mend::measure::checked` meets its contract: each check speaks where those before it refuse nothing.
+-- `mend::measure::checked` meets its contract: each check is asked if those before it refuse nothing.
 use Rattle.scan.proofs.Basics.{refl, sym, _∙_}
 use Rattle.mend.proofs.Measuring.{words-refused, nodes-refused, paths-judged}
 use borrow.Author.Needs.{needs}

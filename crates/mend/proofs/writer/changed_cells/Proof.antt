@@ -1,4 +1,4 @@
--- `mend::writer::changed_cells` meets its contract: the places before the counter are told.
+-- `mend::writer::changed_cells` meets its contract: the places before the counter have their cells.
 use Rattle.scan.proofs.Basics.{_-_, arith}
 use Rattle.mend.specs.Writing.{changedCell}
 use Rattle.mend.proofs.Storing.{Storing, storing-none, storing-more, storing-all}

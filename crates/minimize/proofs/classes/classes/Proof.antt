@@ -1,4 +1,4 @@
--- `minimize::classes::classes` meets its contract: after so many rounds the table holds their leaders.
+-- `minimize::classes::classes` meets its contract: after k rounds the table holds the leaders of k rounds.
 use Rattle.scan.proofs.Basics.{_-_, _≤_, arith, _≡_, refl, sym, _∙_, false, length}
 use borrow.Author.Needs.{needs}
 use Rattle.scan.proofs.Tests.{true-false}

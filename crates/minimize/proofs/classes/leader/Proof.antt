@@ -1,4 +1,4 @@
--- `minimize::classes::leader` meets its contract: no node before the counter is in the new class, and the counter's is of the old one.
+-- `minimize::classes::leader` meets its contract: no node before the counter is in n's new class, and the node at the counter is in its old class.
 use Rattle.scan.proofs.Basics.{_-_, _≤_, _<_, arith, _≡_, sym, _∙_, false}
 use Rattle.scan.specs.Scan.{any}
 use Rattle.scan.proofs.Least.{least-found, least-none}

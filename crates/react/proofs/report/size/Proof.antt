@@ -1,4 +1,4 @@
--- `react::report::size` meets its contract: the rows of the nodes before the counter.
+-- `react::report::size` meets its contract: the rows of the nodes before the counter are counted.
 use Rattle.scan.proofs.Basics.{_-_, arith}
 use Rattle.reach.specs.Reach.{isMarked}
 use Rattle.react.proofs.ArcRows.{node-low, start-most, end-most}

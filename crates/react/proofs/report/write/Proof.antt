@@ -1,4 +1,4 @@
--- `react::report::write` meets its contract: the rows of the nodes before the counter.
+-- `react::report::write` meets its contract: the rows of the nodes before the counter are written.
 use Rattle.scan.proofs.Basics.{_-_, arith}
 use Rattle.encoding.proofs.Rows.{appended-length}
 use Rattle.react.proofs.ArcRows.{readable, few-nodes}

@@ -1,4 +1,4 @@
--- `react::report::write_row` meets its contract: the pairs of the arcs before the counter.
+-- `react::report::write_row` meets its contract: the pairs of the arcs before the counter are written.
 use Rattle.scan.proofs.Basics.{_-_, arith}
 use Rattle.encoding.proofs.Rows.{appended-length}
 use Rattle.react.proofs.ArcRows.{few-nodes, rows, start-most, end-most}

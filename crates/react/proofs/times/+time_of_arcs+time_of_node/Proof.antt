@@ -1,4 +1,4 @@
--- `react::times::time_of_node` and `time_of_arcs` meet their contracts; the measure is twice the nodes not visited, and 1 more at the arcs.
+-- `react::times::time_of_node` and `time_of_arcs` meet their contracts; the measure is twice the number of nodes not visited, and 1 more in `time_of_arcs`.
 use Rattle.scan.proofs.Basics.{ℕ, _+_, _*_, _-_, _<_, arith, set}
 use Rattle.reaction.specs.Memo.{unvisited}
 use Rattle.react.proofs.ArcRows.{rows, start-most, end-most}

@@ -1,4 +1,4 @@
--- `react::times::times` meets its contract: the times of the nodes before the counter.
+-- `react::times::times` meets its contract: the times of the nodes before the counter are stored.
 use Rattle.scan.proofs.Basics.{_-_, arith}
 use Rattle.react.proofs.ArcRows.{readable, few-nodes}
 use Rattle.react.proofs.AllTimes.{Filling, filling-start, fill-enters, fill-low, fill-more}

@@ -1,4 +1,4 @@
--- `replay::tally::total` meets its contract: what is added before the counter.
+-- `replay::tally::total` meets its contract: the numbers before the counter are added.
 use Rattle.scan.proofs.Basics.{_-_, _≤_, arith, _≡_, refl}
 use borrow.Author.Needs.{needs}
 use Rattle.scan.specs.Scan.{sum}

@@ -1,4 +1,4 @@
--- `text::buffer::decimal` meets its contract: it calls itself with a hundredth of its number.
+-- `text::buffer::decimal` meets its contract: it calls itself with n / 100, which is less than n.
 use Rattle.scan.proofs.Basics.{ℕ, _<_, arith}
 use borrow.Author.Needs.{needs}
 use borrow.Fn.Kinds.{In}

@@ -1,4 +1,4 @@
--- `trim::writer::cell_of` meets its contract: an arc's key is of a row of T, a count's of one of P.
+-- `trim::writer::cell_of` meets its contract: the key of an arc is in a row of T keys, that of a count in a row of P keys.
 use Rattle.scan.proofs.Basics.{arith}
 use borrow.Author.Needs.{needs}
 use Rattle.trim.proofs.Reading.{arcs-few, arc-cell, count-cell}
