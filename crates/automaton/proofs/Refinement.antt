@@ -6,7 +6,7 @@ use Rattle.scan.proofs.Tests.{eqb-true, eq-eqb, byLess, iff→eq}
 use Rattle.scan.specs.Scan.{count}
 use Rattle.scan.proofs.Count.{count-le, count-mono, count-eq}
 use Rattle.automaton.specs.Equivalence.{leaderBy}
-use Rattle.automaton.proofs.Rounds.{settles}
+use Rattle.automaton.proofs.Rounds.{stabilizes}
 use Rattle.automaton.proofs.Leader.{IsEquivalence, leader-le, leader-least, leader-member, leader-of-equivalent, equivalent-by-leader}
 
 -- round k + 1 splits no class
@@ -55,7 +55,7 @@ module _ (E : ℕ → ℕ → ℕ → Bool) (N : ℕ) (F : Falling E N) where
 
   pub stable-last : Stable E N N
   stable-last =
-      settles (Stable E N) (λ k. count (leads (E k)) N) N 0 N (inr zero-le) (λ k. count-le (leads (E k)) N)
+      stabilizes (Stable E N) (λ k. count (leads (E k)) N) N 0 N (inr zero-le) (λ k. count-le (leads (E k)) N)
       (λ k. count-mono (leads (E k)) (leads (E (suc k))) N (λ i l. leads-up k i)) even→stable (F .stays) (omega arith)
 
   -- what holds after a round that splits nothing holds in every round

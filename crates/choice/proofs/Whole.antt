@@ -9,7 +9,7 @@ use Rattle.scan.specs.Scan.{all, least}
 use Rattle.scan.proofs.Every.{all-in, all-out}
 use Rattle.scan.proofs.Least.{least-unique}
 use Rattle.table.specs.Table.{keyAt}
-use Rattle.table.specs.Row.{entryTold, runPlace, runRow, entryRow}
+use Rattle.table.specs.Row.{sectionCell, runPlace, runRow, entryRow}
 use Rattle.table.proofs.Walk.{Walking, walk-starts, walk-goes, walk-ends, walk-over, place-is}
 use Rattle.net.specs.Net.{transitionCount}
 use Rattle.sequential.specs.Words.{entryCount}
@@ -27,7 +27,7 @@ module _ (sheet leaders : List ℕ) (transitions first c : ℕ) where
   -- the walk stands at entry i, and below t the row is the choice set's
   pub record Matching (i t : ℕ) : Type 0 where
     pub row : List ℕ
-    pub walking : Walking sheet 2 K first transitions entryTold i row
+    pub walking : Walking sheet 2 K first transitions sectionCell i row
     pub below : (u : ℕ) → u < t → presentAsChoice row leaders c u ≡ true
     pub none : (u : ℕ) → t ≤ u → u < 32 → getD row u 0 ≡ 0
 
@@ -35,7 +35,7 @@ module _ (sheet leaders : List ℕ) (transitions first c : ℕ) where
   unfolding presentAsChoice present
   matching-start r s = record {
     row = replicate 32 0;
-    walking = walk-starts sheet 2 K first transitions entryTold _ (r .start-is);
+    walking = walk-starts sheet 2 K first transitions sectionCell _ (r .start-is);
     below = λ u l. rw (getD-replicate {A = ℕ} 32 u 0 0 (omega (arith, s .few, s .below)), ne-eqb (getD leaders u 0) c (s .none-before u l));
     none = λ u l m. getD-replicate {A = ℕ} 32 u 0 0 m;
   }
@@ -62,7 +62,7 @@ module _ (sheet leaders : List ℕ) (transitions first c : ℕ) where
         let long = m .walking .long in
         record {
           row = set (m .row) u (i + 1);
-          walking = walk-goes sheet 2 K first transitions entryTold i u (m .row) (m .walking) l (sym p) (omega arith);
+          walking = walk-goes sheet 2 K first transitions sectionCell i u (m .row) (m .walking) l (sym p) (omega arith);
           below = λ v h. elim (decLt v u) [
             | yes b ↦ rw (getD-set-other (m .row) u v (i + 1) 0 (λ q. omega arith)) (m .below v b)
             | no b ↦ let q : v ≡ u = omega arith in
@@ -72,20 +72,20 @@ module _ (sheet leaders : List ℕ) (transitions first c : ℕ) where
         }
 
   module _ {i t : ℕ} (m : Matching i t) (over : transitions ≤ t) where
-    whole-row : m .row ≡ runRow sheet 2 K first transitions entryTold → all (presentAsChoice (entryRow sheet 2 K first transitions) leaders c) transitions ≡ true
+    whole-row : m .row ≡ runRow sheet 2 K first transitions sectionCell → all (presentAsChoice (entryRow sheet 2 K first transitions) leaders c) transitions ≡ true
     unfolding entryRow
     whole-row e = all-in _ _ (λ u l. rw (← e) (m .below u (omega arith)))
 
     -- no entry is left, or the next is not of the row
     pub ends-over : K ≤ i → all (presentAsChoice (entryRow sheet 2 K first transitions) leaders c) transitions ≡ true
-    ends-over l = whole-row (walk-over sheet 2 K first transitions entryTold i (m .row) (m .walking) l)
+    ends-over l = whole-row (walk-over sheet 2 K first transitions sectionCell i (m .row) (m .walking) l)
 
     no-place : first + transitions ≤ getD sheet (2 + i) 0 → 32 ≡ runPlace sheet 2 first transitions i
     unfolding runPlace keyAt
     no-place l = rw (le-leb first (getD sheet (2 + i) 0) (omega arith), le-ltb (getD sheet (2 + i) 0 - first) transitions (omega arith))
 
     pub ends-past : first + transitions ≤ getD sheet (2 + i) 0 → all (presentAsChoice (entryRow sheet 2 K first transitions) leaders c) transitions ≡ true
-    ends-past l = whole-row (walk-ends sheet 2 K first transitions entryTold i 32 (m .row) (m .walking) (no-place l) (omega arith))
+    ends-past l = whole-row (walk-ends sheet 2 K first transitions sectionCell i 32 (m .row) (m .walking) (no-place l) (omega arith))
 
 -- ---- what such a node offers
 

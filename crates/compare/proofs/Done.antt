@@ -1,7 +1,7 @@
 -- The comparison as an instance of what holds of every call, except for its last number, which a refusal can have too.
 use Rattle.scan.proofs.Basics.{ℕ, _≡_, refl, List, [], _∷_, _++_, length}
 use Rattle.scan.specs.Scan.{bit}
-use Rattle.refusal.specs.Refusal.{refusal, told}
+use Rattle.refusal.specs.Refusal.{refusal, plainRefusal}
 use Rattle.refusal.specs.declared.Position.{Position}
 use Rattle.refusal.specs.declared.Position.the-variants.{Nothing, Entry, Place, Node, Record}
 use Rattle.refusal.proofs.Judges.{Judges, judges-found, judges-then, pass-append}
@@ -11,7 +11,7 @@ use Rattle.net.proofs.Laws.{sizes}
 use Rattle.sequential.specs.Petri.{petriNet}
 use Rattle.sequential.specs.Checks.{sheetChecks}
 use Rattle.sequential.proofs.Accepted.{schedule-judged, sheet-tells}
-use Rattle.call.proofs.Judged.{Lawful}
+use Rattle.lending.proofs.Judged.{Lawful}
 use Rattle.minimal.specs.Minimal.{minimalForm}
 use Rattle.compare.specs.Compare.{compareVerdict, sameForms, compareCore, plainCompared}
 
@@ -27,7 +27,7 @@ module _ (net x y : List ℕ) where
       ((netChecks net ++ sheetChecks (petriNet net) x) ++ sheetChecks (petriNet net) y)
   compare-law = record { judged = compare-judged; proper = refl; plain-accepted = refl; own-length = refl; plain-refused = λ r. refused (r .number) (r .at) }
     where
-      refused : (number : ℕ) (at : Position) → plainCompared (compareCore net x y .refused (refusal number at)) ≡ told (refusal number at) 3
+      refused : (number : ℕ) (at : Position) → plainCompared (compareCore net x y .refused (refusal number at)) ≡ plainRefusal (refusal number at) 3
       refused number Nothing = refl
       refused number (Entry i) = refl
       refused number (Place i) = refl

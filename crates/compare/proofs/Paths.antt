@@ -13,10 +13,10 @@ use Rattle.sequential.specs.Petri.{petriNet}
 use Rattle.sequential.specs.Check.{scheduleFault, scheduleReply}
 use Rattle.sequential.proofs.Accepted.{accepts}
 use Rattle.graph.specs.Readable.{wordsReply}
-use Rattle.call.specs.Call.{outputFault, wordsVerdict, writtenOver, writtenAt, scratchFault}
-use Rattle.call.proofs.Lent.{output-short, output-cases, room-two, scratch-small, scratch-lacks}
-use Rattle.call.proofs.Laws.{refused-words}
-use Rattle.call.proofs.Done.{written-length}
+use Rattle.lending.specs.Call.{outputFault, wordsVerdict, writtenOver, writtenAt, scratchFault}
+use Rattle.lending.proofs.Lent.{output-short, output-cases, room-two, scratch-small, scratch-lacks}
+use Rattle.lending.proofs.Laws.{refused-words}
+use Rattle.lending.proofs.Done.{written-length}
 use Rattle.minimal.specs.Minimal.{minimalForm}
 use Rattle.minimal.proofs.Done.{words-accepted}
 use Rattle.minimize.specs.Both.{bothCore, FormsOf}

@@ -8,8 +8,8 @@ use Rattle.sequential.specs.Petri.{petriNet}
 use Rattle.sequential.specs.Check.{scheduleReply}
 use Rattle.sequential.proofs.Words.{words-hold, words-pass}
 use Rattle.sequential.proofs.Accepted.{accepts}
-use Rattle.call.specs.Call.{CallDone, writtenOver}
-use Rattle.call.proofs.Done.{done-zero, written-front}
+use Rattle.lending.specs.Call.{CallDone, writtenOver}
+use Rattle.lending.proofs.Done.{done-zero, written-front}
 use Rattle.minimal.specs.Minimal.{minimalForm}
 use Rattle.minimal.proofs.Minimal.{form-accepted, form-lists, form-quotient, form-unique, forms-equal}
 use Rattle.compare.specs.Compare.{sameForms, compareCore}

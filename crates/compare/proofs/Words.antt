@@ -4,7 +4,7 @@ use lib.ListN.{List·getD-append}
 use lib.Seq.{ext-getD}
 use Rattle.scan.proofs.Tests.{byTest, eqb-true, eq-eqb, and-left, and-right, and-both}
 use Rattle.scan.proofs.Every.{all-in, all-out, all-ext}
-use Rattle.call.specs.Call.{writtenOver}
+use Rattle.lending.specs.Call.{writtenOver}
 use Rattle.compare.specs.Compare.{sameAt, sameFronts}
 
 -- word for word: §11.8

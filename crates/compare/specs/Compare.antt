@@ -5,16 +5,16 @@ use mathlib.Core.List.{List, [], _∷_, _++_}
 use lib.Dec.{leb, eqb}
 use lib.ListN.{length, getD, take}
 use Rattle.scan.specs.Scan.{all, bit}
-use Rattle.refusal.specs.Refusal.{told}
+use Rattle.refusal.specs.Refusal.{plainRefusal}
 use Rattle.refusal.specs.Verdict.{verdictOf, andThen}
 use Rattle.refusal.specs.declared.Refusal.{Refusal}
 use Rattle.refusal.specs.declared.Verdict.{Verdict}
 use Rattle.refusal.specs.declared.Verdict.the-variants as verdict
 use Rattle.sequential.specs.Petri.{petriNet}
 use Rattle.sequential.specs.Check.{scheduleFault, scheduleReply}
-use Rattle.call.specs.Call.{Core, WordsDone}
-use Rattle.call.specs.Index.{plainIndex}
-use Rattle.call.specs.declared.Index.the-variants.{Known, Missing}
+use Rattle.lending.specs.Call.{Core, WordsDone}
+use Rattle.lending.specs.Index.{plainIndex}
+use Rattle.lending.specs.declared.Index.the-variants.{Known, Missing}
 use Rattle.minimal.specs.Minimal.{minimalForm}
 use Rattle.compare.specs.declared.CompareAnswer.{CompareAnswer}
 use Rattle.compare.specs.declared.CompareAnswer.the-variants.{Compared, Refused}
@@ -66,7 +66,7 @@ CompareWritten net first second one two r one′ two′ = WordsDone (compareCore
 -- number, kind, position, both lengths, 1 if the forms are equal (§8.1), these three 0 if refused (§8.3); and the index of the refused schedule (§8.4)
 abbrev pub plainCompare : CompareAnswer → List ℕ
 plainCompare (Compared c) = 0 ∷ 0 ∷ 0 ∷ c .first ∷ c .second ∷ bit (c .same) ∷ 0 ∷ []
-plainCompare (Refused f) = told (f .refusal) 3 ++ (plainIndex (f .sheet) ∷ [])
+plainCompare (Refused f) = plainRefusal (f .refusal) 3 ++ (plainIndex (f .sheet) ∷ [])
 
 -- all but the last number, the only own number that a refusal can have
 abbrev pub plainCompared : CompareAnswer → List ℕ

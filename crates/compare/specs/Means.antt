@@ -12,7 +12,7 @@ use Rattle.sequential.specs.Petri.{petriNet}
 use Rattle.sequential.specs.Words.{graph}
 use Rattle.sequential.specs.Schedule.{IsSchedule}
 use Rattle.sequential.specs.Checks.{WordsPass}
-use Rattle.call.specs.Call.{CallDone}
+use Rattle.lending.specs.Call.{CallDone}
 use Rattle.minimal.specs.Minimal.{QuotientForm}
 use Rattle.compare.specs.Compare.{compareCore}
 use Rattle.compare.specs.declared.Comparison.{Comparison}

@@ -5,7 +5,7 @@ ghost use lib.ListN.{length};
 ghost use Rattle.scan.specs.Scan.{bit};
 ghost use Rattle.compare.specs.Compare.{plainCompare, ofSchedule, refusedBy, sameFronts, CompareWritten};
 ghost use Rattle.compare.specs.Means.{CompareDone};
-use call::Index;
+use lending::Index;
 use minimize::FormsAnswer;
 use refusal::Limits;
 use refusal::Refusal;
@@ -154,7 +154,7 @@ pub fn compare(
 ) -> CompareAnswer
     ensures { λ r. ⌜ CompareDone (now (net .entry)) (now (first .entry)) (now (second .entry)) (now (one .entry)) (now (two .entry)) (now (scratch .entry)) r (now (one .exit)) (now (two .exit)) (now (scratch .exit)) ⌝ }
 {
-    let found = call::scratch_fault(Limits::SCRATCH, scratch.len());
+    let found = lending::scratch_fault(Limits::SCRATCH, scratch.len());
     if let Verdict::Refused(r) = found {
         return refused(r, 0);
     }

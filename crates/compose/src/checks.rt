@@ -7,7 +7,7 @@ ghost use Rattle.refusal.specs.Refusal.{refusal};
 ghost use Rattle.refusal.specs.declared.Position.the-variants.{Nothing};
 ghost use Rattle.compose.specs.Steps.{Sourced, Told};
 use super::frame;
-use call::Index;
+use lending::Index;
 use composed::ComposeAnswer;
 use composed::Composition;
 use refusal::Position;

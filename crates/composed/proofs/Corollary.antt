@@ -18,7 +18,7 @@ use Rattle.automaton.proofs.Reach.{reached↔reachable}
 use Rattle.sequential.specs.Petri.{PetriNet}
 use Rattle.composed.specs.Tuples.{tuples}
 use Rattle.composed.specs.Product.{Tasks, OnePerSource, sizeOf, nodeOf, waiting, busy, heldBy, heldByAll, heldAt, marking, product}
-use Rattle.composed.specs.Composed.{Independent, OneBusy, oneBusy, starvedBy, starvedAt, starvedTuple, isDependent, AwaitsCover}
+use Rattle.composed.specs.Composed.{Independent, OneBusy, oneBusy, disabledBy, disabledAt, disabledTuple, isDependent, AwaitsCover}
 use Rattle.composed.proofs.Product.{OthersWait, Fired, step-out, fired-others}
 use Rattle.composed.proofs.Steps.{node-below, product-closed, one-busy}
 use Rattle.composed.proofs.Counts.{held, held-plain}
@@ -82,9 +82,9 @@ sum-above-but f c (suc n) i l h =
     (lt-suc-cases l)
 
 module _ (N : PetriNet) (X : Tasks) (H : OnePerSource N X) where
-  pub dependent-by-tuples : isDependent N X ≡ any (starvedTuple N X) (tuples (sizeOf X) (X .number))
+  pub dependent-by-tuples : isDependent N X ≡ any (disabledTuple N X) (tuples (sizeOf X) (X .number))
   unfolding isDependent product
-  dependent-by-tuples = any-ext (starvedAt N X) (starvedTuple N X) (tuples (sizeOf X) (X .number)) same
+  dependent-by-tuples = any-ext (disabledAt N X) (disabledTuple N X) (tuples (sizeOf X) (X .number)) same
     where
       reached : (s : ℕ) → s < tuples (sizeOf X) (X .number) → reachedIn (product N X) (product N X .nodes - 1) s ≡ oneBusy X s
       reached s l =
@@ -92,8 +92,8 @@ module _ (N : PetriNet) (X : Tasks) (H : OnePerSource N X) where
           (λ e. oneBusy↔ X s .1 (one-busy N X H s (reached↔reachable (product N X) (product-closed N X H) s .0 e)))
           (λ e. reached↔reachable (product N X) (product-closed N X H) s .1 (reached↔one-busy N X H s .1 (l, oneBusy↔ X s .0 e)))
 
-      same : (s : ℕ) → s < tuples (sizeOf X) (X .number) → starvedAt N X s ≡ starvedTuple N X s
-      same s l = unfold starvedAt starvedTuple in (ap (λ (b : Bool). b && any (starvedBy N X s) (N .transitions)) (reached s l))
+      same : (s : ℕ) → s < tuples (sizeOf X) (X .number) → disabledAt N X s ≡ disabledTuple N X s
+      same s l = unfold disabledAt disabledTuple in (ap (λ (b : Bool). b && any (disabledBy N X s) (N .transitions)) (reached s l))
 
   -- what fires is enabled where every other task holds at least the starting counts
   enough-held : (s t m : ℕ) (F : Fired X s t m) (p : ℕ) → p < N .places

@@ -22,7 +22,7 @@ use Rattle.sequential.specs.Schedule.{IsSchedule}
 use Rattle.sequential.proofs.Clauses.{enabled↔}
 use Rattle.composed.specs.Product.{Tasks, OnePerSource, marking, product}
 use Rattle.composed.specs.Composed.{trimmedNumber, ReachedPart, composed, relabelled, Composable}
-use Rattle.composed.specs.Composed.{Starved, Dependent, ReachedEnabled, at-root, by-arc, Independent, Balanced, starvedBy, starvedAt, isDependent}
+use Rattle.composed.specs.Composed.{Disabled, Dependent, ReachedEnabled, at-root, by-arc, Independent, Balanced, disabledBy, disabledAt, isDependent}
 use Rattle.composed.proofs.Reached.{reach-induction}
 use Rattle.composed.proofs.Product.{step-out}
 use Rattle.composed.proofs.Steps.{product-closed}
@@ -33,19 +33,19 @@ module _ (N : PetriNet) (X : Tasks) (H : OnePerSource N X) where
   -- ---- the test
 
   dependent-out : isDependent N X ≡ true → Dependent N X
-  unfolding isDependent starvedAt starvedBy
+  unfolding isDependent disabledAt disabledBy
   dependent-out e =
-      let (s, l, q) = any-out (starvedAt N X) (product N X .nodes) e in
-      let (t, k, d) = any-out (starvedBy N X s) (N .transitions) (and-right (reachedIn (product N X) (product N X .nodes - 1) s) (any (starvedBy N X s) (N .transitions)) q) in
+      let (s, l, q) = any-out (disabledAt N X) (product N X .nodes) e in
+      let (t, k, d) = any-out (disabledBy N X s) (N .transitions) (and-right (reachedIn (product N X) (product N X .nodes - 1) s) (any (disabledBy N X s) (N .transitions)) q) in
       let (m, a) = found-some (product N X .arc s t) (and-left (found (product N X .arc s t)) (not (enabled N (marking N X s) t)) d) in (
         s,
         t,
         record {
           target = m;
           reached = reached↔reachable (product N X) (product-closed N X H) s .0
-              (and-left (reachedIn (product N X) (product N X .nodes - 1) s) (any (starvedBy N X s) (N .transitions)) q);
+              (and-left (reachedIn (product N X) (product N X .nodes - 1) s) (any (disabledBy N X s) (N .transitions)) q);
           fires = a;
-          starved = not-true (enabled N (marking N X s) t) (and-right (found (product N X .arc s t)) (not (enabled N (marking N X s) t)) d);
+          disabled = not-true (enabled N (marking N X s) t) (and-right (found (product N X .arc s t)) (not (enabled N (marking N X s) t)) d);
         },
       )
 
@@ -53,13 +53,13 @@ module _ (N : PetriNet) (X : Tasks) (H : OnePerSource N X) where
   arc-below s t m a = unfold product in (arc-transition (product N X) (product-closed N X H) s t m a)
 
   dependent-in : Dependent N X → isDependent N X ≡ true
-  unfolding isDependent starvedAt starvedBy found
+  unfolding isDependent disabledAt disabledBy found
   dependent-in (s, t, D) =
-      any-in (starvedAt N X) (product N X .nodes) s (reachable-node (product N X) (product-closed N X H) s (D .reached))
-      (and-both (reachedIn (product N X) (product N X .nodes - 1) s) (any (starvedBy N X s) (N .transitions))
+      any-in (disabledAt N X) (product N X .nodes) s (reachable-node (product N X) (product-closed N X H) s (D .reached))
+      (and-both (reachedIn (product N X) (product N X .nodes - 1) s) (any (disabledBy N X s) (N .transitions))
       (reached↔reachable (product N X) (product-closed N X H) s .1 (D .reached))
-      (any-in (starvedBy N X s) (N .transitions) t (arc-below s t (D .target) (D .fires))
-      (and-both (found (product N X .arc s t)) (not (enabled N (marking N X s) t)) (ap found (D .fires)) (ap not (D .starved)))))
+      (any-in (disabledBy N X s) (N .transitions) t (arc-below s t (D .target) (D .fires))
+      (and-both (found (product N X .arc s t)) (not (enabled N (marking N X s) t)) (ap found (D .fires)) (ap not (D .disabled)))))
 
   pub dependent↔ : (isDependent N X ≡ true) ↔ Dependent N X
   dependent↔ = (dependent-out, dependent-in)
@@ -67,31 +67,31 @@ module _ (N : PetriNet) (X : Tasks) (H : OnePerSource N X) where
   pub independent↔ : (isDependent N X ≡ false) ↔ Independent N X
   independent↔ = (
     λ e s t m r a. byTest (enabled N (marking N X s) t) (λ q. enabled↔ N (marking N X s) t .0 q)
-        (λ q. true-false (isDependent N X) (dependent-in (s, t, record { target = m; reached = r; fires = a; starved = q })) e),
+        (λ q. true-false (isDependent N X) (dependent-in (s, t, record { target = m; reached = r; fires = a; disabled = q })) e),
     λ I. not-true→false (isDependent N X) (λ e.
         let (s, t, D) = dependent-out e in
-        true-false (enabled N (marking N X s) t) (enabled↔ N (marking N X s) t .1 (I s t (D .target) (D .reached) (D .fires))) (D .starved)),
+        true-false (enabled N (marking N X s) t) (enabled↔ N (marking N X s) t .1 (I s t (D .target) (D .reached) (D .fires))) (D .disabled)),
   )
 
   -- ---- reached by any firings, or by enabled ones alone
 
   -- the first firing on the way that is not enabled
-  pub dependent-early : Dependent N X → (s : ℕ) × (t : ℕ) × ReachedEnabled N X s × Starved N X s t
+  pub dependent-early : Dependent N X → (s : ℕ) × (t : ℕ) × ReachedEnabled N X s × Disabled N X s t
   dependent-early (s, t, D) = go path
     where
       path : (σ : List ℕ) × (follow (product N X) 0 σ ≡ some s)
       path = unfold Reachable in (D .reached)
 
       along : (σ : List ℕ) (n : ℕ) → ReachedEnabled N X n → Reachable (product N X) n → follow (product N X) n σ ≡ some s
-          → (s : ℕ) × (t : ℕ) × ReachedEnabled N X s × Starved N X s t
+          → (s : ℕ) × (t : ℕ) × ReachedEnabled N X s × Disabled N X s t
       along [] n R r e = let q : n ≡ s = unfold follow in (cc) in (s, t, rw q at R, D)
       along (u ∷ σ) n R r e =
           let (x, a, f) = follow-first (product N X) n u s σ e in
           byTest (enabled N (marking N X n) u)
           (λ q. along σ x (by-arc u R a q) (arc-reachable (product N X) n u x r a) f)
-          (λ q. (n, u, R, record { target = x; reached = r; fires = a; starved = q }))
+          (λ q. (n, u, R, record { target = x; reached = r; fires = a; disabled = q }))
 
-      go : (σ : List ℕ) × (follow (product N X) 0 σ ≡ some s) → (s : ℕ) × (t : ℕ) × ReachedEnabled N X s × Starved N X s t
+      go : (σ : List ℕ) × (follow (product N X) 0 σ ≡ some s) → (s : ℕ) × (t : ℕ) × ReachedEnabled N X s × Disabled N X s t
       go (σ, e) = along σ 0 at-root (root-reachable (product N X)) e
 
   -- ---- source document 001, Definition 8

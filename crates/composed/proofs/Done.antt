@@ -3,7 +3,7 @@ use Rattle.scan.proofs.Basics.{ℕ, zero, suc, _<_, _≡_, refl, ap, _∙_, Boo
 use Rattle.scan.specs.Scan.{when, found, passing}
 use Rattle.scan.proofs.Tests.{ne-eqb}
 use Rattle.scan.proofs.First.{orElse-next, orElse-hit, when-hit, when-miss, first-empty, first-hit}
-use Rattle.refusal.specs.Refusal.{refusal, told}
+use Rattle.refusal.specs.Refusal.{refusal, plainRefusal}
 use Rattle.refusal.specs.Verdict.{verdictOf}
 use Rattle.refusal.specs.Finding.{foundBy, finding}
 use Rattle.refusal.specs.declared.Position.{Position}
@@ -19,7 +19,7 @@ use Rattle.net.proofs.Laws.{sizes, some-source}
 use Rattle.sequential.specs.Petri.{PetriNet, petriNet}
 use Rattle.sequential.specs.Checks.{sheetChecks}
 use Rattle.sequential.proofs.Accepted.{sheet-tells}
-use Rattle.call.proofs.Judged.{Lawful}
+use Rattle.lending.proofs.Judged.{Lawful}
 use Rattle.composed.specs.Composed.{isDependent}
 use Rattle.composed.specs.Sheet.{netOf, tasksOf, composedSheet}
 use Rattle.composed.specs.Checks.{eachSheet, lastChecks, composeChecks}
@@ -43,10 +43,10 @@ module _ (net : List ℕ) (number : ℕ) (sheet : ℕ → List ℕ) where
   sheets-proper zero = refl
   sheets-proper (suc n) = proper-append (eachSheet (petriNet net) number sheet n) (sheetChecks (netOf (petriNet net) n) (sheet n)) (sheets-proper n) refl
 
-  told-four : (r : Refusal) (index : ℕ) → take 4 (told r 1 ++ (index ∷ [])) ≡ told r 1
+  told-four : (r : Refusal) (index : ℕ) → take 4 (plainRefusal r 1 ++ (index ∷ [])) ≡ plainRefusal r 1
   told-four r index = go (r .at)
     where
-      go : (at : Position) → take 4 (told (refusal (r .number) at) 1 ++ (index ∷ [])) ≡ told (refusal (r .number) at) 1
+      go : (at : Position) → take 4 (plainRefusal (refusal (r .number) at) 1 ++ (index ∷ [])) ≡ plainRefusal (refusal (r .number) at) 1
       go Nothing = refl
       go (Entry i) = refl
       go (Place i) = refl

@@ -39,7 +39,7 @@ unfoldable pub composing : Unit {0}
 unfolding classAt indexOf enter expand explored order merged minimalBy encoding.gather encoding.gatherRows encoding.keyOfArc encoding.held
     encoding.keyOfCount encoding.valueOfCount encoding.keys encoding.values encoding.encode tuples component replaced
     product.awaits product.waiting product.busy product.allAwait product.hasSource product.turn product.stepOf product.step product.heldBy
-    product.heldByAll product.heldAt product.marking product.product composed.trimmed composed.composed composed.starvedBy composed.starvedAt
+    product.heldByAll product.heldAt product.marking product.product composed.trimmed composed.composed composed.disabledBy composed.disabledAt
     composed.isDependent sheet.sources sheet.composedSheet fault.numberFails fault.sheetFault fault.tooMany fault.countExceeds fault.countsExceed
     fault.limitsExceeded fault.entriesExceed fault.composeFault fault.sheetFails fault.refusedSheet
 composing = tt

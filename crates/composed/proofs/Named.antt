@@ -5,7 +5,7 @@ use Rattle.scan.proofs.Tests.{byTest, eqb-false, true-false}
 use Rattle.scan.specs.Scan.{found, passing}
 use Rattle.scan.proofs.First.{none-some, first-at, when-none, when-some}
 use Rattle.refusal.specs.Limits.{scratchLimit}
-use Rattle.refusal.specs.Refusal.{refusal, told}
+use Rattle.refusal.specs.Refusal.{refusal, plainRefusal}
 use Rattle.refusal.specs.Checks.{AllPass}
 use Rattle.refusal.specs.declared.Position.{Position}
 use Rattle.refusal.specs.declared.Position.the-variants.{Nothing, Entry, Place, Node, Record}
@@ -19,12 +19,12 @@ use Rattle.net.proofs.Laws.{sizes, some-source}
 use Rattle.sequential.specs.Petri.{petriNet}
 use Rattle.sequential.specs.Checks.{sheetChecks}
 use Rattle.sequential.proofs.Accepted.{sheet-tells}
-use Rattle.call.specs.Call.{CallDone, wordsVerdict, callVerdict, answerOf}
-use Rattle.call.specs.Demands.{own}
-use Rattle.call.specs.Index.{plainIndex, indexFrom}
-use Rattle.call.proofs.Laws.{call-enough}
-use Rattle.call.proofs.Judged.{call-judged, words-judged}
-use Rattle.call.proofs.Lent.{Room}
+use Rattle.lending.specs.Call.{CallDone, wordsVerdict, callVerdict, answerOf}
+use Rattle.lending.specs.Demands.{own}
+use Rattle.lending.specs.Index.{plainIndex, indexFrom}
+use Rattle.lending.proofs.Laws.{call-enough}
+use Rattle.lending.proofs.Judged.{call-judged, words-judged}
+use Rattle.lending.proofs.Lent.{Room}
 use Rattle.composed.specs.Sheet.{netOf}
 use Rattle.composed.specs.Fault.{numberFails, sheetFault, sheetFails, refusedSheet}
 use Rattle.composed.specs.Call.{whereAccepted, sheetBeside, composeCore, plainCompose}
@@ -43,10 +43,10 @@ named-net : (v : Verdict) (o : Option ℕ) (i : ℕ) → whereAccepted v o ≡ s
 named-net verdict.Accepted o i e = (refl, e)
 named-net (verdict.Refused r) o i e = none-some none i refl e
 
-own-refused : (r : Refusal) (x : ℕ) → own (told r 1 ++ (x ∷ [])) 1 ≡ x
+own-refused : (r : Refusal) (x : ℕ) → own (plainRefusal r 1 ++ (x ∷ [])) 1 ≡ x
 own-refused r x = go (r .at)
   where
-    go : (at : Position) → own (told (refusal (r .number) at) 1 ++ (x ∷ [])) 1 ≡ x
+    go : (at : Position) → own (plainRefusal (refusal (r .number) at) 1 ++ (x ∷ [])) 1 ≡ x
     go Nothing = refl
     go (Entry i) = refl
     go (Place i) = refl

@@ -11,7 +11,7 @@ use Rattle.sequential.specs.Petri.{PetriNet}
 use Rattle.sequential.specs.Only.{only}
 use Rattle.sequential.specs.Schedule.{IsSchedule, Await}
 use Rattle.composed.specs.Product.{Tasks, OnePerSource, awaits, product}
-use Rattle.composed.specs.Composed.{composed, Starved, Dependent, ReachedEnabled, EnabledSigned, Independent, Composable, AwaitsCover}
+use Rattle.composed.specs.Composed.{composed, Disabled, Dependent, ReachedEnabled, EnabledSigned, Independent, Composable, AwaitsCover}
 
 -- a node of a task is an await node (§5.4) exactly if it offers the task's source
 abbrev pub AwaitsMeans : Type 0
@@ -28,7 +28,7 @@ DependentExactly = (N : PetriNet) (X : Tasks) → OnePerSource N X → Independe
 
 -- refusal 30 does not depend on whether states are reached by any firings or by enabled ones only
 abbrev pub DependentEarly : Type 0
-DependentEarly = (N : PetriNet) (X : Tasks) → OnePerSource N X → Dependent N X → (s : ℕ) × (t : ℕ) × ReachedEnabled N X s × Starved N X s t
+DependentEarly = (N : PetriNet) (X : Tasks) → OnePerSource N X → Dependent N X → (s : ℕ) × (t : ℕ) × ReachedEnabled N X s × Disabled N X s t
 
 -- nor on whether a sum below zero is read as it is or as 0
 abbrev pub DependentSigned : Type 0

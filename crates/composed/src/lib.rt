@@ -1,7 +1,7 @@
 // One schedule for each source, composed (request #108): what composing answers. The code that does it is the crate `compose`.
 ghost use mathlib.Core.Path.{_≡_};
 ghost use Rattle.composed.specs.Call.{plainCompose};
-use call::Index;
+use lending::Index;
 use refusal::Refusal;
 
 // The limit and the refusals of composition, each with its clause and the trade's word for it.

@@ -2,16 +2,16 @@
 use Rattle.scan.proofs.Basics.{ℕ, suc, _<_, arith, _≡_, sym, ap, _∙_, _⊎_, inl, inr, ⊎-elim, _↔_, true, List, [], _∷_, _++_, length, getD, take}
 use Rattle.scan.proofs.Tabulate.{take-tabulate}
 use Rattle.automaton.specs.Automaton.{allows}
-use Rattle.refusal.specs.Refusal.{refusal, told, kindOf, indexOf}
+use Rattle.refusal.specs.Refusal.{refusal, plainRefusal, kindOf, indexOf}
 use Rattle.refusal.specs.Checks.{_else_, Check, once, FailFirst, AllPass, FirstFails}
 use Rattle.refusal.specs.declared.Position.{Position}
 use Rattle.refusal.specs.declared.Position.the-variants.{Nothing, Entry, Place, Node, Record}
 use Rattle.refusal.specs.declared.Refusal.{Refusal}
-use Rattle.refusal.proofs.Verdicts.{told-parts}
+use Rattle.refusal.proofs.Verdicts.{refusal-parts}
 use Rattle.refusal.proofs.Judges.{fail-append}
 use Rattle.sequential.specs.Petri.{PetriNet}
 use Rattle.sequential.specs.Words.{graph}
-use Rattle.call.specs.Demands.{number, ByChecks}
+use Rattle.lending.specs.Demands.{number, ByChecks}
 use Rattle.schedule.specs.Walker.{runChecks}
 use Rattle.replay.specs.Log.{firingCount, firedAt, firingsTo, firings}
 use Rattle.replay.specs.Checks.{logChecks, FiringOffered, NodeReached, replayChecks}
@@ -25,14 +25,14 @@ at-record (Node j) i k e = absurd (omega arith)
 at-record (Record j) i k e = ap Record e
 
 -- two refusals that are told alike are one
-told-same : (r : Refusal) (n i k : ℕ) → told r k ≡ told (refusal n (Record i)) k → r ≡ refusal n (Record i)
+told-same : (r : Refusal) (n i k : ℕ) → plainRefusal r k ≡ plainRefusal (refusal n (Record i)) k → r ≡ refusal n (Record i)
 told-same r n i k e =
-    let f = told-parts r k ∙ e ∙ sym (told-parts (refusal n (Record i)) k) in
+    let f = refusal-parts r k ∙ e ∙ sym (refusal-parts (refusal n (Record i)) k) in
     let at = at-record (r .at) i (ap (λ (l : List ℕ). getD l 1 0) f) (ap (λ (l : List ℕ). getD l 2 0) f) in
     ap (λ (y : ℕ). refusal y (r .at)) (ap (λ (l : List ℕ). getD l 0 0) f) ∙ ap (refusal n) at
 
 -- what is told by 20 at an index is the check that fails first
-pub named : {checks : List Check} {plain : List ℕ} {i : ℕ} → ByChecks checks plain 3 → (plain ≡ told (refusal 20 (Record i)) 3) ↔ FirstFails checks (refusal 20 (Record i))
+pub named : {checks : List Check} {plain : List ℕ} {i : ℕ} → ByChecks checks plain 3 → (plain ≡ plainRefusal (refusal 20 (Record i)) 3) ↔ FirstFails checks (refusal 20 (Record i))
 named {checks} {plain} {i} b = (
   λ e. let n : number plain ≡ 20 = ap number e in
       let (x, f, q) = b .named (λ z. omega arith) in

@@ -7,12 +7,12 @@ use Rattle.refusal.specs.Limits.{scratchLimit}
 use Rattle.refusal.specs.Checks.{Check}
 use Rattle.refusal.specs.declared.Verdict.the-variants.{Accepted}
 use Rattle.refusal.proofs.Judges.{pass-append}
-use Rattle.call.specs.Call.{Core, CallDone, buffer}
-use Rattle.call.specs.Demands.{number, own}
-use Rattle.call.proofs.Lent.{Room, alike-same, alike-one, alike-two}
-use Rattle.call.proofs.Judged.{Lawful, words-judged}
-use Rattle.call.proofs.Done.{by-checks, done-zero, done-refused, own-answered, written-front, written-past}
-use Rattle.call.proofs.Demands.{independent}
+use Rattle.lending.specs.Call.{Core, CallDone, buffer}
+use Rattle.lending.specs.Demands.{number, own}
+use Rattle.lending.proofs.Lent.{Room, alike-same, alike-one, alike-two}
+use Rattle.lending.proofs.Judged.{Lawful, words-judged}
+use Rattle.lending.proofs.Done.{by-checks, done-zero, done-refused, own-answered, written-front, written-past}
+use Rattle.lending.proofs.Demands.{independent}
 use Rattle.demands.specs.Demand1.{Unread}
 use Rattle.demands.specs.Replay.{LeftAlike}
 

@@ -15,8 +15,8 @@ use Rattle.sequential.specs.Runs.{StaysWithin}
 use Rattle.sequential.specs.Checks.{wordChecks, graphChecks, sheetChecks, ArcHasRoom}
 use Rattle.sequential.proofs.Accepted.{accepts, closed}
 use Rattle.sequential.proofs.Capacities.{fires-within, stays-last, enabled-unlimited, initial-within, node-within, source-enabled}
-use Rattle.call.specs.Demands.{number, callChecks, ByChecks}
-use Rattle.call.proofs.Done.{done-zero}
+use Rattle.lending.specs.Demands.{number, callChecks, ByChecks}
+use Rattle.lending.proofs.Done.{done-zero}
 use Rattle.schedule.specs.Walker.{walkerChecks, runChecks}
 use Rattle.schedule.proofs.Done.{bounds-law}
 use Rattle.replay.specs.Checks.{replayChecks}

@@ -12,9 +12,9 @@ use Rattle.sequential.proofs.Words.{words-hold, words-pass}
 use Rattle.sequential.proofs.Accepted.{accepted-exactly}
 use Rattle.judge.specs.Answer.{plainCheck}
 use Rattle.judge.specs.declared.CheckAnswer.{CheckAnswer}
-use Rattle.call.specs.Demands.{number}
-use Rattle.call.proofs.Demands.{every-call-none}
-use Rattle.call.specs.Call.{CallDone}
+use Rattle.lending.specs.Demands.{number}
+use Rattle.lending.proofs.Demands.{every-call-none}
+use Rattle.lending.specs.Call.{CallDone}
 use Rattle.schedule.specs.Calls.{checkCore, CheckWithinDone}
 use Rattle.schedule.proofs.Done.{check-law}
 use Rattle.demands.specs.Terms.{said, Accepted}

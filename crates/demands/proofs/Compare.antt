@@ -7,11 +7,11 @@ use Rattle.automaton.specs.Automaton.{SameLists}
 use Rattle.refusal.specs.Limits.{scratchLimit}
 use Rattle.refusal.specs.declared.Verdict.the-variants as verdict
 use Rattle.sequential.specs.Check.{scheduleReply}
-use Rattle.call.specs.Call.{writtenOver}
-use Rattle.call.specs.Demands.{number, EveryCall}
-use Rattle.call.proofs.Lent.{room-two}
-use Rattle.call.proofs.Done.{Answered, done-zero, written-front}
-use Rattle.call.proofs.Demands.{every-call-two}
+use Rattle.lending.specs.Call.{writtenOver}
+use Rattle.lending.specs.Demands.{number, EveryCall}
+use Rattle.lending.proofs.Lent.{room-two}
+use Rattle.lending.proofs.Done.{Answered, done-zero, written-front}
+use Rattle.lending.proofs.Demands.{every-call-two}
 use Rattle.minimal.specs.Minimal.{minimalForm}
 use Rattle.minimal.proofs.Minimal.{form-accepted, form-lists, form-short, forms-equal}
 use Rattle.compare.specs.Compare.{sameForms, plainCompare, plainCompared, compareCore}

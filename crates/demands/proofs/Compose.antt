@@ -26,12 +26,12 @@ use Rattle.sequential.specs.Words.{countAt}
 use Rattle.sequential.specs.Check.{scheduleReply}
 use Rattle.sequential.proofs.Entries.{marking-node, marking-at}
 use Rattle.sequential.proofs.Accepted.{accepted-exactly}
-use Rattle.call.specs.Call.{CallDone}
-use Rattle.call.specs.Demands.{number, own, ByChecks}
-use Rattle.call.proofs.Lent.{Room}
-use Rattle.call.proofs.Judged.{words-judged}
-use Rattle.call.proofs.Done.{by-checks, done-zero}
-use Rattle.call.proofs.Demands.{every-call-one}
+use Rattle.lending.specs.Call.{CallDone}
+use Rattle.lending.specs.Demands.{number, own, ByChecks}
+use Rattle.lending.proofs.Lent.{Room}
+use Rattle.lending.proofs.Judged.{words-judged}
+use Rattle.lending.proofs.Done.{by-checks, done-zero}
+use Rattle.lending.proofs.Demands.{every-call-one}
 use Rattle.composed.specs.Product.{Tasks, OnePerSource, heldAt, heldByAll, product}
 use Rattle.composed.specs.Composed.{ReachedPart, trimmedNumber, Dependent, Independent, isDependent, Composable, OwnSources}
 use Rattle.composed.specs.Sheet.{fourSheets, givenSheets, readSheets, sourceOf, composedSheet}
@@ -215,9 +215,9 @@ module _ (net : List ℕ) (k : ℕ) (a b c d : List ℕ) where
         (inl (fail-append (netChecks net) (composeChecks N k sheet) (refusal 30 Nothing) .1 (inr (before .net-passes, inr (before .number-passes, last))))) in
         same-number r ∙ ap number (told .this (refusal 30 Nothing) (inr (before .scratch-holds, f)))
 
-    -- whether some state is starved is decided
-    starved : number (plainCompose r) ≡ 30 → Dependent (petriNet net) (tasks net k a b c d)
-    starved e = byTest (isDependent N X) (λ q. dependent↔ N X tasks-pass .0 q) (λ q. absurd (to e (independent↔composable N X tasks-pass .0 (independent↔ N X tasks-pass .0 q))))
+    -- whether some state fires a transition that is not enabled is decided
+    disabled : number (plainCompose r) ≡ 30 → Dependent (petriNet net) (tasks net k a b c d)
+    disabled e = byTest (isDependent N X) (λ q. dependent↔ N X tasks-pass .0 q) (λ q. absurd (to e (independent↔composable N X tasks-pass .0 (independent↔ N X tasks-pass .0 q))))
 
     given : Dependent (petriNet net) (tasks net k a b c d) → number (plainCompose r) ≡ 30
     given D = from (λ C. true-false (isDependent N X) (dependent↔ N X tasks-pass .1 D) (independent↔ N X tasks-pass .1 (independent↔composable N X tasks-pass .1 C)))
@@ -226,8 +226,8 @@ module _ (net : List ℕ) (k : ℕ) (a b c d : List ℕ) where
     is-dependent = record {
       each-source = tasks-pass;
       uncountable = (to, from);
-      reached = (starved, given);
-      reached-enabled = (λ e. dependent-early N X tasks-pass (starved e), λ (s, t, q, D). given (s, t, D));
+      reached = (disabled, given);
+      reached-enabled = (λ e. dependent-early N X tasks-pass (disabled e), λ (s, t, q, D). given (s, t, D));
     }
 
 -- ---- one source alone

@@ -1,7 +1,7 @@
 -- Demand 1, proved: each call is an instance of what is true of every call.
 use Rattle.scan.proofs.Basics.{ℕ, _≡_, refl, List, length, replicate}
 use mathlib.Core.Logic.{Iff·rfl}
-use Rattle.refusal.specs.Refusal.{plainOf}
+use Rattle.refusal.specs.Refusal.{plainVerdict}
 use Rattle.refusal.specs.declared.Verdict.{Verdict}
 use Rattle.refusal.specs.declared.Verdict.the-variants.{Accepted, Refused}
 use Rattle.net.specs.Checks.{netChecks}
@@ -9,9 +9,9 @@ use Rattle.net.specs.Check.{NetDone}
 use Rattle.net.proofs.Checks.{net-judged}
 use Rattle.sequential.specs.Petri.{petriNet}
 use Rattle.sequential.proofs.Bounds.{bounds-length}
-use Rattle.call.specs.Demands.{number, ByChecks}
-use Rattle.call.proofs.Done.{verdict-by-checks}
-use Rattle.call.proofs.Demands.{every-call-none, every-call-one, every-call-value}
+use Rattle.lending.specs.Demands.{number, ByChecks}
+use Rattle.lending.proofs.Done.{verdict-by-checks}
+use Rattle.lending.proofs.Demands.{every-call-none, every-call-one, every-call-value}
 use Rattle.schedule.specs.Walker.{walker}
 use Rattle.schedule.specs.Firing.{freshWalker}
 use Rattle.schedule.specs.declared.Walker.{Walker}
@@ -24,10 +24,10 @@ use Rattle.demands.proofs.Calls.{unread-one}
 
 -- ---- the net
 
-pub net-by : (net : List ℕ) (v : Verdict) → NetDone net v → ByChecks (netChecks net) (plainOf v) 0
+pub net-by : (net : List ℕ) (v : Verdict) → NetDone net v → ByChecks (netChecks net) (plainVerdict v) 0
 net-by net v e = rw e (verdict-by-checks _ (netChecks net) (net-judged net) refl)
 
-refused-walker : (net : List ℕ) (v : Verdict) (w : Walker) → w ≡ freshWalker v net → (number (plainOf v) ≡ 0 → ⊥) → w ≡ walker 0 (replicate 32 0)
+refused-walker : (net : List ℕ) (v : Verdict) (w : Walker) → w ≡ freshWalker v net → (number (plainVerdict v) ≡ 0 → ⊥) → w ≡ walker 0 (replicate 32 0)
 refused-walker net Accepted w e n = absurd (n refl)
 refused-walker net (Refused r) w e n = e
 

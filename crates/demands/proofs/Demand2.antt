@@ -6,7 +6,7 @@ use Rattle.scan.specs.Scan.{bit, count}
 use Rattle.scan.proofs.Tests.{byTest}
 use Rattle.scan.proofs.Tabulate.{tabulate-length, tabulate-at}
 use Rattle.automaton.specs.Reach.{Reachable}
-use Rattle.refusal.specs.Refusal.{plainOf}
+use Rattle.refusal.specs.Refusal.{plainVerdict}
 use Rattle.refusal.specs.declared.Verdict.{Verdict}
 use Rattle.net.specs.Checks.{IsNet}
 use Rattle.net.proofs.Checks.{net-judged}
@@ -26,10 +26,10 @@ use Rattle.sequential.proofs.Numbers.{arcs-counted}
 use Rattle.sequential.proofs.Bounds.{bounds-length, bounds-at, least-bound}
 use Rattle.judge.specs.Answer.{countsOf, plainCheck}
 use Rattle.judge.specs.declared.CheckAnswer.{CheckAnswer}
-use Rattle.call.specs.Call.{writtenOver}
-use Rattle.call.specs.Demands.{number, own}
-use Rattle.call.proofs.Judged.{words-judged-none}
-use Rattle.call.proofs.Done.{by-checks, done-zero, own-answered, written-past, written-length}
+use Rattle.lending.specs.Call.{writtenOver}
+use Rattle.lending.specs.Demands.{number, own}
+use Rattle.lending.proofs.Judged.{words-judged-none}
+use Rattle.lending.proofs.Done.{by-checks, done-zero, own-answered, written-past, written-length}
 use Rattle.refusal.proofs.Verdicts.{answer-none, then-accepted}
 use Rattle.schedule.specs.Walker.{Stands}
 use Rattle.schedule.specs.Firing.{freshWalker, endCounts}
@@ -87,7 +87,7 @@ counts net sheet s s′ a d z =
 
 -- ---- what is fired
 
-fresh : (net : List ℕ) (v : Verdict) (w : Walker) → FreshDone net v w → number (plainOf v) ≡ 0 → Stands (petriNet net) w 0 (petriNet net .start)
+fresh : (net : List ℕ) (v : Verdict) (w : Walker) → FreshDone net v w → number (plainVerdict v) ≡ 0 → Stands (petriNet net) w 0 (petriNet net .start)
 fresh net v w d z =
     let a = net-judged net .accepts .1 (net-by net v (d .reply) .zero .0 z) in
     let few = sizes net a .few-places in
@@ -136,7 +136,7 @@ runs-all net sheet firings out s out′ s′ a d z =
 
 -- ---- place bounds
 
-bounds-written : (net sheet out s out′ s′ : List ℕ) (v : Verdict) → BoundsDone net sheet out s v out′ s′ → number (plainOf v) ≡ 0
+bounds-written : (net sheet out s out′ s′ : List ℕ) (v : Verdict) → BoundsDone net sheet out s v out′ s′ → number (plainVerdict v) ≡ 0
     → LeastBounds (petriNet net) (said net sheet) out out′
 bounds-written net sheet out s out′ s′ v d z =
     let N = petriNet net in

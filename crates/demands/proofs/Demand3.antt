@@ -5,10 +5,10 @@ use Rattle.refusal.specs.Limits.{mostEntries}
 use Rattle.refusal.specs.declared.Verdict.the-variants as verdict
 use Rattle.sequential.specs.Check.{scheduleReply}
 use Rattle.sequential.proofs.Accepted.{accepts}
-use Rattle.call.specs.Call.{CallDone}
-use Rattle.call.specs.Demands.{number}
-use Rattle.call.proofs.Lent.{room-one}
-use Rattle.call.proofs.Demands.{every-call-one}
+use Rattle.lending.specs.Call.{CallDone}
+use Rattle.lending.specs.Demands.{number}
+use Rattle.lending.proofs.Lent.{room-one}
+use Rattle.lending.proofs.Demands.{every-call-one}
 use Rattle.minimal.specs.Minimal.{minimalForm}
 use Rattle.minimal.specs.Form.{formCore, plainForm}
 use Rattle.minimal.specs.declared.FormAnswer.{FormAnswer}

@@ -6,15 +6,15 @@ use Rattle.refusal.specs.Checks.{Check}
 use Rattle.automaton.specs.Automaton.{follow}
 use Rattle.automaton.proofs.Automaton.{same-target}
 use Rattle.refusal.proofs.Verdicts.{answer-none, then-accepted}
-use Rattle.call.specs.Call.{Core, CallDone}
+use Rattle.lending.specs.Call.{Core, CallDone}
 use Rattle.sequential.specs.Petri.{PetriNet, petriNet}
 use Rattle.sequential.specs.Words.{entryValue, arcEntry}
 use Rattle.sequential.specs.Check.{scheduleReply}
-use Rattle.call.specs.Index.{plainIndex, indexFrom}
-use Rattle.call.specs.declared.Index.the-variants.{Known}
-use Rattle.call.specs.Demands.{number, own}
-use Rattle.call.proofs.Judged.{Lawful}
-use Rattle.call.proofs.Done.{done-zero, own-answered, own-refused}
+use Rattle.lending.specs.Index.{plainIndex, indexFrom}
+use Rattle.lending.specs.declared.Index.the-variants.{Known}
+use Rattle.lending.specs.Demands.{number, own}
+use Rattle.lending.proofs.Judged.{Lawful}
+use Rattle.lending.proofs.Done.{done-zero, own-answered, own-refused}
 use Rattle.sequential.proofs.Entries.{entry-of}
 use Rattle.schedule.specs.Calls.{FireDone, RunDone}
 use Rattle.schedule.specs.Plain.{plainFire, plainRun}

@@ -20,12 +20,12 @@ use Rattle.sequential.specs.Check as check
 use Rattle.sequential.specs.Check.{scheduleReply}
 use Rattle.judge.specs.Answer.{countsOf, plainCheck}
 use Rattle.judge.specs.declared.CheckAnswer.{CheckAnswer}
-use Rattle.call.specs.Call.{answerOf}
-use Rattle.call.specs.Demands.{own}
-use Rattle.call.proofs.Laws.{call-enough}
-use Rattle.call.proofs.Done.{own-refused}
+use Rattle.lending.specs.Call.{answerOf}
+use Rattle.lending.specs.Demands.{own}
+use Rattle.lending.proofs.Laws.{call-enough}
+use Rattle.lending.proofs.Done.{own-refused}
 use Rattle.refusal.specs.Limits.{scratchLimit}
-use Rattle.call.proofs.Judged.{words-judged-none, judges-same}
+use Rattle.lending.proofs.Judged.{words-judged-none, judges-same}
 use Rattle.sequential.proofs.Accepted.{schedule-judged}
 use Rattle.schedule.specs.Calls.{checkCore, CheckDone}
 use Rattle.encoding.specs.Encoding as encoding

@@ -19,11 +19,11 @@ use Rattle.sequential.proofs.FreeChoice.{set-class, choice-set, choice-fcs, set
 use Rattle.sequential.proofs.Accepted.{accepts, closed}
 use Rattle.sequential.proofs.Runs.{goes-on}
 use Rattle.sequential.proofs.Paths.{short-where}
-use Rattle.call.specs.Demands.{number}
+use Rattle.lending.specs.Demands.{number}
 use Rattle.scan.specs.Front.{cleared}
-use Rattle.call.proofs.Lent.{room-one, scratch-enough}
-use Rattle.call.proofs.Done.{done-zero, own-answered}
-use Rattle.call.proofs.Laws.{served, answered-none}
+use Rattle.lending.proofs.Lent.{room-one, scratch-enough}
+use Rattle.lending.proofs.Done.{done-zero, own-answered}
+use Rattle.lending.proofs.Laws.{served, answered-none}
 use Rattle.schedule.specs.Firing.{freshWalker, stepFault, follows, entryFired, runFault, nodeAfter, endCounts}
 use Rattle.refusal.specs.Limits.{scratchLimit}
 use Rattle.schedule.specs.Calls.{FreshDone, FireDone, RunDone}

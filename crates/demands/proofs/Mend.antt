@@ -17,10 +17,10 @@ use Rattle.sequential.specs.Check.{scheduleReply}
 use Rattle.sequential.proofs.Entries.{row-div, row-mod}
 use Rattle.sequential.proofs.Accepted.{schedule-judged}
 use Rattle.encoding.specs.Encoding.{encode}
-use Rattle.call.specs.Demands.{number}
-use Rattle.call.proofs.Lent.{room-two}
-use Rattle.call.proofs.Done.{done-zero}
-use Rattle.call.proofs.Demands.{every-call-two}
+use Rattle.lending.specs.Demands.{number}
+use Rattle.lending.proofs.Lent.{room-two}
+use Rattle.lending.proofs.Done.{done-zero}
+use Rattle.lending.proofs.Demands.{every-call-two}
 use Rattle.mended.specs.Arcs.{CountsExist}
 use Rattle.mended.specs.Checks.{arcChecks, mendChecks}
 use Rattle.mended.specs.Mend.{mendedWords}

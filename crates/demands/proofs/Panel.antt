@@ -4,8 +4,8 @@ use mathlib.Core.Logic.{Iff·rfl}
 use Rattle.refusal.specs.Limits.{scratchLimit}
 use Rattle.sequential.specs.Petri.{petriNet}
 use Rattle.sequential.proofs.Bounds.{bounds-length}
-use Rattle.call.specs.Call.{Core, CallDone}
-use Rattle.call.proofs.Demands.{every-call-none, every-call-one, every-call-two, every-call-value, same-from-any-limit}
+use Rattle.lending.specs.Call.{Core, CallDone}
+use Rattle.lending.proofs.Demands.{every-call-none, every-call-one, every-call-two, every-call-value, same-from-any-limit}
 use Rattle.schedule.proofs.Following.{end-length}
 use Rattle.schedule.proofs.Done.{check-law, bounds-law, fire-law, run-law}
 use Rattle.schedule.specs.Calls.{checkCore, boundsCore, fireCore, runCore}

@@ -10,9 +10,9 @@ use Rattle.sequential.specs.Checks.{sheetChecks}
 use Rattle.sequential.proofs.Accepted.{closed, schedule-judged}
 use Rattle.sequential.proofs.Choices.{source↔}
 use Rattle.sequential.proofs.Clauses.{await↔}
-use Rattle.call.specs.Demands.{number}
-use Rattle.call.proofs.Done.{done-zero}
-use Rattle.call.proofs.Demands.{every-call-one}
+use Rattle.lending.specs.Demands.{number}
+use Rattle.lending.proofs.Done.{done-zero}
+use Rattle.lending.proofs.Demands.{every-call-one}
 use Rattle.reaction.specs.Extreme.{AtMost, AtLeast}
 use Rattle.reaction.specs.ToGo.{best, worst}
 use Rattle.reaction.specs.Words.{early, late}

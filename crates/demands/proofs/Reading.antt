@@ -18,11 +18,11 @@ use Rattle.sequential.proofs.Bounds.{bounds-length}
 use Rattle.graph.specs.Readable.{wordsReply, arcsReply}
 use Rattle.judge.specs.Answer.{countsOf, checkAnswer}
 use Rattle.judge.specs.declared.CheckAnswer.{CheckAnswer}
-use Rattle.call.specs.Call.{CallDone}
-use Rattle.call.proofs.Judged.{Lawful}
-use Rattle.call.proofs.Done.{verdict-by-checks}
-use Rattle.call.proofs.Reading.{no-scratch, of-words, reading, reads-one, reads-two}
-use Rattle.call.proofs.Demands.{every-call-none, every-call-one, every-call-two, every-call-value}
+use Rattle.lending.specs.Call.{CallDone}
+use Rattle.lending.proofs.Judged.{Lawful}
+use Rattle.lending.proofs.Done.{verdict-by-checks}
+use Rattle.lending.proofs.Reading.{no-scratch, of-words, reading, reads-one, reads-two}
+use Rattle.lending.proofs.Demands.{every-call-none, every-call-one, every-call-two, every-call-value}
 use Rattle.schedule.specs.Calls.{checkCore}
 use Rattle.schedule.proofs.Following.{end-length}
 use Rattle.schedule.proofs.Done.{check-words, check-law, bounds-law, fire-law, run-law}

@@ -10,9 +10,9 @@ use Rattle.sequential.specs.Petri.{petriNet}
 use Rattle.sequential.specs.Checks.{sheetChecks}
 use Rattle.sequential.proofs.Accepted.{accepts, closed, schedule-judged}
 use Rattle.sequential.proofs.Runs.{from-root}
-use Rattle.call.specs.Demands.{number, own}
-use Rattle.call.proofs.Done.{done-zero, own-answered}
-use Rattle.call.proofs.Demands.{every-call-two}
+use Rattle.lending.specs.Demands.{number, own}
+use Rattle.lending.proofs.Done.{done-zero, own-answered}
+use Rattle.lending.proofs.Demands.{every-call-two}
 use Rattle.schedule.specs.Walker.{runChecks}
 use Rattle.replay.specs.Log.{firings}
 use Rattle.replay.specs.Checks.{replayChecks}

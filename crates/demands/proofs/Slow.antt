@@ -8,9 +8,9 @@ use Rattle.refusal.specs.Verdict.{verdictOf}
 use Rattle.refusal.specs.declared.Refusal.{Refusal}
 use Rattle.refusal.specs.declared.Verdict.{Verdict}
 use Rattle.refusal.specs.declared.Verdict.the-variants.{Accepted, Refused}
-use Rattle.call.specs.Call.{scratchFault, outputFault, wordsVerdict, callVerdict, answerOf}
-use Rattle.call.proofs.Judged.{Lawful}
-use Rattle.call.proofs.Demands.{every-call-none}
+use Rattle.lending.specs.Call.{scratchFault, outputFault, wordsVerdict, callVerdict, answerOf}
+use Rattle.lending.proofs.Judged.{Lawful}
+use Rattle.lending.proofs.Demands.{every-call-none}
 use Rattle.net.specs.Net.{placeCount, transitionCount, taken, put}
 use Rattle.net.specs.Check.{netReply}
 use Rattle.net.specs.Checks.{netChecks}

@@ -2,7 +2,7 @@
 use Rattle.scan.proofs.Basics.{ℕ, _≤_, arith, _≡_, refl, sym, subst, inr, ⊎-elim, Bool, true, false, cond, not, _&&_, List, [], _∷_, _++_, length}
 use mathlib.Core.Logic.{Iff·rfl}
 use Rattle.scan.proofs.Tests.{not-true, and-left, and-right}
-use Rattle.refusal.specs.Refusal.{refusal, told}
+use Rattle.refusal.specs.Refusal.{refusal, plainRefusal}
 use Rattle.refusal.specs.Limits.{scratchLimit}
 use Rattle.refusal.specs.Checks.{Clause, Check, once, each, FailAt, Fails, AllPass, FirstFails}
 use Rattle.refusal.specs.declared.Position.{Position}
@@ -18,12 +18,12 @@ use Rattle.sequential.specs.Petri.{petriNet}
 use Rattle.sequential.specs.Checks.{sheetChecks}
 use Rattle.sequential.specs.Check.{scheduleReply}
 use Rattle.sequential.proofs.Accepted.{schedule-judged}
-use Rattle.call.specs.Call.{callVerdict, answerOf}
-use Rattle.call.specs.Demands.{own, callChecks}
-use Rattle.call.specs.Index.{plainIndex}
-use Rattle.call.specs.declared.Index.the-variants.{Known, Missing}
-use Rattle.call.proofs.Lent.{Room}
-use Rattle.call.proofs.Judged.{words-judged, call-judged}
+use Rattle.lending.specs.Call.{callVerdict, answerOf}
+use Rattle.lending.specs.Demands.{own, callChecks}
+use Rattle.lending.specs.Index.{plainIndex}
+use Rattle.lending.specs.declared.Index.the-variants.{Known, Missing}
+use Rattle.lending.proofs.Lent.{Room}
+use Rattle.lending.proofs.Judged.{words-judged, call-judged}
 use Rattle.compare.specs.Compare.{ofSchedule, about, plainCompare, compareCore}
 use Rattle.compare.specs.Means.{CompareDone}
 use Rattle.compare.specs.declared.CompareAnswer.{CompareAnswer}
@@ -67,7 +67,7 @@ sheet-numbers net sheet r f = first-fails ofSchedule (sheetChecks (petriNet net)
 
 -- ---- the last number of a refusal
 
-last-told : (number : ℕ) (at : Position) (p : ℕ) → own (told (refusal number at) 3 ++ (p ∷ [])) 3 ≡ p
+last-told : (number : ℕ) (at : Position) (p : ℕ) → own (plainRefusal (refusal number at) 3 ++ (p ∷ [])) 3 ≡ p
 last-told number Nothing p = refl
 last-told number (Entry i) p = refl
 last-told number (Place i) p = refl

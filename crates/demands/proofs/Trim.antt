@@ -16,10 +16,10 @@ use Rattle.judge.specs.Answer.{plainCheck}
 use Rattle.judge.specs.declared.CheckAnswer.{CheckAnswer}
 use Rattle.schedule.specs.Calls.{CheckDone}
 use Rattle.schedule.proofs.Done.{check-law}
-use Rattle.call.specs.Demands.{number}
-use Rattle.call.proofs.Lent.{room-two}
-use Rattle.call.proofs.Done.{done-zero}
-use Rattle.call.proofs.Demands.{every-call-none, every-call-two}
+use Rattle.lending.specs.Demands.{number}
+use Rattle.lending.proofs.Lent.{room-two}
+use Rattle.lending.proofs.Done.{done-zero}
+use Rattle.lending.proofs.Demands.{every-call-none, every-call-two}
 use Rattle.trimmed.specs.Trim.{newNumber, trimmedWords, keptList}
 use Rattle.trimmed.specs.Clauses.{HoldsOnReached}
 use Rattle.trimmed.specs.Call.{plainTrim, TrimDone}

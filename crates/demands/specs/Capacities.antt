@@ -8,7 +8,7 @@ use mathlib.Core.Bool.{true}
 use mathlib.Core.Option.{none}
 use lib.ListN.{getD}
 use Rattle.automaton.specs.Automaton.{allows}
-use Rattle.refusal.specs.Refusal.{plainOf}
+use Rattle.refusal.specs.Refusal.{plainVerdict}
 use Rattle.refusal.specs.declared.Verdict.{Verdict}
 use Rattle.net.specs.Net.{Within, start, capacity}
 use Rattle.net.specs.Checks.{IsNet}
@@ -20,7 +20,7 @@ use Rattle.sequential.specs.Runs.{WithinCapacities, StaysWithin}
 use Rattle.sequential.specs.Checks.{ArcHasRoom}
 use Rattle.judge.specs.Answer.{plainCheck}
 use Rattle.judge.specs.declared.CheckAnswer.{CheckAnswer}
-use Rattle.call.specs.Demands.{number}
+use Rattle.lending.specs.Demands.{number}
 use Rattle.schedule.specs.Calls.{CheckDone, BoundsDone, FreshDone, FireDone, RunDone}
 use Rattle.schedule.specs.Plain.{plainFire, plainRun}
 use Rattle.schedule.specs.declared.Walker.{Walker}
@@ -43,7 +43,7 @@ pub record KeptWithin : Type 0 where
   -- for an accepted schedule: each list that it allows, each node, and each word that place bounds writes
   pub lists : (net sheet σ : List ℕ) → Accepted net sheet → allows (said net sheet) 0 σ ≡ true → StaysWithin (petriNet net) (initial (petriNet net)) σ
   pub nodes : (net sheet : List ℕ) → Accepted net sheet → (n : ℕ) → n < said net sheet .nodes → WithinCapacities (petriNet net) (said net sheet .label n)
-  pub bounds : (net sheet out s out′ s′ : List ℕ) (v : Verdict) → BoundsDone net sheet out s v out′ s′ → number (plainOf v) ≡ 0
+  pub bounds : (net sheet out s out′ s′ : List ℕ) (v : Verdict) → BoundsDone net sheet out s v out′ s′ → number (plainVerdict v) ≡ 0
       → (p : ℕ) → p < petriNet net .places → Within (petriNet net .capacity p) (getD out′ p 0)
 
 -- ---- enabling
@@ -72,10 +72,10 @@ Spares plain = (number plain ≡ 26 → ⊥) × (number plain ≡ 27 → ⊥)
 
 -- no call answers 26 or 27
 pub record NeverBy (net : List ℕ) : Type 0 where
-  pub net-check : (v : Verdict) → NetDone net v → Spares (plainOf v)
-  pub fresh-walker : (v : Verdict) (w : Walker) → FreshDone net v w → Spares (plainOf v)
+  pub net-check : (v : Verdict) → NetDone net v → Spares (plainVerdict v)
+  pub fresh-walker : (v : Verdict) (w : Walker) → FreshDone net v w → Spares (plainVerdict v)
   pub check : (sheet s s′ : List ℕ) (a : CheckAnswer) → CheckDone net sheet s a s′ → Spares (plainCheck a)
-  pub place-bounds : (sheet out s out′ s′ : List ℕ) (v : Verdict) → BoundsDone net sheet out s v out′ s′ → Spares (plainOf v)
+  pub place-bounds : (sheet out s out′ s′ : List ℕ) (v : Verdict) → BoundsDone net sheet out s v out′ s′ → Spares (plainVerdict v)
   pub fire : (sheet s s′ : List ℕ) (w next : Walker) (t : ℕ) (a : FireAnswer) → FireDone net sheet s w t a next s′ → Spares (plainFire a)
   pub run : (sheet firings out s out′ s′ : List ℕ) (a : RunAnswer) → RunDone net sheet firings out s a out′ s′ → Spares (plainRun a)
   pub replay : (sheet log taken put s taken′ put′ s′ : List ℕ) (a : ReplayAnswer) → ReplayDone net sheet log taken put s a taken′ put′ s′ → Spares (plainReplay a)

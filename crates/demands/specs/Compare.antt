@@ -11,7 +11,7 @@ use Rattle.refusal.specs.Checks.{Check, once, AllPass}
 use Rattle.net.specs.Checks.{IsNet}
 use Rattle.sequential.specs.Petri.{petriNet}
 use Rattle.sequential.specs.Checks.{sheetChecks}
-use Rattle.call.specs.Demands.{number, own, EveryCall}
+use Rattle.lending.specs.Demands.{number, own, EveryCall}
 use Rattle.compare.specs.Compare.{plainCompare, plainCompared}
 use Rattle.compare.specs.Means.{CompareDone}
 use Rattle.compare.specs.declared.CompareAnswer.{CompareAnswer}

@@ -17,10 +17,10 @@ use Rattle.sequential.specs.Petri.{petriNet}
 use Rattle.sequential.specs.Words.{countAt}
 use Rattle.sequential.specs.Schedule.{Await}
 use Rattle.sequential.specs.Checks.{sheetChecks}
-use Rattle.call.specs.Demands.{number, own, EveryCall}
+use Rattle.lending.specs.Demands.{number, own, EveryCall}
 use Rattle.composed.specs.Tuples.{tuples}
 use Rattle.composed.specs.Product.{Tasks, OnePerSource, sizeOf, nodeOf, allAwait, heldByAll, product}
-use Rattle.composed.specs.Composed.{ReachedPart, Starved, Dependent, ReachedEnabled, OneBusy, Composable, Serves, OwnSources}
+use Rattle.composed.specs.Composed.{ReachedPart, Disabled, Dependent, ReachedEnabled, OneBusy, Composable, Serves, OwnSources}
 use Rattle.composed.specs.Sheet.{fourSheets, givenSheets, sourceOf, netOf, tasksOf}
 use Rattle.composed.specs.Checks.{NumberPasses, FewPass, composeChecks}
 use Rattle.composed.specs.Call.{ComposeDone, plainCompose, withoutSheet}
@@ -100,7 +100,7 @@ module _ (net : List ℕ) (k : ℕ) (a b c d : List ℕ) where
     pub uncountable : (number (plainCompose r) ≡ 30) ↔ (Composable (petriNet net) (tasks net k a b c d) → ⊥)
     -- that is so exactly if some state fires a transition that is not enabled there; it makes no difference whether the state is reached by any firings or by enabled ones
     pub reached : (number (plainCompose r) ≡ 30) ↔ Dependent (petriNet net) (tasks net k a b c d)
-    pub reached-enabled : (number (plainCompose r) ≡ 30) ↔ ((s : ℕ) × (t : ℕ) × ReachedEnabled (petriNet net) (tasks net k a b c d) s × Starved (petriNet net) (tasks net k a b c d) s t)
+    pub reached-enabled : (number (plainCompose r) ≡ 30) ↔ ((s : ℕ) × (t : ℕ) × ReachedEnabled (petriNet net) (tasks net k a b c d) s × Disabled (petriNet net) (tasks net k a b c d) s t)
 
 pub record ComposeDemand : Type 0 where
   pub every : (net : List ℕ) (k : ℕ) (a b c d : List ℕ) → EveryComposition net k a b c d

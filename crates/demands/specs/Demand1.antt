@@ -5,14 +5,14 @@ use mathlib.Core.Path.{_≡_}
 use mathlib.Core.Logic.{_⊎_}
 use mathlib.Core.List.{List, [], _∷_, _++_}
 use lib.ListN.{length, getD, replicate}
-use Rattle.refusal.specs.Refusal.{plainOf}
+use Rattle.refusal.specs.Refusal.{plainVerdict}
 use Rattle.refusal.specs.Checks.{once}
 use Rattle.refusal.specs.declared.Verdict.{Verdict}
 use Rattle.net.specs.Checks.{netChecks}
 use Rattle.net.specs.Check.{NetDone}
 use Rattle.sequential.specs.Petri.{petriNet}
 use Rattle.judge.specs.Answer.{plainCheck}
-use Rattle.call.specs.Demands.{number, ByChecks, EveryCall}
+use Rattle.lending.specs.Demands.{number, ByChecks, EveryCall}
 use Rattle.schedule.specs.Walker.{walkerChecks, runChecks}
 use Rattle.refusal.specs.Limits.{scratchLimit, mostPlaces}
 use Rattle.schedule.specs.Calls.{CheckDone, BoundsDone, FreshDone, FireDone, RunDone}
@@ -29,12 +29,12 @@ Unread {Answer} Done = (o₁ o₂ s₁ s₂ o₁′ o₂′ s₁′ s₂′ : Li
 
 pub record Demand1 : Type 0 where
   -- ---- each call on its own: §10.1, §10.3 to §10.9
-  pub net-check : (net : List ℕ) (v : Verdict) → NetDone net v → ByChecks (netChecks net) (plainOf v) 0
+  pub net-check : (net : List ℕ) (v : Verdict) → NetDone net v → ByChecks (netChecks net) (plainVerdict v) 0
   pub fresh-walker : (net : List ℕ) (v : Verdict) (w : Walker) → FreshDone net v w
-      → ByChecks (netChecks net) (plainOf v) 0 × ((number (plainOf v) ≡ 0 → ⊥) → w ≡ record { node = 0; counts = replicate mostPlaces 0 })
+      → ByChecks (netChecks net) (plainVerdict v) 0 × ((number (plainVerdict v) ≡ 0 → ⊥) → w ≡ record { node = 0; counts = replicate mostPlaces 0 })
   pub check : (net sheet : List ℕ) → EveryCall {Left = Unit} scratchLimit plainCheck 3 (allChecks net sheet []) tt (λ s a left s′. CheckDone net sheet s a s′)
   pub place-bounds : (net sheet out : List ℕ)
-      → EveryCall scratchLimit plainOf 0 (allChecks net sheet (once (petriNet net .places ≤ length out) 22 ∷ [])) out (BoundsDone net sheet out)
+      → EveryCall scratchLimit plainVerdict 0 (allChecks net sheet (once (petriNet net .places ≤ length out) 22 ∷ [])) out (BoundsDone net sheet out)
   pub fire : (net sheet : List ℕ) (w : Walker) (t : ℕ)
       → EveryCall scratchLimit plainFire 1 (allChecks net sheet (walkerChecks (petriNet net) sheet w t)) w (λ s a next s′. FireDone net sheet s w t a next s′)
   pub run : (net sheet firings out : List ℕ)

@@ -9,7 +9,7 @@ use mathlib.Core.Option.{some}
 use lib.ListN.{length, getD, drop}
 use Rattle.automaton.specs.Automaton.{Automaton, follow, allows}
 use Rattle.automaton.specs.Reach.{Reachable}
-use Rattle.refusal.specs.Refusal.{plainOf}
+use Rattle.refusal.specs.Refusal.{plainVerdict}
 use Rattle.refusal.specs.Checks.{AllPass}
 use Rattle.refusal.specs.declared.Verdict.{Verdict}
 use Rattle.net.specs.Checks.{IsNet}
@@ -20,7 +20,7 @@ use Rattle.sequential.specs.Runs.{LeastBound}
 use Rattle.sequential.specs.Checks.{WordsPass}
 use Rattle.judge.specs.Answer.{plainCheck}
 use Rattle.judge.specs.declared.CheckAnswer.{CheckAnswer}
-use Rattle.call.specs.Demands.{number, own, ByChecks}
+use Rattle.lending.specs.Demands.{number, own, ByChecks}
 use Rattle.schedule.specs.Walker.{Stands, walkerChecks}
 use Rattle.refusal.specs.Limits.{scratchLimit}
 use Rattle.schedule.specs.Calls.{CheckDone, BoundsDone, FreshDone, FireDone, RunDone}
@@ -76,7 +76,7 @@ pub record Demand2 : Type 0 where
   pub counts : (net sheet s s′ : List ℕ) (a : CheckAnswer) → CheckDone net sheet s a s′ → number (plainCheck a) ≡ 0
       → Counted (petriNet net) (said net sheet) (own (plainCheck a) 0) (own (plainCheck a) 1) (own (plainCheck a) 2)
   -- what is fired, from a fresh walker on: §10.6 to §10.8
-  pub fresh : (net : List ℕ) (v : Verdict) (w : Walker) → FreshDone net v w → number (plainOf v) ≡ 0 → Stands (petriNet net) w 0 (petriNet net .start)
+  pub fresh : (net : List ℕ) (v : Verdict) (w : Walker) → FreshDone net v w → number (plainVerdict v) ≡ 0 → Stands (petriNet net) w 0 (petriNet net .start)
   pub fires : (net sheet s s′ : List ℕ) (w next : Walker) (t : ℕ) (a : FireAnswer) → FireDone net sheet s w t a next s′ → number (plainFire a) ≡ 0
       → FiresRight (petriNet net) sheet (said net sheet) w t next
   pub runs : (net sheet firings out s out′ s′ : List ℕ) (a : RunAnswer) → RunDone net sheet firings out s a out′ s′ → number (plainRun a) ≡ 0
@@ -86,5 +86,5 @@ pub record Demand2 : Type 0 where
   pub goes-on : (net sheet σ : List ℕ) → Accepted net sheet → allows (said net sheet) 0 σ ≡ true → (t : ℕ) × (allows (said net sheet) 0 (σ ++ (t ∷ [])) ≡ true)
   pub returns : (net sheet : List ℕ) → Accepted net sheet → (n : ℕ) → n < said net sheet .nodes → ToAwait (petriNet net) (said net sheet) n
   -- each word that place bounds writes is the least bound that all runs keep: §10.4, §13.3
-  pub bounds : (net sheet out s out′ s′ : List ℕ) (v : Verdict) → BoundsDone net sheet out s v out′ s′ → number (plainOf v) ≡ 0
+  pub bounds : (net sheet out s out′ s′ : List ℕ) (v : Verdict) → BoundsDone net sheet out s v out′ s′ → number (plainVerdict v) ≡ 0
       → LeastBounds (petriNet net) (said net sheet) out out′

@@ -10,7 +10,7 @@ use Rattle.automaton.specs.Quotient.{Quotient}
 use Rattle.automaton.specs.BreadthFirst.{BreadthFirst}
 use Rattle.judge.specs.Answer.{plainCheck}
 use Rattle.judge.specs.declared.CheckAnswer.{CheckAnswer}
-use Rattle.call.specs.Demands.{number, own}
+use Rattle.lending.specs.Demands.{number, own}
 use Rattle.refusal.specs.Limits.{mostEntries}
 use Rattle.schedule.specs.Calls.{CheckWithinDone}
 use Rattle.minimal.specs.Form.{plainForm, FormWithinDone}

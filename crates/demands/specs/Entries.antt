@@ -9,7 +9,7 @@ use Rattle.automaton.specs.Automaton.{follow}
 use Rattle.refusal.specs.declared.Verdict.{Verdict}
 use Rattle.sequential.specs.Petri.{PetriNet, petriNet}
 use Rattle.sequential.specs.Words.{entryCount, entryKey, entryValue}
-use Rattle.call.specs.Demands.{number, own}
+use Rattle.lending.specs.Demands.{number, own}
 use Rattle.schedule.specs.Calls.{FreshDone, FireDone, RunDone}
 use Rattle.schedule.specs.Plain.{plainFire, plainRun}
 use Rattle.schedule.specs.declared.Walker.{Walker}

@@ -9,7 +9,7 @@ use Rattle.refusal.specs.Limits.{scratchLimit, mostEntries}
 use Rattle.schedule.specs.Calls.{CheckDone}
 use Rattle.minimal.specs.Form.{plainForm, FormDone}
 use Rattle.minimal.specs.declared.FormAnswer.{FormAnswer}
-use Rattle.call.specs.Demands.{own}
+use Rattle.lending.specs.Demands.{own}
 
 -- a net, a schedule, the check's answer as plain numbers, and the words of the minimal form, none if the schedule is refused
 pub record Row : Type 0 where

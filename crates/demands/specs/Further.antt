@@ -15,7 +15,7 @@ use Rattle.sequential.specs.Schedule.{Offers}
 use Rattle.sequential.specs.Published.{Member, FreeChoiceSet, InFCS, ChoiceSetOf}
 use Rattle.sequential.specs.Runs.{GoesOn, ShortWhereAny}
 use Rattle.sequential.specs.Checks.{WordsPass}
-use Rattle.call.specs.Demands.{number, own}
+use Rattle.lending.specs.Demands.{number, own}
 use Rattle.refusal.specs.Limits.{scratchLimit}
 use Rattle.schedule.specs.Calls.{FreshDone, FireDone, RunDone}
 use Rattle.schedule.specs.Walker.{walkerChecks}

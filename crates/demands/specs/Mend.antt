@@ -11,7 +11,7 @@ use Rattle.net.specs.Checks.{netChecks, IsNet}
 use Rattle.sequential.specs.Petri.{petriNet}
 use Rattle.sequential.specs.Words.{nodeCount, countAt}
 use Rattle.sequential.specs.Checks.{arcWordChecks}
-use Rattle.call.specs.Demands.{number, own, EveryCall}
+use Rattle.lending.specs.Demands.{number, own, EveryCall}
 use Rattle.mended.specs.Arcs.{SameArcs}
 use Rattle.mended.specs.Checks.{mendChecks}
 use Rattle.mended.specs.Listed.{Listed, ListsChanges}

@@ -5,14 +5,14 @@ use mathlib.Core.Logic.{_↔_}
 use mathlib.Core.List.{List, [], _∷_, _++_}
 use lib.ListN.{length}
 use Rattle.refusal.specs.Limits.{scratchLimit}
-use Rattle.refusal.specs.Refusal.{plainOf}
+use Rattle.refusal.specs.Refusal.{plainVerdict}
 use Rattle.refusal.specs.Checks.{Check, once}
 use Rattle.net.specs.Checks.{netChecks}
 use Rattle.sequential.specs.Petri.{petriNet}
 use Rattle.sequential.specs.Checks.{sheetChecks}
 use Rattle.judge.specs.Answer.{plainCheck}
 use Rattle.judge.specs.declared.CheckAnswer.{CheckAnswer}
-use Rattle.call.specs.Demands.{number, callChecks, EveryCall}
+use Rattle.lending.specs.Demands.{number, callChecks, EveryCall}
 use Rattle.schedule.specs.Calls.{CheckDone, BoundsDone, FireDone, RunDone}
 use Rattle.schedule.specs.Plain.{plainFire, plainRun}
 use Rattle.schedule.specs.Walker.{walkerChecks, runChecks}
@@ -73,7 +73,7 @@ pub record PanelDemand : Type 0 where
   -- each does what every call does (§13.1), with 1,024 in place of 8,192: fewer words are refused by 21, and so many words are cleared
   pub every-check : (net sheet : List ℕ) → EveryCall {Left = Unit} panelLimit plainCheck 3 (panelChecks net sheet []) tt (λ s a left s′. PanelCheckDone net sheet s a s′)
   pub every-bounds : (net sheet out : List ℕ)
-      → EveryCall panelLimit plainOf 0 (panelChecks net sheet (once (petriNet net .places ≤ length out) 22 ∷ [])) out (PanelBoundsDone net sheet out)
+      → EveryCall panelLimit plainVerdict 0 (panelChecks net sheet (once (petriNet net .places ≤ length out) 22 ∷ [])) out (PanelBoundsDone net sheet out)
   pub every-fire : (net sheet : List ℕ) (w : Walker) (t : ℕ)
       → EveryCall panelLimit plainFire 1 (panelChecks net sheet (walkerChecks (petriNet net) sheet w t)) w (λ s a next s′. PanelFireDone net sheet s w t a next s′)
   pub every-run : (net sheet firings out : List ℕ)

@@ -15,7 +15,7 @@ use Rattle.sequential.specs.Tests.{isSource}
 use Rattle.sequential.specs.Schedule.{Await, IsSchedule}
 use Rattle.sequential.specs.Checks.{WordsPass}
 use Rattle.sequential.specs.Check.{awaitCount}
-use Rattle.call.specs.Demands.{number, own, EveryCall}
+use Rattle.lending.specs.Demands.{number, own, EveryCall}
 use Rattle.reaction.specs.Busy.{BusyRun, BusyLoop, Reaction}
 use Rattle.reaction.specs.Extreme.{AtMost, AtLeast}
 use Rattle.reaction.specs.Loop.{NoLoop}

@@ -4,7 +4,7 @@ use Prim.Native.Nat.{ℕ, _≤_}
 use mathlib.Core.Path.{_≡_}
 use mathlib.Core.List.{List, [], _∷_, _++_}
 use lib.ListN.{length}
-use Rattle.refusal.specs.Refusal.{told, plainOf}
+use Rattle.refusal.specs.Refusal.{plainRefusal, plainVerdict}
 use Rattle.refusal.specs.Checks.{Check, once}
 use Rattle.refusal.specs.declared.Verdict.{Verdict}
 use Rattle.net.specs.Checks.{netChecks}
@@ -15,7 +15,7 @@ use Rattle.sequential.specs.Check.{scheduleReply, taskReply}
 use Rattle.graph.specs.Readable.{wordsReply, arcsReply}
 use Rattle.judge.specs.Answer.{countsOf, checkAnswer, plainCheck}
 use Rattle.judge.specs.declared.CheckAnswer.{CheckAnswer}
-use Rattle.call.specs.Demands.{EveryReading}
+use Rattle.lending.specs.Demands.{EveryReading}
 use Rattle.schedule.specs.Walker.{walkerChecks, runChecks}
 use Rattle.schedule.specs.Calls.{BoundsWritten, StepDone, RunWritten}
 use Rattle.schedule.specs.Plain.{plainFire, plainRun}
@@ -40,12 +40,12 @@ use Rattle.demands.specs.Reaction.{pairWords}
 
 -- a check that stands alone; it changes nothing
 abbrev pub EveryVerdict : List Check → Verdict → Type 0
-EveryVerdict checks reply = EveryReading {Left = Unit} plainOf 0 checks tt (λ v left. v ≡ reply)
+EveryVerdict checks reply = EveryReading {Left = Unit} plainVerdict 0 checks tt (λ v left. v ≡ reply)
 
 -- the answer for two forms as plain numbers, with both lengths: §8.1
 abbrev pub plainForms : FormsAnswer → List ℕ
 plainForms (Written l) = 0 ∷ 0 ∷ 0 ∷ l .first ∷ l .second ∷ []
-plainForms (Refused r) = told r 2
+plainForms (Refused r) = plainRefusal r 2
 
 -- the checks of the net and of the schedule: only its words, or all of it
 abbrev pub readChecks : List ℕ → List ℕ → List Check
@@ -65,7 +65,7 @@ pub record ReadingDemand : Type 0 where
   -- ---- the cores of the calls: `bounds_into`, `Walker::step`, `run_into`, `replay_into`, `form_into`, `mend_into`, `compare_into`, `compose_into`, `trim_into`,
   -- `reaction_into`; and `form_of`, `forms_of`, which ask only for readable words
   pub bounds : (net sheet out : List ℕ)
-      → EveryReading plainOf 0 (wholeChecks net sheet ++ (once (petriNet net .places ≤ length out) 22 ∷ [])) out (BoundsWritten net sheet out)
+      → EveryReading plainVerdict 0 (wholeChecks net sheet ++ (once (petriNet net .places ≤ length out) 22 ∷ [])) out (BoundsWritten net sheet out)
   pub step : (net sheet : List ℕ) (w : Walker) (t : ℕ)
       → EveryReading plainFire 1 (wholeChecks net sheet ++ walkerChecks (petriNet net) sheet w t) w (StepDone net sheet w t)
   pub run : (net sheet firings out : List ℕ)

@@ -8,14 +8,14 @@ use lib.ListN.{length, getD, drop}
 use Rattle.scan.specs.Scan.{sum, tabulate}
 use Rattle.automaton.specs.Automaton.{Automaton, follow}
 use Rattle.refusal.specs.Limits.{scratchLimit}
-use Rattle.refusal.specs.Refusal.{refusal, told}
+use Rattle.refusal.specs.Refusal.{refusal, plainRefusal}
 use Rattle.refusal.specs.Checks.{once, AllPass}
 use Rattle.refusal.specs.declared.Position.the-variants.{Record}
 use Rattle.net.specs.Checks.{IsNet}
 use Rattle.sequential.specs.Petri.{PetriNet, petriNet, initial, FiresEnabled}
 use Rattle.sequential.specs.Schedule.{IsSchedule}
 use Rattle.sequential.specs.Checks.{WordsPass}
-use Rattle.call.specs.Demands.{number, own, EveryCall}
+use Rattle.lending.specs.Demands.{number, own, EveryCall}
 use Rattle.schedule.specs.Calls.{RunDone}
 use Rattle.schedule.specs.Plain.{plainRun}
 use Rattle.schedule.specs.declared.RunAnswer.{RunAnswer}
@@ -82,4 +82,4 @@ pub record ReplayDemand : Type 0 where
   pub runs : (net sheet log taken put s taken′ put′ s′ out t out′ t′ : List ℕ) (a : ReplayAnswer) (b : RunAnswer) (i : ℕ)
       → ReplayDone net sheet log taken put s a taken′ put′ s′ → RunDone net sheet (firings log) out t b out′ t′ → scratchLimit ≤ length s → scratchLimit ≤ length t
       → AllPass (logChecks log) → ((j : ℕ) → j < i → NodeReached (petriNet net) sheet log j)
-      → (plainReplay a ≡ told (refusal 20 (Record i)) 3) ↔ (plainRun b ≡ told (refusal 20 (Record i)) 3)
+      → (plainReplay a ≡ plainRefusal (refusal 20 (Record i)) 3) ↔ (plainRun b ≡ plainRefusal (refusal 20 (Record i)) 3)

@@ -15,7 +15,7 @@ use Rattle.net.specs.Net.{placeCount, transitionCount, put, start, capacity}
 use Rattle.sequential.specs.Words.{nodeCount, entryValue, entryWithKey}
 use Rattle.judge.specs.Answer.{plainCheck}
 use Rattle.judge.specs.declared.CheckAnswer.{CheckAnswer}
-use Rattle.call.specs.Demands.{EveryCall}
+use Rattle.lending.specs.Demands.{EveryCall}
 use Rattle.schedule.specs.Calls.{CheckDone}
 use Rattle.plainly.specs.Numbers.{plusOne, NetSpread, GridSpread}
 use Rattle.plainly.specs.Calls.{SlowDone}

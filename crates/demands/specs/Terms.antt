@@ -11,7 +11,7 @@ use Rattle.sequential.specs.Words.{graph}
 use Rattle.sequential.specs.Checks.{sheetChecks}
 use Rattle.judge.specs.Answer.{plainCheck}
 use Rattle.judge.specs.declared.CheckAnswer.{CheckAnswer}
-use Rattle.call.specs.Demands.{number}
+use Rattle.lending.specs.Demands.{number}
 use Rattle.refusal.specs.Limits.{scratchLimit}
 use Rattle.schedule.specs.Calls.{CheckDone}
 

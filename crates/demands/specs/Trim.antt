@@ -16,7 +16,7 @@ use Rattle.sequential.specs.Checks.{wordChecks, WordsPass}
 use Rattle.judge.specs.Answer.{plainCheck}
 use Rattle.judge.specs.declared.CheckAnswer.{CheckAnswer}
 use Rattle.schedule.specs.Calls.{CheckDone}
-use Rattle.call.specs.Demands.{number, own, EveryCall}
+use Rattle.lending.specs.Demands.{number, own, EveryCall}
 use Rattle.trimmed.specs.Trim.{Trimming, ListsReached}
 use Rattle.trimmed.specs.Clauses.{HoldsOnReached, HoldsOnAll}
 use Rattle.trimmed.specs.Call.{plainTrim, TrimDone}

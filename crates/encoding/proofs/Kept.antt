@@ -12,22 +12,22 @@ use Rattle.encoding.specs.Kept.{numberIn, arcCell}
 
 -- ---- one cell, as the code makes it
 
-pub cell-none : (sheet numbers : List ℕ) (told : ℕ) → told ≡ 0 → 0 ≡ arcCell sheet numbers told
+pub cell-none : (sheet numbers : List ℕ) (code : ℕ) → code ≡ 0 → 0 ≡ arcCell sheet numbers code
 unfolding arcCell
-cell-none sheet numbers told e = rw e refl
+cell-none sheet numbers code e = rw e refl
 
-cell-some : (sheet numbers : List ℕ) (told : ℕ) → 0 < told → arcCell sheet numbers told ≡ numberIn numbers (entryValue sheet (told - 1)) + 1
+cell-some : (sheet numbers : List ℕ) (code : ℕ) → 0 < code → arcCell sheet numbers code ≡ numberIn numbers (entryValue sheet (code - 1)) + 1
 unfolding arcCell
 cell-some sheet numbers zero l = absurd (omega arith)
 cell-some sheet numbers (suc i) l = let e : suc i - 1 ≡ i = omega arith in rw e refl
 
 -- whose value is told, and has a number in the table or has none
-module _ (sheet numbers : List ℕ) (told value r : ℕ) (l : 0 < told) (e : value ≡ entryValue sheet (told - 1)) where
-  pub cell-number : r ≡ getD numbers value 0 + 1 → r ≡ arcCell sheet numbers told
+module _ (sheet numbers : List ℕ) (code value r : ℕ) (l : 0 < code) (e : value ≡ entryValue sheet (code - 1)) where
+  pub cell-number : r ≡ getD numbers value 0 + 1 → r ≡ arcCell sheet numbers code
   unfolding numberIn
-  cell-number q = q ∙ rw (e, cell-some sheet numbers told l) refl
+  cell-number q = q ∙ rw (e, cell-some sheet numbers code l) refl
 
-  pub cell-past : length numbers ≤ value → r ≡ 1 → r ≡ arcCell sheet numbers told
+  pub cell-past : length numbers ≤ value → r ≡ 1 → r ≡ arcCell sheet numbers code
   cell-past h q = cell-number (q ∙ rw (List·getD-eq-default numbers 0 h) refl)
 
 -- ---- the cells as a loop fills them: those up to t are there, the others 0

@@ -10,7 +10,7 @@ use Rattle.scan.proofs.Placed.{placed-none, placed-past, placed-length, next-ap
 use Rattle.automaton.specs.Automaton.{Automaton}
 use Rattle.sequential.specs.Petri.{PetriNet}
 use Rattle.encoding.specs.Encoding.{listOf, gather, gatherRows, keyOfArc, held, keyOfCount, valueOfCount, keys, values, encode}
-use Rattle.encoding.specs.Rows.{wordOf, filledAt, columnWord, rowWords, Appended, widthOf, cellOf, arcCode, entryTold, firstKey, RowOf, sectionTo, sectionOf}
+use Rattle.encoding.specs.Rows.{wordOf, filledAt, columnWord, rowWords, Appended, widthOf, cellOf, arcCode, sectionCell, firstKey, RowOf, sectionTo, sectionOf}
 use Rattle.encoding.specs.declared.Row.{Row}
 use Rattle.encoding.specs.declared.Section.{Section}
 use Rattle.encoding.specs.declared.Section.the-variants.{ArcKeys, CountKeys, Numbers, Counts}
@@ -89,7 +89,7 @@ code-when (some m) = let e : m + 1 - 1 ≡ m = omega arith in when-hit _ _ (lt-l
 
 module _ (N : PetriNet) (A : Automaton) where
   -- a row that tells node n's entries has their words
-  column-is : (section : Section) (n c x : ℕ) → x ≡ entryTold N A section n c → when (ltb 0 x) (wordOf section (firstKey N A section n + c) x) ≡ cellOf N A section n c
+  column-is : (section : Section) (n c x : ℕ) → x ≡ sectionCell N A section n c → when (ltb 0 x) (wordOf section (firstKey N A section n + c) x) ≡ cellOf N A section n c
   unfolding keyOfArc keyOfCount valueOfCount
   column-is ArcKeys n c x e = rw (e, code-found (A .arc n c)) refl
   column-is CountKeys n c x e = rw e refl

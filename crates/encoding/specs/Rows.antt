@@ -63,11 +63,11 @@ module _ (N : PetriNet) (A : Automaton) where
   firstKey Counts n = A .nodes * N .transitions + n * N .places
 
   -- the cell of node n at column c, and the word that it gives
-  abbrev pub entryTold : Section → ℕ → ℕ → ℕ
-  entryTold ArcKeys n c = arcCode (A .arc n c)
-  entryTold CountKeys n c = held N A n c
-  entryTold Numbers n c = arcCode (A .arc n c)
-  entryTold Counts n c = held N A n c
+  abbrev pub sectionCell : Section → ℕ → ℕ → ℕ
+  sectionCell ArcKeys n c = arcCode (A .arc n c)
+  sectionCell CountKeys n c = held N A n c
+  sectionCell Numbers n c = arcCode (A .arc n c)
+  sectionCell Counts n c = held N A n c
 
   abbrev pub cellOf : Section → ℕ → ℕ → Option ℕ
   cellOf ArcKeys n c = keyOfArc N A n c
@@ -78,7 +78,7 @@ module _ (N : PetriNet) (A : Automaton) where
   -- a row has the entries of node n
   pub record RowOf (section : Section) (n : ℕ) (row : Row) : Type 0 where
     pub first : row .first ≡ firstKey section n
-    pub entry : (c : ℕ) → c < widthOf section → getD (row .cells) c 0 ≡ entryTold section n c
+    pub entry : (c : ℕ) → c < widthOf section → getD (row .cells) c 0 ≡ sectionCell section n c
     pub past : (c : ℕ) → widthOf section ≤ c → c < 32 → getD (row .cells) c 0 ≡ 0
 
   -- the first rows of a section, and the whole section

@@ -88,12 +88,12 @@ fn arc_to(node: u8) -> u32
     node as u32 + 1
 }
 
-// The cell of the arc at entry told - 1. A table gives the number of the node that it leads to.
-fn arc_cell(sheet: &[u32], numbers: [u8; 128], told: usize) -> u32
-    requires { ⌜ 0 < told ⌝ }
-    ensures { λ r. ⌜ r ≡ arcCell (now (sheet .entry)) numbers told ⌝ }
+// The cell of the arc at entry code - 1. A table gives the number of the node that it leads to.
+fn arc_cell(sheet: &[u32], numbers: [u8; 128], code: usize) -> u32
+    requires { ⌜ 0 < code ⌝ }
+    ensures { λ r. ⌜ r ≡ arcCell (now (sheet .entry)) numbers code ⌝ }
 {
-    let target = graph::value(sheet, told - 1) as usize;
+    let target = graph::value(sheet, code - 1) as usize;
     if 128 <= target {
         return arc_to(0);
     }
@@ -104,12 +104,12 @@ fn arc_cell(sheet: &[u32], numbers: [u8; 128], told: usize) -> u32
 pub fn arc_cells(net: &[u32], sheet: &[u32], numbers: [u8; 128], n: u32) -> [u32; 32]
     ensures { λ r. ⌜ r ≡ arcCells (now (net .entry)) (now (sheet .entry)) numbers n ⌝ }
 {
-    let told = graph::arc_entries(net, sheet, n);
+    let codes = graph::arc_entries(net, sheet, n);
     let mut cells = [0u32; 32];
     let mut t = 0;
     while t < 32 {
         let at = t;
-        let entry = told[at];
+        let entry = codes[at];
         t += 1;
         if 0 < entry {
             cells[at] = arc_cell(sheet, numbers, entry);

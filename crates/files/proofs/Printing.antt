@@ -6,9 +6,9 @@ use Rattle.scan.specs.Scan.{tabulate}
 use Rattle.refusal.specs.declared.Refusal.{Refusal}
 use Rattle.refusal.specs.declared.Verdict.{Verdict}
 use Rattle.refusal.specs.declared.Verdict.the-variants as verdict
-use Rattle.call.specs.Call.{Core, roomFault, outputFault, wordsVerdict, answerOf, writtenOver, writtenAt, outsAfter, WordsDone}
-use Rattle.call.proofs.Done.{written-front, written-length}
-use Rattle.call.proofs.Lent.{room-holds}
+use Rattle.lending.specs.Call.{Core, roomFault, outputFault, wordsVerdict, answerOf, writtenOver, writtenAt, outsAfter, WordsDone}
+use Rattle.lending.proofs.Done.{written-front, written-length}
+use Rattle.lending.proofs.Lent.{room-holds}
 use Rattle.judge.specs.declared.Counts.{Counts}
 use Rattle.judge.specs.declared.CheckAnswer.the-variants.{Passed}
 use Rattle.net.specs.Net.{placeCount}

@@ -4,7 +4,7 @@ use lib.Seq.{length-take-le}
 use Rattle.text.specs.Buffer.{Put}
 use Rattle.text.proofs.Put.{all-put, put-front, put-length}
 use Rattle.refusal.specs.declared.Verdict.the-variants.{Accepted}
-use Rattle.call.proofs.Lent.{room-enough}
+use Rattle.lending.proofs.Lent.{room-enough}
 use Rattle.sequential.specs.Check.{scheduleReply}
 use Rattle.judge.specs.declared.Counts.{Counts}
 use Rattle.judge.specs.declared.CheckAnswer.{CheckAnswer}

@@ -8,7 +8,7 @@ use Rattle.text.specs.Lines.{answerLine, acceptedLines}
 use Rattle.refusal.specs.Limits.{mostPlaces, mostEntries}
 use Rattle.refusal.specs.Refusal.{kindOf, indexOf}
 use Rattle.refusal.specs.declared.Refusal.{Refusal}
-use Rattle.call.specs.Call.{roomFault, writtenOver}
+use Rattle.lending.specs.Call.{roomFault, writtenOver}
 use Rattle.sequential.specs.Petri.{petriNet}
 use Rattle.sequential.specs.Bounds.{bounds}
 use Rattle.judge.specs.Answer.{checkAnswer}

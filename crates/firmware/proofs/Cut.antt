@@ -17,7 +17,7 @@ use Rattle.graph.proofs.Readable.{known}
 use Rattle.judge.specs.Answer.{checkAnswer, countsOf}
 use Rattle.judge.specs.declared.CheckAnswer.{CheckAnswer}
 use Rattle.judge.proofs.Judged.{accepted-readable}
-use Rattle.call.specs.Call.{Core, outputFault, wordsVerdict}
+use Rattle.lending.specs.Call.{Core, outputFault, wordsVerdict}
 use Rattle.schedule.specs.Calls.{checkCore, runCore}
 use Rattle.minimal.specs.Form.{formCore}
 use Rattle.octets.specs.Words.{FileRead, allWords}

@@ -3,8 +3,8 @@ use Rattle.scan.proofs.Basics.{ℕ, _/_, _≤_, arith, refl, List, [], _∷_, _
 use Rattle.refusal.specs.Checks.{once}
 use Rattle.refusal.proofs.Judges.{Judges}
 use Rattle.sequential.specs.Petri.{petriNet}
-use Rattle.call.specs.Call.{wordsVerdict}
-use Rattle.call.proofs.Judged.{words-judged}
+use Rattle.lending.specs.Call.{wordsVerdict}
+use Rattle.lending.proofs.Judged.{words-judged}
 use Rattle.schedule.specs.Walker.{runChecks}
 use Rattle.schedule.specs.Firing.{endCounts}
 use Rattle.schedule.proofs.Done.{check-law, run-law}

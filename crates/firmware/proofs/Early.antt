@@ -9,7 +9,7 @@ use Rattle.refusal.specs.declared.Position.the-variants.{Nothing}
 use Rattle.refusal.specs.declared.Refusal.{Refusal}
 use Rattle.refusal.specs.declared.Verdict.{Verdict}
 use Rattle.refusal.specs.declared.Verdict.the-variants.{Accepted, Refused}
-use Rattle.call.specs.Call.{Core, scratchFault, scratchAfter, wordsVerdict, callVerdict, answerOf}
+use Rattle.lending.specs.Call.{Core, scratchFault, scratchAfter, wordsVerdict, callVerdict, answerOf}
 use Rattle.octets.specs.Words.{allWords}
 use Rattle.octets.specs.Bytes.{bytesOver}
 use Rattle.firmware.specs.Bytes.{scratchBytes, isBroken, brokenFault, overBytes, bytesVerdict, BytesDone}

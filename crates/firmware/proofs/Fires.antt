@@ -25,10 +25,10 @@ use Rattle.graph.specs.Rows.{markingRow}
 use Rattle.graph.proofs.Rows.{marking-right}
 use Rattle.graph.proofs.Readable.{known}
 use Rattle.judge.proofs.Judged.{accepted-readable}
-use Rattle.call.specs.Call.{Core, outputFault, wordsVerdict, callVerdict, answerOf}
-use Rattle.call.proofs.Lent.{scratch-kept, scratch-cleared}
-use Rattle.call.proofs.Laws.{call-enough}
-use Rattle.call.proofs.Judged.{words-judged-none, call-judged}
+use Rattle.lending.specs.Call.{Core, outputFault, wordsVerdict, callVerdict, answerOf}
+use Rattle.lending.proofs.Lent.{scratch-kept, scratch-cleared}
+use Rattle.lending.proofs.Laws.{call-enough}
+use Rattle.lending.proofs.Judged.{words-judged-none, call-judged}
 use Rattle.schedule.specs.Firing.{stepFault, follows}
 use Rattle.schedule.specs.declared.FireAnswer.{FireAnswer}
 use Rattle.schedule.specs.declared.Walker.{Walker}

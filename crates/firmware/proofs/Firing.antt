@@ -6,7 +6,7 @@ use Rattle.refusal.specs.declared.Verdict.the-variants.{Accepted, Refused}
 use Rattle.sequential.specs.Check.{scheduleReply}
 use Rattle.sequential.proofs.Cut.{cut-reply-both}
 use Rattle.graph.specs.Rows.{markingRow}
-use Rattle.call.specs.Call.{wordsVerdict, outputFault}
+use Rattle.lending.specs.Call.{wordsVerdict, outputFault}
 use Rattle.schedule.specs.Walker.{walker}
 use Rattle.schedule.specs.Calls.{StepDone}
 use Rattle.schedule.specs.declared.Walker.{Walker}

@@ -17,9 +17,9 @@ use Rattle.sequential.proofs.Accepted.{schedule-judged}
 use Rattle.graph.specs.Readable.{Readable}
 use Rattle.graph.proofs.Readable.{known}
 use Rattle.judge.proofs.Judged.{accepted-readable}
-use Rattle.call.specs.Call.{wordsVerdict}
-use Rattle.call.proofs.Lent.{Room, room-one}
-use Rattle.call.proofs.Judged.{Lawful, words-judged, words-judged-none}
+use Rattle.lending.specs.Call.{wordsVerdict}
+use Rattle.lending.proofs.Lent.{Room, room-one}
+use Rattle.lending.proofs.Judged.{Lawful, words-judged, words-judged-none}
 use Rattle.schedule.proofs.Done.{check-law}
 use Rattle.minimal.specs.Minimal.{minimalForm}
 use Rattle.minimal.specs.Form.{formCore}

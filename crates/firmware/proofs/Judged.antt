@@ -10,11 +10,11 @@ use Rattle.refusal.specs.declared.Verdict.{Verdict}
 use Rattle.refusal.specs.declared.Verdict.the-variants.{Accepted, Refused}
 use Rattle.refusal.proofs.Checks.{says-when, Tells}
 use Rattle.refusal.proofs.Judges.{Judges, judges-found, judges-then, without, without-spared, spared-never}
-use Rattle.call.specs.Call.{Core, CallDone, buffer, wordsVerdict, outsAfter, scratchAfter}
-use Rattle.call.specs.Demands.{number, ByChecks, ScratchLeft}
-use Rattle.call.proofs.Judged.{Lawful, call-judged, answer-number, refusal-number}
-use Rattle.call.proofs.Done.{by-checks, plain-length, scratch-left}
-use Rattle.call.proofs.Demands.{replies}
+use Rattle.lending.specs.Call.{Core, CallDone, buffer, wordsVerdict, outsAfter, scratchAfter}
+use Rattle.lending.specs.Demands.{number, ByChecks, ScratchLeft}
+use Rattle.lending.proofs.Judged.{Lawful, call-judged, answer-number, refusal-number}
+use Rattle.lending.proofs.Done.{by-checks, plain-length, scratch-left}
+use Rattle.lending.proofs.Demands.{replies}
 use Rattle.octets.specs.Words.{allWords}
 use Rattle.octets.specs.Bytes.{bytesOver}
 use Rattle.firmware.specs.Bytes.{scratchBytes, replyBytes, isBroken, brokenFault, overBytes, bytesVerdict, bytesAnswer, outAfter, BytesDone}

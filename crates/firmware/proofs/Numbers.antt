@@ -9,7 +9,7 @@ use Rattle.refusal.specs.declared.Verdict.the-variants.{Accepted, Refused}
 use Rattle.net.specs.Checks.{netChecks}
 use Rattle.sequential.specs.Petri.{petriNet}
 use Rattle.sequential.specs.Checks.{sheetChecks}
-use Rattle.call.specs.Call.{wordsVerdict, outputFault}
+use Rattle.lending.specs.Call.{wordsVerdict, outputFault}
 use Rattle.schedule.specs.Walker.{walkerChecks}
 use Rattle.schedule.specs.Calls.{fireCore, StepDone}
 use Rattle.schedule.specs.declared.Walker.{Walker}

@@ -6,10 +6,10 @@ use Rattle.scan.specs.Placed.{placed}
 use Rattle.refusal.specs.declared.Refusal.{Refusal}
 use Rattle.refusal.specs.declared.Verdict.{Verdict}
 use Rattle.refusal.specs.declared.Verdict.the-variants.{Accepted, Refused}
-use Rattle.refusal.proofs.Verdicts.{told-parts}
+use Rattle.refusal.proofs.Verdicts.{refusal-parts}
 use Rattle.sequential.specs.Check.{scheduleReply}
-use Rattle.call.specs.Call.{Core, roomFault, outputFault, wordsVerdict, writtenAt}
-use Rattle.call.proofs.Lent.{room-enough, room-holds}
+use Rattle.lending.specs.Call.{Core, roomFault, outputFault, wordsVerdict, writtenAt}
+use Rattle.lending.proofs.Lent.{room-enough, room-holds}
 use Rattle.minimal.specs.Minimal.{minimalForm}
 use Rattle.minimal.specs.Form.{formCore, FormWritten, plainForm}
 use Rattle.minimal.specs.declared.FormAnswer.{FormAnswer}
@@ -88,7 +88,7 @@ padded p = getD p 0 0 ∷ getD p 1 0 ∷ getD p 2 0 ∷ getD p 3 0 ∷ 0 ∷ 0 �
 
 padded-six : (a : FormAnswer) (p : List ℕ) → p ≡ plainForm a → padded p ≡ sixForm a
 padded-six (form.Written n) p e = rw e
-padded-six (form.Refused r) p e = ap padded (e ∙ sym (told-parts r 1)) ∙ told-parts r 3
+padded-six (form.Refused r) p e = ap padded (e ∙ sym (refusal-parts r 1)) ∙ refusal-parts r 3
 
 module _ (a : FormAnswer) (p : List ℕ) where
   pub form-told-written : (n : ℕ) → p ≡ plainForm a → a ≡ form.Written n → Tells sixForm a (record { number = 0; plain = padded p })

@@ -7,11 +7,11 @@ use Rattle.refusal.specs.declared.Refusal.{Refusal}
 use Rattle.refusal.specs.declared.Verdict.{Verdict}
 use Rattle.refusal.specs.declared.Verdict.the-variants.{Accepted, Refused}
 use Rattle.refusal.specs.Limits.{scratchLimit}
-use Rattle.call.specs.Call.{Core, buffer, outputFault, wordsVerdict, callVerdict, answerOf}
-use Rattle.call.specs.Demands.{number}
-use Rattle.call.proofs.Laws.{call-enough}
-use Rattle.call.proofs.Judged.{Lawful, answer-number, refusal-number}
-use Rattle.call.proofs.Done.{done-zero, written-front}
+use Rattle.lending.specs.Call.{Core, buffer, outputFault, wordsVerdict, callVerdict, answerOf}
+use Rattle.lending.specs.Demands.{number}
+use Rattle.lending.proofs.Laws.{call-enough}
+use Rattle.lending.proofs.Judged.{Lawful, answer-number, refusal-number}
+use Rattle.lending.proofs.Done.{done-zero, written-front}
 use Rattle.octets.specs.Words.{allWords}
 use Rattle.octets.specs.Bytes.{bytesOver}
 use Rattle.octets.proofs.Decoding.{words-count}

@@ -13,8 +13,8 @@ use Rattle.refusal.specs.Verdict.{verdictOf, andThen}
 use Rattle.refusal.specs.declared.Position.the-variants.{Nothing}
 use Rattle.refusal.specs.declared.Verdict.{Verdict}
 use Rattle.refusal.specs.declared.Verdict.the-variants.{Accepted, Refused}
-use Rattle.call.specs.Call.{Core, scratchAfter, buffer, callVerdict, answerOf}
-use Rattle.call.specs.Demands.{number}
+use Rattle.lending.specs.Call.{Core, scratchAfter, buffer, callVerdict, answerOf}
+use Rattle.lending.specs.Demands.{number}
 use Rattle.octets.specs.Words.{allWords}
 use Rattle.octets.specs.Bytes.{bytesOver}
 

@@ -3,11 +3,11 @@ use Prim.Native.Nat.{ℕ, _+_}
 use mathlib.Core.Path.{_≡_}
 use mathlib.Core.List.{List, [], _∷_}
 use lib.ListN.{length}
-use Rattle.refusal.specs.Refusal.{told}
+use Rattle.refusal.specs.Refusal.{plainRefusal}
 use Rattle.graph.specs.Rows.{markingRow}
 use Rattle.judge.specs.Answer.{plainCheck}
 use Rattle.judge.specs.declared.CheckAnswer.{CheckAnswer}
-use Rattle.call.specs.Call.{Core, scratchAfter}
+use Rattle.lending.specs.Call.{Core, scratchAfter}
 use Rattle.schedule.specs.Walker.{walker}
 use Rattle.schedule.specs.Calls.{checkCore, runCore, fireCore}
 use Rattle.schedule.specs.Plain.{plainRun}
@@ -45,7 +45,7 @@ formBytes net sheet = overBytes (brokenFault (length net) (length sheet) 0) (for
 -- its plain numbers (§10.9), and 0 for the two numbers for which it has no use (§8.4)
 abbrev pub sixForm : FormAnswer → List ℕ
 sixForm (Written n) = 0 ∷ 0 ∷ 0 ∷ n ∷ 0 ∷ 0 ∷ []
-sixForm (Refused r) = told r 3
+sixForm (Refused r) = plainRefusal r 3
 
 abbrev pub BytesFormed : List ℕ → List ℕ → List ℕ → List ℕ → List ℕ → ℕ → List ℕ → List ℕ → List ℕ → Type 0
 BytesFormed net sheet out scratch reply r out′ scratch′ reply′ = BytesDone (formBytes net sheet) sixForm out scratch reply r out′ scratch′ reply′

@@ -15,8 +15,8 @@ use Rattle.sequential.specs.Words.{nodeCount, countAt, graph}
 use Rattle.sequential.specs.Schedule.{Offers}
 use Rattle.sequential.specs.Checks.{sheetChecks}
 use Rattle.judge.specs.Answer.{plainCheck}
-use Rattle.call.specs.Call.{Core, CallDone, buffer}
-use Rattle.call.specs.Demands.{number, callChecks, ByChecks, ScratchLeft}
+use Rattle.lending.specs.Call.{Core, CallDone, buffer}
+use Rattle.lending.specs.Demands.{number, callChecks, ByChecks, ScratchLeft}
 use Rattle.schedule.specs.Walker.{runChecks}
 use Rattle.schedule.specs.Calls.{checkCore, runCore, FireDone}
 use Rattle.schedule.specs.Plain.{plainRun}

@@ -4,8 +4,8 @@ use mathlib.Core.Path.{_≡_}
 use mathlib.Core.List.{List, [], _∷_}
 use Rattle.refusal.specs.Verdict.{andThen}
 use Rattle.refusal.specs.declared.Verdict.{Verdict}
-use Rattle.call.specs.Call.{Core, scratchFault, buffer, wordsVerdict, answerOf}
-use Rattle.call.specs.Demands.{number}
+use Rattle.lending.specs.Call.{Core, scratchFault, buffer, wordsVerdict, answerOf}
+use Rattle.lending.specs.Demands.{number}
 use Rattle.octets.specs.Words.{allWords}
 use Rattle.firmware.specs.Bytes.{scratchBytes, brokenFault, bytesVerdict, bytesAnswer, outAfter}
 use Rattle.firmware.specs.Calls.{ownCore, oneNumber}

@@ -3,7 +3,7 @@ ghost use mathlib.Core.Path.{_≡_};
 ghost use Prim.Native.Nat.{_≤_};
 ghost use lib.ListN.{length};
 ghost use Rattle.refusal.specs.Refusal.{numberOf};
-ghost use Rattle.call.specs.Call.{scratchAfter};
+ghost use Rattle.lending.specs.Call.{scratchAfter};
 ghost use Rattle.octets.specs.Bytes.{bytesOver};
 ghost use Rattle.firmware.specs.Bytes.{scratchBytes, replyBytes};
 ghost use Rattle.firmware.specs.Parts.{earlyVerdict};

@@ -9,7 +9,7 @@ ghost use Rattle.minimal.specs.Form.{formCore};
 ghost use Rattle.octets.specs.Words.{allWords};
 ghost use Rattle.firmware.specs.Parts.{Written, fireNumber};
 use super::lent;
-use call::Index;
+use lending::Index;
 use minimal::FormAnswer;
 use refusal::Position;
 use refusal::Refusal;
@@ -79,7 +79,7 @@ pub(crate) fn run(net: &[u32], sheet: &[u32], firings: &[u8], out: &mut [u8]) ->
         return RunAnswer::Stopped(r);
     }
     let places = net::places(net) as usize;
-    let found = call::output_fault(out.len() / 4, places);
+    let found = lending::output_fault(out.len() / 4, places);
     if let Verdict::Refused(r) = found {
         return RunAnswer::Stopped(r);
     }
@@ -101,7 +101,7 @@ pub(crate) fn form(net: &[u32], sheet: &[u32], out: &mut [u8]) -> FormAnswer
     match minimize::form_into(net, sheet, &mut form) {
         FormAnswer::Refused(r) => FormAnswer::Refused(r),
         FormAnswer::Written(k) => {
-            let found = call::output_fault(out.len() / 4, k);
+            let found = lending::output_fault(out.len() / 4, k);
             if let Verdict::Refused(r) = found {
                 return FormAnswer::Refused(r);
             }

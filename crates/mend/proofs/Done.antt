@@ -9,9 +9,9 @@ use Rattle.sequential.specs.Petri.{petriNet}
 use Rattle.sequential.specs.Words.{graph}
 use Rattle.encoding.specs.declared.Section.the-variants.{CountKeys}
 use Rattle.encoding.proofs.Encoded.{encoded-entries, encoded-length}
-use Rattle.call.specs.Call.{roomFault}
-use Rattle.call.proofs.Lent.{room-holds}
-use Rattle.call.proofs.Laws.{refused-first, refused-second, answered-two}
+use Rattle.lending.specs.Call.{roomFault}
+use Rattle.lending.proofs.Lent.{room-holds}
+use Rattle.lending.proofs.Laws.{refused-first, refused-second, answered-two}
 use Rattle.mended.specs.Counts.{mendedGraph}
 use Rattle.mended.specs.Mend.{mendVerdict, mendedWords}
 use Rattle.mended.specs.Changes.{changedKeys, changedCounts, changeList, changes as changeWords}
@@ -24,11 +24,11 @@ use Rattle.mend.proofs.Writes.{change-keys, part-most}
 use Rattle.mend.proofs.Measuring.{entries-are}
 
 -- so both buffers' lengths are small numbers
-pub few : {net sheet finder : List ℕ} {entries changes : ℕ} → Ready net sheet finder entries changes → (entries ≤ 4096) × (changes ≤ 4096)
+pub few : {net sheet parent : List ℕ} {entries changes : ℕ} → Ready net sheet parent entries changes → (entries ≤ 4096) × (changes ≤ 4096)
 few k = (k .few-entries, omega (arith, k .changes-are, part-most _ _ (k .mendable .fitting .readable) Changes CountKeys))
 
-module _ (net sheet out list : List ℕ) {v : Verdict} {finder : List ℕ} {entries changes : ℕ} (m : Measured net sheet v finder entries changes) (a : v ≡ verdict.Accepted) where
-  abbrev k : Ready net sheet finder entries changes
+module _ (net sheet out list : List ℕ) {v : Verdict} {parent : List ℕ} {entries changes : ℕ} (m : Measured net sheet v parent entries changes) (a : v ≡ verdict.Accepted) where
+  abbrev k : Ready net sheet parent entries changes
   k = m .ready a
 
   sheet-long : length (mendedWords net sheet) ≡ 2 + 2 * entries

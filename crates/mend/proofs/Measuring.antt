@@ -89,7 +89,7 @@ reach-passes : (N : PetriNet) (sheet : List ℕ) (n : ℕ) → reachFault N shee
 unfolding reachFault lineFinds foundAt
 reach-passes N sheet n h = not-false _ (when-none _ _ h)
 
-pub refused-measured : {net sheet finder : List ℕ} {v : Verdict} {r : Refusal} {entries changes : ℕ} → v ≡ mendVerdict net sheet → v ≡ Refused r → Measured net sheet v finder entries changes
+pub refused-measured : {net sheet parent : List ℕ} {v : Verdict} {r : Refusal} {entries changes : ℕ} → v ≡ mendVerdict net sheet → v ≡ Refused r → Measured net sheet v parent entries changes
 refused-measured e h = record { reply = e; ready = λ a. absurd (let z : _≡_ {A = ℕ} 0 1 = cc in omega arith) }
 
 module _ (net sheet : List ℕ) where
@@ -155,18 +155,18 @@ module _ (net sheet : List ℕ) where
         let r = before-readable in
         reached↔ N sheet (r .sizes .some-transition) (r .holds) n .0 (reach-passes N sheet n (first-all _ _ h n l))
 
-    module _ {finder : List ℕ} {entries changes : ℕ} where
+    module _ {parent : List ℕ} {entries changes : ℕ} where
       -- 25: some place does not fit, or the entries are too many
-      no-counts : {v : Verdict} → (countsFit N A ≡ true → ⊥) → v ≡ Refused (refusal 25 Nothing) → Measured net sheet v finder entries changes
+      no-counts : {v : Verdict} → (countsFit N A ≡ true → ⊥) → v ≡ Refused (refusal 25 Nothing) → Measured net sheet v parent entries changes
       no-counts n e = refused-measured (e ∙ sym (verdict-parts ∙ then-next _ _ a ∙ ap verdictOf (when-hit _ _ (ap not (not-true→false _ n))))) e
 
-      pub place-measured : {v : Verdict} → (AllFit (petriNet net) sheet → ⊥) → v ≡ Refused (refusal 25 Nothing) → Measured net sheet v finder entries changes
+      pub place-measured : {v : Verdict} → (AllFit (petriNet net) sheet → ⊥) → v ≡ Refused (refusal 25 Nothing) → Measured net sheet v parent entries changes
       place-measured n = no-counts (λ h. n (fits-places before-readable h))
 
-      pub entries-measured : {v : Verdict} → mostEntries < entriesOf net sheet → v ≡ Refused (refusal 25 Nothing) → Measured net sheet v finder entries changes
+      pub entries-measured : {v : Verdict} → mostEntries < entriesOf net sheet → v ≡ Refused (refusal 25 Nothing) → Measured net sheet v parent entries changes
       entries-measured l = no-counts (λ h. omega (arith, l, fits-entries before-readable h))
 
-      pub all-measured : Ready net sheet finder entries changes → Measured net sheet Accepted finder entries changes
+      pub all-measured : Ready net sheet parent entries changes → Measured net sheet Accepted parent entries changes
       all-measured q =
           let f = places-fit before-readable (q .mendable .fitting .fit) (omega (arith, q .entries-are, q .few-entries)) in
           record { reply = sym (verdict-parts ∙ then-next _ _ a ∙ ap verdictOf (when-miss _ _ (ap not f))); ready = λ e. q }

@@ -27,12 +27,12 @@ arcsVerdict net sheet =
     (orElse (first (reachFault N sheet) (nodeCount sheet)) (first (returnFault N sheet) (nodeCount sheet)))))
 
 -- what is known if nothing is refused
-pub record Ready (net sheet finder : List ℕ) (entries changes : ℕ) : Type 0 where
-  pub mendable : Mendable net sheet finder
+pub record Ready (net sheet parent : List ℕ) (entries changes : ℕ) : Type 0 where
+  pub mendable : Mendable net sheet parent
   pub entries-are : entries ≡ entriesOf net sheet
   pub few-entries : entries ≤ mostEntries
   pub changes-are : changes ≡ length (partOf net sheet Changes CountKeys)
 
-pub record Measured (net sheet : List ℕ) (verdict : Verdict) (finder : List ℕ) (entries changes : ℕ) : Type 0 where
+pub record Measured (net sheet : List ℕ) (verdict : Verdict) (parent : List ℕ) (entries changes : ℕ) : Type 0 where
   pub reply : verdict ≡ mendVerdict net sheet
-  pub ready : verdict ≡ Accepted → Ready net sheet finder entries changes
+  pub ready : verdict ≡ Accepted → Ready net sheet parent entries changes

@@ -27,17 +27,17 @@ pub fn mend_into(net: &[u32], sheet: &[u32], out: &mut [u32], list: &mut [u32]) 
         sheet: 2 + 2 * entries,
         list: 1 + 2 * changes,
     };
-    let found = call::output_fault(out.len(), lengths.sheet);
+    let found = lending::output_fault(out.len(), lengths.sheet);
     if let Verdict::Refused(r) = found {
         return MendAnswer::Refused(r);
     }
-    let found = call::output_fault(list.len(), lengths.list);
+    let found = lending::output_fault(list.len(), lengths.list);
     if let Verdict::Refused(r) = found {
         return MendAnswer::Refused(r);
     }
-    let finder = measure.finder;
-    writer::write_sheet(net, sheet, finder, entries, out);
-    writer::write_list(net, sheet, finder, changes, list);
+    let parent = measure.parent;
+    writer::write_sheet(net, sheet, parent, entries, out);
+    writer::write_list(net, sheet, parent, changes, list);
     MendAnswer::Written(lengths)
 }
 
@@ -52,7 +52,7 @@ pub fn mend_within(
 ) -> MendAnswer
     ensures { λ r. ⌜ MendWithinDone limit (now (net .entry)) (now (sheet .entry)) (now (out .entry)) (now (list .entry)) (now (scratch .entry)) r (now (out .exit)) (now (list .exit)) (now (scratch .exit)) ⌝ }
 {
-    let found = call::scratch_fault(limit, scratch.len());
+    let found = lending::scratch_fault(limit, scratch.len());
     if let Verdict::Refused(r) = found {
         return MendAnswer::Refused(r);
     }

@@ -14,7 +14,7 @@ use refusal::Verdict;
 
 pub(crate) struct Measure {
     pub verdict: Verdict,
-    pub finder: [u16; 128],
+    pub parent: [u16; 128],
     pub entries: usize,
     pub changes: usize,
 }
@@ -41,7 +41,7 @@ fn refused(verdict: Verdict) -> Measure
 {
     Measure {
         verdict,
-        finder: [0u16; 128],
+        parent: [0u16; 128],
         entries: 0,
         changes: 0,
     }
@@ -55,7 +55,7 @@ fn no_counts() -> Measure
 }
 
 pub(crate) fn measured(net: &[u32], sheet: &[u32]) -> Measure
-    ensures { λ r. ⌜ Measured (now (net .entry)) (now (sheet .entry)) (r .verdict) (r .finder) (r .entries) (r .changes) ⌝ }
+    ensures { λ r. ⌜ Measured (now (net .entry)) (now (sheet .entry)) (r .verdict) (r .parent) (r .entries) (r .changes) ⌝ }
 {
     let found = checked(net, sheet);
     if let Verdict::Refused(_) = found {
@@ -65,16 +65,16 @@ pub(crate) fn measured(net: &[u32], sheet: &[u32]) -> Measure
     if !places::all_fit(net, sheet, nodes) {
         return no_counts();
     }
-    let finder = nodes.finder;
+    let parent = nodes.parent;
     let arcs = graph::arc_count(net, sheet);
-    let entries = arcs + writer::counted(net, sheet, finder, Part::Counts);
+    let entries = arcs + writer::counted(net, sheet, parent, Part::Counts);
     if (Limits::ENTRIES as usize) < entries {
         return no_counts();
     }
-    let changes = writer::counted(net, sheet, finder, Part::Changes);
+    let changes = writer::counted(net, sheet, parent, Part::Changes);
     Measure {
         verdict: Verdict::Accepted,
-        finder,
+        parent,
         entries,
         changes,
     }

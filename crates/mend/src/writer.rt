@@ -86,8 +86,8 @@ fn part_row(net: &[u32], sheet: &[u32], part: Part, n: u32, counts: [u32; 32]) -
 }
 
 // How many entries a part has.
-pub(crate) fn counted(net: &[u32], sheet: &[u32], finder: [u16; 128], part: Part) -> usize
-    requires { ⌜ Mendable (now net) (now sheet) finder ⌝ }
+pub(crate) fn counted(net: &[u32], sheet: &[u32], parent: [u16; 128], part: Part) -> usize
+    requires { ⌜ Mendable (now net) (now sheet) parent ⌝ }
     ensures { λ r. ⌜ r ≡ length (partOf (now (net .entry)) (now (sheet .entry)) part Section.CountKeys) ⌝ }
 {
     let nodes = sheet[0] as usize;
@@ -96,7 +96,7 @@ pub(crate) fn counted(net: &[u32], sheet: &[u32], finder: [u16; 128], part: Part
     let mut entries = 0;
     let mut n = 0;
     while n < nodes {
-        let here = rows::row_of(net, sheet, finder, n, known, counts);
+        let here = rows::row_of(net, sheet, parent, n, known, counts);
         let row = part_row(net, sheet, part, n as u32, here);
         let cells = row.cells;
         entries += encoding::filled(cells);
@@ -111,13 +111,13 @@ pub(crate) fn counted(net: &[u32], sheet: &[u32], finder: [u16; 128], part: Part
 fn write_part(
     net: &[u32],
     sheet: &[u32],
-    finder: [u16; 128],
+    parent: [u16; 128],
     part: Part,
     section: Section,
     out: &mut [u32],
     at: usize,
 ) -> usize
-    requires { ⌜ Mendable (now net) (now sheet) finder ⌝ }
+    requires { ⌜ Mendable (now net) (now sheet) parent ⌝ }
     ensures { λ r. ⌜ Appended (now (out .entry)) at (partOf (now (net .entry)) (now (sheet .entry)) part section) r (now (out .exit)) ⌝ }
 {
     let nodes = sheet[0] as usize;
@@ -126,7 +126,7 @@ fn write_part(
     let mut next = at;
     let mut n = 0;
     while n < nodes {
-        let here = rows::row_of(net, sheet, finder, n, known, counts);
+        let here = rows::row_of(net, sheet, parent, n, known, counts);
         let row = part_row(net, sheet, part, n as u32, here);
         next = encoding::append(row, section, out, next);
         counts = here;
@@ -140,49 +140,49 @@ fn write_part(
 fn write_half(
     net: &[u32],
     sheet: &[u32],
-    finder: [u16; 128],
+    parent: [u16; 128],
     from: usize,
     section: Section,
     out: &mut [u32],
     at: usize,
 ) -> usize
-    requires { ⌜ Mendable (now net) (now sheet) finder ⌝ }
+    requires { ⌜ Mendable (now net) (now sheet) parent ⌝ }
     requires { ⌜ from + entryCount (now sheet) ≤ length (now sheet) ⌝ }
     ensures { λ r. ⌜ Appended (now (out .entry)) at (halfOf (now (net .entry)) (now (sheet .entry)) from section) r (now (out .exit)) ⌝ }
 {
     let arcs = graph::arc_count(net, sheet);
     let next = copy(sheet, from, arcs, out, at);
-    write_part(net, sheet, finder, Part::Counts, section, out, next)
+    write_part(net, sheet, parent, Part::Counts, section, out, next)
 }
 
 // Writes the mended schedule: the arcs as they are given, and the counts that they force.
 pub(crate) fn write_sheet(
     net: &[u32],
     sheet: &[u32],
-    finder: [u16; 128],
+    parent: [u16; 128],
     entries: usize,
     out: &mut [u32],
 )
-    requires { ⌜ Mendable (now net) (now sheet) finder ⌝ }
+    requires { ⌜ Mendable (now net) (now sheet) parent ⌝ }
     requires { ⌜ entries ≡ entriesOf (now net) (now sheet) ⌝ }
     ensures { λ _. ⌜ now (out .exit) ≡ placed (now (out .entry)) 0 (mendedWords (now (net .entry)) (now (sheet .entry))) ⌝ }
 {
     let given = sheet[1] as usize;
     let next = encoding::put(sheet[0], out, 0);
     let next = encoding::put(entries as u32, out, next);
-    let next = write_half(net, sheet, finder, 2, Section::CountKeys, out, next);
-    write_half(net, sheet, finder, 2 + given, Section::Counts, out, next);
+    let next = write_half(net, sheet, parent, 2, Section::CountKeys, out, next);
+    write_half(net, sheet, parent, 2 + given, Section::Counts, out, next);
 }
 
 // Writes the list of changes.
 pub(crate) fn write_list(
     net: &[u32],
     sheet: &[u32],
-    finder: [u16; 128],
+    parent: [u16; 128],
     changes: usize,
     list: &mut [u32],
 )
-    requires { ⌜ Mendable (now net) (now sheet) finder ⌝ }
+    requires { ⌜ Mendable (now net) (now sheet) parent ⌝ }
     requires { ⌜ changes ≡ length (partOf (now net) (now sheet) Part.Changes Section.CountKeys) ⌝ }
     ensures { λ _. ⌜ now (list .exit) ≡ placed (now (list .entry)) 0 (changeWords (now (net .entry)) (now (sheet .entry))) ⌝ }
 {
@@ -190,7 +190,7 @@ pub(crate) fn write_list(
     let next = write_part(
         net,
         sheet,
-        finder,
+        parent,
         Part::Changes,
         Section::CountKeys,
         list,
@@ -199,7 +199,7 @@ pub(crate) fn write_list(
     write_part(
         net,
         sheet,
-        finder,
+        parent,
         Part::Changes,
         Section::Numbers,
         list,

@@ -14,7 +14,7 @@ use Rattle.sequential.specs.Checks.{arcWordChecks}
 use Rattle.sequential.specs.Known.{ArcsHold}
 use Rattle.sequential.proofs.Words.{arcs-hold}
 use Rattle.sequential.proofs.Accepted.{sheet-schedule}
-use Rattle.call.proofs.Judged.{Lawful}
+use Rattle.lending.proofs.Judged.{Lawful}
 use Rattle.mended.specs.Counts.{countsFit}
 use Rattle.mended.specs.Checks.{arcChecks, mendChecks}
 use Rattle.mended.specs.Mend.{mendVerdict, mendedWords}

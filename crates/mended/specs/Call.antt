@@ -3,8 +3,8 @@ use Prim.Native.Nat.{ℕ}
 use mathlib.Core.List.{List, [], _∷_}
 use lib.ListN.{length}
 use Rattle.refusal.specs.Limits.{scratchLimit}
-use Rattle.refusal.specs.Refusal.{told}
-use Rattle.call.specs.Call.{Core, WordsDone, CallDone}
+use Rattle.refusal.specs.Refusal.{plainRefusal}
+use Rattle.lending.specs.Call.{Core, WordsDone, CallDone}
 use Rattle.mended.specs.Mend.{mendVerdict, mendedWords}
 use Rattle.mended.specs.Changes.{changes}
 use Rattle.mended.specs.declared.Lengths.{Lengths}
@@ -38,4 +38,4 @@ MendDone = MendWithinDone scratchLimit
 -- number, kind, position, both lengths (§8.1), which are 0 if refused (§8.3)
 abbrev pub plainMend : MendAnswer → List ℕ
 plainMend (Written l) = 0 ∷ 0 ∷ 0 ∷ l .sheet ∷ l .list ∷ []
-plainMend (Refused r) = told r 2
+plainMend (Refused r) = plainRefusal r 2

@@ -4,7 +4,7 @@ use mathlib.Core.Path.{_≡_}
 use mathlib.Core.List.{List, [], _∷_}
 use Rattle.refusal.specs.declared.Verdict.{Verdict}
 use Rattle.refusal.specs.declared.Verdict.the-variants.{Accepted, Refused}
-use Rattle.call.specs.Call.{answerOf}
+use Rattle.lending.specs.Call.{answerOf}
 use Rattle.mended.specs.Mend.{mendVerdict, mendedWords}
 use Rattle.mended.specs.Changes.{changes}
 use Rattle.mended.specs.Call.{mendCore, plainMend}

@@ -11,8 +11,8 @@ use Rattle.refusal.specs.Verdict.{verdictOf}
 use Rattle.refusal.specs.declared.Verdict.the-variants.{Accepted}
 use Rattle.refusal.proofs.Verdicts.{then-next, then-accepted, answer-none}
 use Rattle.graph.specs.Readable.{wordsReply}
-use Rattle.call.specs.Call.{wordsVerdict}
-use Rattle.call.proofs.Judged.{Lawful}
+use Rattle.lending.specs.Call.{wordsVerdict}
+use Rattle.lending.proofs.Judged.{Lawful}
 use Rattle.minimal.specs.Minimal.{minimalForm}
 use Rattle.minimal.specs.Form.{formCore, plainForm, FormOf, FormWritten}
 use Rattle.minimal.specs.declared.FormAnswer.{FormAnswer}

@@ -2,10 +2,10 @@
 use Prim.Native.Nat.{ℕ}
 use mathlib.Core.List.{List, [], _∷_}
 use lib.ListN.{length}
-use Rattle.refusal.specs.Refusal.{told}
+use Rattle.refusal.specs.Refusal.{plainRefusal}
 use Rattle.sequential.specs.Check.{scheduleReply}
 use Rattle.graph.specs.Readable.{wordsReply}
-use Rattle.call.specs.Call.{Core, WordsDone, CallDone}
+use Rattle.lending.specs.Call.{Core, WordsDone, CallDone}
 use Rattle.refusal.specs.Limits.{scratchLimit}
 use Rattle.minimal.specs.Minimal.{minimalForm}
 use Rattle.minimal.specs.declared.FormAnswer.{FormAnswer}
@@ -45,4 +45,4 @@ FormDone = FormWithinDone scratchLimit
 -- number, kind, position, the length (§8.1), which is 0 if refused (§8.3)
 abbrev pub plainForm : FormAnswer → List ℕ
 plainForm (Written n) = 0 ∷ 0 ∷ 0 ∷ n ∷ []
-plainForm (Refused r) = told r 1
+plainForm (Refused r) = plainRefusal r 1

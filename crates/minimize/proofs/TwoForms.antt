@@ -8,9 +8,9 @@ use Rattle.refusal.specs.declared.Verdict.the-variants as verdict
 use Rattle.refusal.specs.Verdict.{andThen}
 use Rattle.refusal.proofs.Verdicts.{then-next}
 use Rattle.graph.specs.Readable.{wordsReply}
-use Rattle.call.specs.Call.{roomFault}
-use Rattle.call.proofs.Lent.{room-holds}
-use Rattle.call.proofs.Laws.{refused-first, refused-second, answered-two}
+use Rattle.lending.specs.Call.{roomFault}
+use Rattle.lending.proofs.Lent.{room-holds}
+use Rattle.lending.proofs.Laws.{refused-first, refused-second, answered-two}
 use Rattle.minimal.specs.Minimal.{minimalForm}
 use Rattle.minimize.specs.Both.{Measured, FormsOf}
 use Rattle.minimize.specs.declared.both.Measure.{Measure}

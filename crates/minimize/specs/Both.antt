@@ -4,7 +4,7 @@ use mathlib.Core.List.{List, [], _∷_}
 use lib.ListN.{length}
 use Rattle.refusal.specs.Verdict.{andThen}
 use Rattle.graph.specs.Readable.{wordsReply}
-use Rattle.call.specs.Call.{Core, WordsDone}
+use Rattle.lending.specs.Call.{Core, WordsDone}
 use Rattle.minimal.specs.Minimal.{minimalForm}
 use Rattle.minimize.specs.Tables.{NewNodes, Counted}
 use Rattle.minimize.specs.declared.both.Measure.{Measure}

@@ -45,11 +45,11 @@ pub(crate) fn written(
         first: 2 + 2 * former.entries,
         second: 2 + 2 * latter.entries,
     };
-    let found = call::output_fault(one.len(), lengths.first);
+    let found = lending::output_fault(one.len(), lengths.first);
     if let Verdict::Refused(r) = found {
         return FormsAnswer::Refused(r);
     }
-    let found = call::output_fault(two.len(), lengths.second);
+    let found = lending::output_fault(two.len(), lengths.second);
     if let Verdict::Refused(r) = found {
         return FormsAnswer::Refused(r);
     }

@@ -89,7 +89,7 @@ pub fn minimal_form_within(
 ) -> FormAnswer
     ensures { λ r. ⌜ FormWithinDone limit (now (net .entry)) (now (sheet .entry)) (now (out .entry)) (now (scratch .entry)) r (now (out .exit)) (now (scratch .exit)) ⌝ }
 {
-    let found = call::scratch_fault(limit, scratch.len());
+    let found = lending::scratch_fault(limit, scratch.len());
     if let Verdict::Refused(r) = found {
         return FormAnswer::Refused(r);
     }

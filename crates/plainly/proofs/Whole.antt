@@ -17,8 +17,8 @@ use Rattle.sequential.specs.Words.{nodeCount, arc, arcEntry, countAt, marking, 
 use Rattle.sequential.proofs.Entries.{row-div, row-mod, graph-closed, count-most}
 use Rattle.graph.specs.Readable.{wordsReply, Readable}
 use Rattle.graph.proofs.Readable.{words, reply-readable}
-use Rattle.call.specs.Call.{WordsDone}
-use Rattle.call.proofs.Laws.{refused-words, answered-none}
+use Rattle.lending.specs.Call.{WordsDone}
+use Rattle.lending.proofs.Laws.{refused-words, answered-none}
 use Rattle.judge.specs.declared.CheckAnswer.{CheckAnswer}
 use Rattle.judge.specs.declared.CheckAnswer.the-variants.{Failed}
 use Rattle.plainly.specs.declared.Spread.{Spread}

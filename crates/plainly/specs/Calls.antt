@@ -5,7 +5,7 @@ use Rattle.refusal.specs.Limits.{scratchLimit}
 use Rattle.refusal.specs.Verdict.{verdictOf, andThen}
 use Rattle.refusal.specs.declared.Verdict.{Verdict}
 use Rattle.refusal.specs.declared.Verdict.the-variants.{Accepted, Refused}
-use Rattle.call.specs.Call.{Core, CallDone}
+use Rattle.lending.specs.Call.{Core, CallDone}
 use Rattle.sequential.specs.Petri.{petriNet}
 use Rattle.sequential.specs.Words.{nodeCount, graph}
 use Rattle.graph.specs.Readable.{wordsReply}

@@ -74,7 +74,7 @@ fn answered(net: &[u32], sheet: &[u32], grid: &mut [u32]) -> CheckAnswer
 pub fn check(net: &[u32], sheet: &[u32], scratch: &mut [u32]) -> CheckAnswer
     ensures { λ r. ⌜ SlowDone (now (net .entry)) (now (sheet .entry)) (now (scratch .entry)) r (now (scratch .exit)) ⌝ }
 {
-    let found = call::scratch_fault(Limits::SCRATCH, scratch.len());
+    let found = lending::scratch_fault(Limits::SCRATCH, scratch.len());
     if let Verdict::Refused(r) = found {
         return CheckAnswer::Failed(r);
     }

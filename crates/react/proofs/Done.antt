@@ -19,9 +19,9 @@ use Rattle.choice.specs.Nodes.{offersFault, awaitMarks, markedOr, nodesReply}
 use Rattle.choice.specs.declared.NodesAnswer.{NodesAnswer}
 use Rattle.choice.proofs.Right.{whole-nodes}
 use Rattle.judge.proofs.Judged.{accepted-readable, judged-graph, whole-marks}
-use Rattle.call.specs.Call.{roomFault}
-use Rattle.call.proofs.Lent.{room-holds}
-use Rattle.call.proofs.Laws.{refused-words, refused-one, answered-one}
+use Rattle.lending.specs.Call.{roomFault}
+use Rattle.lending.proofs.Lent.{room-holds}
+use Rattle.lending.proofs.Laws.{refused-words, refused-one, answered-one}
 use Rattle.reaction.specs.Tests.{durationsFault}
 use Rattle.reaction.specs.Call.{reactionVerdict, reportWords, ReactionWritten}
 use Rattle.reaction.specs.declared.ReactionAnswer.the-variants.{Written, Refused}

@@ -39,7 +39,7 @@ fn reported(net: &[u32], sheet: &[u32], durations: &[u32], out: &mut [u32]) -> R
         return ReactionAnswer::Refused(r);
     }
     let size = report::size(sheet, &starts, &awaits);
-    let found = call::output_fault(out.len(), size);
+    let found = lending::output_fault(out.len(), size);
     if let Verdict::Refused(r) = found {
         return ReactionAnswer::Refused(r);
     }
@@ -73,7 +73,7 @@ pub fn reactions(
 ) -> ReactionAnswer
     ensures { λ r. ⌜ ReactionDone (now (net .entry)) (now (sheet .entry)) (now (durations .entry)) (now (out .entry)) (now (scratch .entry)) r (now (out .exit)) (now (scratch .exit)) ⌝ }
 {
-    let found = call::scratch_fault(Limits::SCRATCH, scratch.len());
+    let found = lending::scratch_fault(Limits::SCRATCH, scratch.len());
     if let Verdict::Refused(r) = found {
         return ReactionAnswer::Refused(r);
     }

@@ -13,7 +13,7 @@ use Rattle.sequential.specs.Words.{nodeCount, graph}
 use Rattle.sequential.specs.Tests.{isAwait}
 use Rattle.sequential.specs.Checks.{sheetChecks}
 use Rattle.sequential.proofs.Accepted.{closed, schedule-judged}
-use Rattle.call.proofs.Judged as call
+use Rattle.lending.proofs.Judged as call
 use Rattle.reaction.specs.Checks.{reactionChecks}
 use Rattle.reaction.specs.Tests.{durationsFault, reactionTests, loopFault, reactionFault}
 use Rattle.reaction.specs.Call.{reactionVerdict, reportWords, reactionCore, plainReaction}

@@ -5,10 +5,10 @@ use mathlib.Core.List.{List, [], _∷_}
 use lib.ListN.{length}
 use Rattle.automaton.specs.Automaton.{Automaton}
 use Rattle.refusal.specs.Limits.{scratchLimit}
-use Rattle.refusal.specs.Refusal.{told}
+use Rattle.refusal.specs.Refusal.{plainRefusal}
 use Rattle.refusal.specs.Verdict.{verdictOf, andThen}
 use Rattle.refusal.specs.declared.Verdict.{Verdict}
-use Rattle.call.specs.Call.{Core, WordsDone, CallDone}
+use Rattle.lending.specs.Call.{Core, WordsDone, CallDone}
 use Rattle.sequential.specs.Petri.{petriNet}
 use Rattle.sequential.specs.Words.{graph}
 use Rattle.sequential.specs.Tests.{isAwait}
@@ -66,4 +66,4 @@ ReactionDone net sheet durations out scratch r out′ scratch′ = CallDone scra
 -- number, kind, position, length (§8.1), which is 0 if refused (§8.3)
 abbrev pub plainReaction : ReactionAnswer → List ℕ
 plainReaction (Written length) = 0 ∷ 0 ∷ 0 ∷ length ∷ []
-plainReaction (Refused r) = told r 1
+plainReaction (Refused r) = plainRefusal r 1

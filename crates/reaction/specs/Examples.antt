@@ -5,7 +5,7 @@ use mathlib.Core.List.{List, [], _∷_}
 use lib.ListN.{length}
 use Rattle.refusal.specs.declared.Verdict.{Verdict}
 use Rattle.refusal.specs.declared.Verdict.the-variants.{Accepted, Refused}
-use Rattle.call.specs.Call.{answerOf}
+use Rattle.lending.specs.Call.{answerOf}
 use Rattle.reaction.specs.Call.{reactionVerdict, reportWords, reactionCore, plainReaction}
 
 pub record Row : Type 0 where

@@ -14,21 +14,21 @@ refusal number position = record { number = number; at = position }
 -- ---- plain numbers: §8.1, case by case (§13.9)
 
 -- the kind of a position (§8.2), and its index, 0 if it counts nothing (§7.52)
-abbrev pub positionTold : Position → List ℕ
-positionTold Nothing = 0 ∷ 0 ∷ []
-positionTold (Entry i) = 1 ∷ i ∷ []
-positionTold (Place i) = 2 ∷ i ∷ []
-positionTold (Node i) = 3 ∷ i ∷ []
-positionTold (Record i) = 4 ∷ i ∷ []
+abbrev pub plainPosition : Position → List ℕ
+plainPosition Nothing = 0 ∷ 0 ∷ []
+plainPosition (Entry i) = 1 ∷ i ∷ []
+plainPosition (Place i) = 2 ∷ i ∷ []
+plainPosition (Node i) = 3 ∷ i ∷ []
+plainPosition (Record i) = 4 ∷ i ∷ []
 
 -- a refusal of a call with the given number of own numbers, all of which are 0: §8.3
-abbrev pub told : Refusal → ℕ → List ℕ
-told r own = r .number ∷ (positionTold (r .at) ++ replicate own 0)
+abbrev pub plainRefusal : Refusal → ℕ → List ℕ
+plainRefusal r own = r .number ∷ (plainPosition (r .at) ++ replicate own 0)
 
 -- a verdict of a call without own numbers
-abbrev pub plainOf : Verdict → List ℕ
-plainOf Accepted = 0 ∷ 0 ∷ 0 ∷ []
-plainOf (Refused r) = told r 0
+abbrev pub plainVerdict : Verdict → List ℕ
+plainVerdict Accepted = 0 ∷ 0 ∷ 0 ∷ []
+plainVerdict (Refused r) = plainRefusal r 0
 
 -- ---- its parts
 
@@ -41,7 +41,7 @@ positionOf Accepted = Nothing
 positionOf (Refused r) = r .at
 
 abbrev pub kindOf : Position → ℕ
-kindOf position = getD (positionTold position) 0 0
+kindOf position = getD (plainPosition position) 0 0
 
 abbrev pub indexOf : Position → ℕ
-indexOf position = getD (positionTold position) 1 0
+indexOf position = getD (plainPosition position) 1 0

@@ -1,6 +1,6 @@
 // Refusals (§7.51), each with a number and a position; what a check answers; and both as plain numbers.
 ghost use mathlib.Core.Path.{_≡_};
-ghost use Rattle.refusal.specs.Refusal.{refusal, numberOf, positionOf, kindOf, indexOf, plainOf};
+ghost use Rattle.refusal.specs.Refusal.{refusal, numberOf, positionOf, kindOf, indexOf, plainVerdict};
 
 // What a refusal's position counts, from 0: §7.52, and §7.53 for which number counts what.
 pub enum Position {
@@ -150,7 +150,7 @@ impl Verdict {
 
     // The plain numbers of a call that has none of its own: §8.1.
     pub fn plain(self) -> [usize; 3]
-        ensures { λ r. ⌜ r ≡ plainOf self ⌝ }
+        ensures { λ r. ⌜ r ≡ plainVerdict self ⌝ }
     {
         let at = self.at();
         [self.number() as usize, at.kind() as usize, at.index()]

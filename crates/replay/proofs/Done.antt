@@ -15,11 +15,11 @@ use Rattle.sequential.specs.Petri.{petriNet}
 use Rattle.sequential.specs.Checks.{sheetChecks}
 use Rattle.sequential.specs.Check.{scheduleReply}
 use Rattle.sequential.proofs.Accepted.{schedule-judged}
-use Rattle.call.specs.Call.{roomFault}
-use Rattle.call.proofs.Laws.{refused-first, refused-second, answered-two}
-use Rattle.call.proofs.Judged.{Lawful}
-use Rattle.call.specs.Index.{plainIndex}
-use Rattle.call.specs.declared.Index.{Index}
+use Rattle.lending.specs.Call.{roomFault}
+use Rattle.lending.proofs.Laws.{refused-first, refused-second, answered-two}
+use Rattle.lending.proofs.Judged.{Lawful}
+use Rattle.lending.specs.Index.{plainIndex}
+use Rattle.lending.specs.declared.Index.{Index}
 use Rattle.schedule.specs.Firing.{lastEntry}
 use Rattle.replay.specs.Log.{firings, moved}
 use Rattle.replay.specs.Checks.{replayChecks}

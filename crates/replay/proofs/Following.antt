@@ -15,9 +15,9 @@ use Rattle.sequential.specs.Petri.{petriNet}
 use Rattle.sequential.specs.Words.{entryValue, arcEntry}
 use Rattle.graph.specs.Readable.{ArcsReadable}
 use Rattle.graph.specs.LookUp.{arcLookUp}
-use Rattle.call.specs.Index.{indexFrom}
-use Rattle.call.specs.declared.Index.{Index}
-use Rattle.call.specs.declared.Index.the-variants.{Known, Missing}
+use Rattle.lending.specs.Index.{indexFrom}
+use Rattle.lending.specs.declared.Index.{Index}
+use Rattle.lending.specs.declared.Index.the-variants.{Known, Missing}
 use Rattle.schedule.specs.Firing.{nodeAfter, entryAfter}
 use Rattle.schedule.proofs.Walks.{entry-fits, after-none, after-more, entry-none, entry-more}
 use Rattle.graph.proofs.LookUp.{arc-found, arc-missing}

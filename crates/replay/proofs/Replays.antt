@@ -11,7 +11,7 @@ use Rattle.sequential.specs.Petri.{petriNet, initial, firedCount, fire}
 use Rattle.sequential.specs.Words.{nodeCount, entryValue, arcEntry, arc, marking, graph}
 use Rattle.sequential.specs.Check.{scheduleReply}
 use Rattle.sequential.proofs.Accepted.{accepts, closed}
-use Rattle.call.specs.declared.Index.the-variants.{Known}
+use Rattle.lending.specs.declared.Index.the-variants.{Known}
 use Rattle.schedule.specs.Firing.{nodeAfter, lastEntry, runFault}
 use Rattle.schedule.proofs.Following.{run-allowed, run-leads, last-firing}
 use Rattle.replay.specs.Log.{firingCount, firedAt, loggedAt, firingsTo, firings, movedBy, moved}

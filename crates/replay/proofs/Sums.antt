@@ -46,28 +46,28 @@ sum-one f x (suc n) l =
 -- ---- by firing, by transition
 
 module _ (f g : ℕ → ℕ) where
-  abbrev often : ℕ → ℕ → ℕ
-  often n t = count (λ i. eqb (g i) t) n * f t
+  abbrev parikh : ℕ → ℕ → ℕ
+  parikh n t = count (λ i. eqb (g i) t) n * f t
 
-  often-more : (n t : ℕ) → often (suc n) t ≡ often n t + one f (g n) t
+  parikh-more : (n t : ℕ) → parikh (suc n) t ≡ parikh n t + one f (g n) t
   unfolding count one
-  often-more n t = add-mul (count (λ i. eqb (g i) t) n) (bit (eqb (g n) t)) (f t)
+  parikh-more n t = add-mul (count (λ i. eqb (g i) t) n) (bit (eqb (g n) t)) (f t)
 
-  by-transition : (T n : ℕ) → ((i : ℕ) → i < n → g i < T) → sum (λ i. f (g i)) n ≡ sum (often n) T
+  by-transition : (T n : ℕ) → ((i : ℕ) → i < n → g i < T) → sum (λ i. f (g i)) n ≡ sum (parikh n) T
   unfolding sum
-  by-transition T zero h = sym (sum-zeros (often 0) T (λ t l. unfold count in (zero-mul (f t))))
+  by-transition T zero h = sym (sum-zeros (parikh 0) T (λ t l. unfold count in (zero-mul (f t))))
   by-transition T (suc n) h =
       let a = by-transition T n (λ i l. h i (omega arith)) in
       let b = sum-one f (g n) T (h n (omega arith)) in
-      let c = sum-ext (often (suc n)) (λ t. often n t + one f (g n) t) T (λ t l. often-more n t) in
-      omega (arith, sum-plus (often n) (one f (g n)) T)
+      let c = sum-ext (parikh (suc n)) (λ t. parikh n t + one f (g n) t) T (λ t l. parikh-more n t) in
+      omega (arith, sum-plus (parikh n) (one f (g n)) T)
 
 -- what the transitions move, each as often as it fires, is what the firings move
 module _ (moves : ℕ → ℕ → ℕ) (log : List ℕ) (T : ℕ) (few : T ≤ 32) (low : (i : ℕ) → i < firingCount log → firedAt log i < T) where
   pub weighed-is : (p : ℕ) → weighed moves (tabulate (firedTimes log) 32) T p ≡ moved moves log p
   unfolding weighed weighedBy moved movedBy firedTimes fires
   weighed-is p =
-      sum-ext (weighedBy moves (tabulate (firedTimes log) 32) p) (often (λ t. moves t p) (firedAt log) (firingCount log)) T
+      sum-ext (weighedBy moves (tabulate (firedTimes log) 32) p) (parikh (λ t. moves t p) (firedAt log) (firingCount log)) T
       (λ t l. ap (λ (x : ℕ). x * moves t p) (tabulate-at (firedTimes log) 0 32 t (omega arith)))
       ∙ sym (by-transition (λ t. moves t p) (firedAt log) T (firingCount log) low)
 
@@ -78,16 +78,16 @@ module _ (log : List ℕ) where
   unfolding count
   times-none t l = unfold tabulate in (tabulate-at (λ (i : ℕ). 0) 0 32 t l)
 
-  pub times-more : (often : List ℕ) (i : ℕ) → length often ≡ 32 → firedAt log i < 32 → ((t : ℕ) → t < 32 → getD often t 0 ≡ count (fires log t) i)
-      → (t : ℕ) → t < 32 → getD (set often (firedAt log i) (getD often (firedAt log i) 0 + 1)) t 0 ≡ count (fires log t) (i + 1)
-  times-more often i e l h t k =
+  pub times-more : (parikh : List ℕ) (i : ℕ) → length parikh ≡ 32 → firedAt log i < 32 → ((t : ℕ) → t < 32 → getD parikh t 0 ≡ count (fires log t) i)
+      → (t : ℕ) → t < 32 → getD (set parikh (firedAt log i) (getD parikh (firedAt log i) 0 + 1)) t 0 ≡ count (fires log t) (i + 1)
+  times-more parikh i e l h t k =
       byTest (eqb (firedAt log i) t)
       (λ q. let x = eqb-true (firedAt log i) t q in
       let y : bit (fires log t i) ≡ 1 = unfold fires bit in (rw q) in
-      rw x (getD-set-same often t (getD often t 0 + 1) 0 (omega arith) ∙ omega (arith, h t k, count-more (fires log t) i)))
+      rw x (getD-set-same parikh t (getD parikh t 0 + 1) 0 (omega arith) ∙ omega (arith, h t k, count-more (fires log t) i)))
       (λ q. let x = eqb-false (firedAt log i) t q in
       let y : bit (fires log t i) ≡ 0 = unfold fires bit in (rw q) in
-      getD-set-other often (firedAt log i) t (getD often (firedAt log i) 0 + 1) 0 (λ z. x (sym z)) ∙ omega (arith, h t k, count-more (fires log t) i))
+      getD-set-other parikh (firedAt log i) t (getD parikh (firedAt log i) 0 + 1) 0 (λ z. x (sym z)) ∙ omega (arith, h t k, count-more (fires log t) i))
 
   pub times-most : firingCount log ≤ mostFirings → AtMost 4096 (tabulate (firedTimes log) 32)
   unfolding firedTimes
@@ -95,23 +95,23 @@ module _ (log : List ℕ) where
 
 -- ---- a row more
 
-module _ (moves : ℕ → ℕ → ℕ) (often : List ℕ) where
-  pub weighed-none : replicate 32 0 ≡ tabulate (weighed moves often 0) 32
+module _ (moves : ℕ → ℕ → ℕ) (parikh : List ℕ) where
+  pub weighed-none : replicate 32 0 ≡ tabulate (weighed moves parikh 0) 32
   unfolding tabulate weighed sum
   weighed-none = refl
 
-  pub weighed-more : (sums row : List ℕ) (t : ℕ) → sums ≡ tabulate (weighed moves often t) 32 → row ≡ tabulate (moves t) 32
-      → tabulate (added sums row (getD often t 0)) 32 ≡ tabulate (weighed moves often (t + 1)) 32
+  pub weighed-more : (sums row : List ℕ) (t : ℕ) → sums ≡ tabulate (weighed moves parikh t) 32 → row ≡ tabulate (moves t) 32
+      → tabulate (added sums row (getD parikh t 0)) 32 ≡ tabulate (weighed moves parikh (t + 1)) 32
   unfolding added weighed weighedBy
   weighed-more sums row t a b =
-      tabulate-ext (added sums row (getD often t 0)) (weighed moves often (t + 1)) 32
-      (λ p l. rw (a, b, tabulate-at (weighed moves often t) 0 32 p l, tabulate-at (moves t) 0 32 p l) (sym (sum-more (weighedBy moves often p) t)))
+      tabulate-ext (added sums row (getD parikh t 0)) (weighed moves parikh (t + 1)) 32
+      (λ p l. rw (a, b, tabulate-at (weighed moves parikh t) 0 32 p l, tabulate-at (moves t) 0 32 p l) (sym (sum-more (weighedBy moves parikh p) t)))
 
   -- 32 transitions, each 4,096 times at most, each at most 1,000,000,000
-  pub weighed-most : ((t p : ℕ) → moves t p ≤ mostCount) → AtMost 4096 often → (n : ℕ) → n ≤ 32 → (p : ℕ) → weighed moves often n p ≤ 1125899906842624
+  pub weighed-most : ((t p : ℕ) → moves t p ≤ mostCount) → AtMost 4096 parikh → (n : ℕ) → n ≤ 32 → (p : ℕ) → weighed moves parikh n p ≤ 1125899906842624
   unfolding weighed weighedBy
   weighed-most m h n l p =
-      let x = sum-most (weighedBy moves often p) 4096000000000 n (λ t k. mul-le-mul (h t (omega arith)) (m t p)) in
+      let x = sum-most (weighedBy moves parikh p) 4096000000000 n (λ t k. mul-le-mul (h t (omega arith)) (m t p)) in
       let b : 4096000000000 ≤ 4096000000000 = omega arith in
       omega (arith, mul-le-mul l b)
 

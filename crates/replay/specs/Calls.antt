@@ -9,8 +9,8 @@ use Rattle.refusal.specs.declared.Verdict.{Verdict}
 use Rattle.refusal.specs.declared.Verdict.the-variants.{Accepted}
 use Rattle.sequential.specs.Petri.{PetriNet, petriNet}
 use Rattle.sequential.specs.Check.{scheduleReply}
-use Rattle.call.specs.Call.{Core, WordsDone, CallDone}
-use Rattle.call.specs.declared.Index.{Index}
+use Rattle.lending.specs.Call.{Core, WordsDone, CallDone}
+use Rattle.lending.specs.declared.Index.{Index}
 use Rattle.schedule.specs.Firing.{lastEntry}
 use Rattle.replay.specs.Log.{firingCount, firings, moved}
 use Rattle.replay.specs.Tests.{firingFault, replayFault}

@@ -32,10 +32,10 @@ abbrev pub sideOf : PetriNet → Bool → ℕ → ℕ → ℕ
 sideOf N true = N .put
 sideOf N false = N .taken
 
--- what t moves at p, if `often` says how often each transition has fired; and what the first n transitions move together
-module _ (moves : ℕ → ℕ → ℕ) (often : List ℕ) where
+-- what t moves at p, if `parikh` says how often each transition has fired; and what the first n transitions move together
+module _ (moves : ℕ → ℕ → ℕ) (parikh : List ℕ) where
   unfoldable pub weighedBy : ℕ → ℕ → ℕ
-  weighedBy p t = getD often t 0 * moves t p
+  weighedBy p t = getD parikh t 0 * moves t p
 
   unfoldable pub weighed : ℕ → ℕ → ℕ
   weighed n p = sum (weighedBy p) n
@@ -58,9 +58,9 @@ pub record Countable (net log : List ℕ) : Type 0 where
   pub low : (i : ℕ) → i < firingCount log → firedAt log i < transitionCount net
 
 -- what adding up one side relies on: a net, and how often each transition fires, at most 4,096 times
-pub record Weighable (net often : List ℕ) : Type 0 where
+pub record Weighable (net parikh : List ℕ) : Type 0 where
   pub accepted : netReply net ≡ Accepted
-  pub most : AtMost 4096 often
+  pub most : AtMost 4096 parikh
 
 -- both buffers have room for a number for each place
 pub record Rooms (net taken put : List ℕ) : Type 0 where
@@ -68,9 +68,9 @@ pub record Rooms (net taken put : List ℕ) : Type 0 where
   pub put-room : placeCount net ≤ length put
 
 -- one side is written place by place, and its total is answered
-pub record SideDone (moves : ℕ → ℕ → ℕ) (often : List ℕ) (transitions places : ℕ) (out : List ℕ) (r : ℕ) (out′ : List ℕ) : Type 0 where
-  pub written : out′ ≡ tabulate (weighed moves often transitions) places ++ drop places out
-  pub total : r ≡ sum (weighed moves often transitions) places
+pub record SideDone (moves : ℕ → ℕ → ℕ) (parikh : List ℕ) (transitions places : ℕ) (out : List ℕ) (r : ℕ) (out′ : List ℕ) : Type 0 where
+  pub written : out′ ≡ tabulate (weighed moves parikh transitions) places ++ drop places out
+  pub total : r ≡ sum (weighed moves parikh transitions) places
 
 -- both sides are written, and both totals answered
 pub record Settled (net log taken put : List ℕ) (r : Totals) (taken′ put′ : List ℕ) : Type 0 where

@@ -4,7 +4,7 @@ ghost use Rattle.graph.specs.Readable.{ArcsReadable};
 ghost use Rattle.replay.specs.Calls.{LogFollowed};
 ghost use Rattle.replay.specs.Tally.{LogHolds};
 use super::look_up;
-use call::Index;
+use lending::Index;
 use refusal::Position;
 use refusal::Refusal;
 use refusal::Verdict;

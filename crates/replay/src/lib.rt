@@ -8,7 +8,7 @@ ghost use Rattle.refusal.specs.Verdict.{verdictOf};
 ghost use Rattle.replay.specs.Tests.{logFault};
 ghost use Rattle.replay.specs.Plain.{plainReplay};
 ghost use Rattle.replay.specs.Calls.{LogChecked, ReplayWritten, ReplayWithinDone, ReplayDone};
-use call::Index;
+use lending::Index;
 use follow::Findings;
 use refusal::Limits;
 use refusal::Position;
@@ -113,15 +113,15 @@ pub fn replay_into(
         return ReplayAnswer::Stopped(r);
     }
     let places = net::places(net) as usize;
-    let found = call::output_fault(taken.len(), places);
+    let found = lending::output_fault(taken.len(), places);
     if let Verdict::Refused(r) = found {
         return ReplayAnswer::Stopped(r);
     }
-    let found = call::output_fault(put.len(), places);
+    let found = lending::output_fault(put.len(), places);
     if let Verdict::Refused(r) = found {
         return ReplayAnswer::Stopped(r);
     }
-    let totals = tally::settle(net, log, taken, put);
+    let totals = tally::totals_into(net, log, taken, put);
     ReplayAnswer::Done(Outcome { totals, entry })
 }
 
@@ -137,7 +137,7 @@ pub fn replay_within(
 ) -> ReplayAnswer
     ensures { λ r. ⌜ ReplayWithinDone limit (now (net .entry)) (now (sheet .entry)) (now (log .entry)) (now (taken .entry)) (now (put .entry)) (now (scratch .entry)) r (now (taken .exit)) (now (put .exit)) (now (scratch .exit)) ⌝ }
 {
-    let found = call::scratch_fault(limit, scratch.len());
+    let found = lending::scratch_fault(limit, scratch.len());
     if let Verdict::Refused(r) = found {
         return ReplayAnswer::Stopped(r);
     }

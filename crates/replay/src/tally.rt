@@ -19,14 +19,14 @@ fn fired_times(log: &[u32]) -> [u32; 32]
     ensures { λ r. ⌜ r ≡ tabulate (firedTimes (now (log .entry))) 32 ⌝ }
 {
     let n = log[0] as usize;
-    let mut often = [0u32; 32];
+    let mut parikh = [0u32; 32];
     let mut i = 0;
     while i < n {
         let t = log[1 + i] as usize;
-        often[t] += 1;
+        parikh[t] += 1;
         i += 1;
     }
-    often
+    parikh
 }
 
 // What a transition puts into each place, or takes from it.
@@ -59,16 +59,16 @@ fn add_row(sums: [u64; 32], row: [u32; 32], times: u32) -> [u64; 32]
 }
 
 // What all firings together put into each place, or take from it; 0 from P on.
-fn weigh(net: &[u32], often: [u32; 32], putting: bool) -> [u64; 32]
-    requires { ⌜ Weighable (now net) often ⌝ }
-    ensures { λ r. ⌜ r ≡ tabulate (weighed (sideOf (petriNet (now (net .entry))) putting) often (transitionCount (now (net .entry)))) 32 ⌝ }
+fn weigh(net: &[u32], parikh: [u32; 32], putting: bool) -> [u64; 32]
+    requires { ⌜ Weighable (now net) parikh ⌝ }
+    ensures { λ r. ⌜ r ≡ tabulate (weighed (sideOf (petriNet (now (net .entry))) putting) parikh (transitionCount (now (net .entry)))) 32 ⌝ }
 {
     let transitions = net::transitions(net);
     let mut sums = [0u64; 32];
     let mut t = 0;
     while t < transitions {
         let row = row_of(net, t, putting);
-        let next = add_row(sums, row, often[t as usize]);
+        let next = add_row(sums, row, parikh[t as usize]);
         sums = next;
         t += 1;
     }
@@ -108,26 +108,26 @@ fn write_row(row: [u64; 32], out: &mut [u64], n: usize)
 }
 
 // One side, taken or put: writes what is moved at each place, and answers the total.
-fn side(net: &[u32], often: [u32; 32], putting: bool, out: &mut [u64]) -> u64
-    requires { ⌜ Weighable (now net) often ⌝ }
+fn side(net: &[u32], parikh: [u32; 32], putting: bool, out: &mut [u64]) -> u64
+    requires { ⌜ Weighable (now net) parikh ⌝ }
     requires { ⌜ placeCount (now net) ≤ length (now out) ⌝ }
-    ensures { λ r. ⌜ SideDone (sideOf (petriNet (now (net .entry))) putting) often (transitionCount (now (net .entry))) (placeCount (now (net .entry))) (now (out .entry)) r (now (out .exit)) ⌝ }
+    ensures { λ r. ⌜ SideDone (sideOf (petriNet (now (net .entry))) putting) parikh (transitionCount (now (net .entry))) (placeCount (now (net .entry))) (now (out .entry)) r (now (out .exit)) ⌝ }
 {
     let places = net::places(net) as usize;
-    let row = weigh(net, often, putting);
+    let row = weigh(net, parikh, putting);
     write_row(row, out, places);
     total(row, places)
 }
 
 // Both sides, taken and put.
-pub(crate) fn settle(net: &[u32], log: &[u32], taken: &mut [u64], put: &mut [u64]) -> Totals
+pub(crate) fn totals_into(net: &[u32], log: &[u32], taken: &mut [u64], put: &mut [u64]) -> Totals
     requires { ⌜ Countable (now net) (now log) ⌝ }
     requires { ⌜ Rooms (now net) (now taken) (now put) ⌝ }
     ensures { λ r. ⌜ Settled (now (net .entry)) (now (log .entry)) (now (taken .entry)) (now (put .entry)) r (now (taken .exit)) (now (put .exit)) ⌝ }
 {
-    let often = fired_times(log);
-    let all_taken = side(net, often, false, taken);
-    let all_put = side(net, often, true, put);
+    let parikh = fired_times(log);
+    let all_taken = side(net, parikh, false, taken);
+    let all_put = side(net, parikh, true, put);
     Totals {
         taken: all_taken,
         put: all_put,

@@ -1,6 +1,6 @@
 -- The calls as instances of what holds of every call: the schedule check's answer, and the checks of each call's words.
 use Rattle.scan.proofs.Basics.{ℕ, _≡_, refl, ap, _∙_, Option, List, [], _∷_, _++_, length}
-use Rattle.refusal.specs.Refusal.{plainOf}
+use Rattle.refusal.specs.Refusal.{plainVerdict}
 use Rattle.refusal.specs.Checks.{Check}
 use Rattle.refusal.specs.Verdict.{verdictOf, andThen}
 use Rattle.refusal.specs.declared.Refusal.{Refusal}
@@ -15,12 +15,12 @@ use Rattle.sequential.specs.Check.{scheduleReply}
 use Rattle.sequential.proofs.Accepted.{schedule-judged}
 use Rattle.judge.specs.Answer.{countsOf, checkAnswer, plainCheck}
 use Rattle.judge.specs.declared.CheckAnswer.{CheckAnswer}
-use Rattle.call.specs.Call.{WordsDone}
-use Rattle.call.proofs.Laws.{refused-words, answered-none}
-use Rattle.call.proofs.Judged.{Lawful}
+use Rattle.lending.specs.Call.{WordsDone}
+use Rattle.lending.proofs.Laws.{refused-words, answered-none}
+use Rattle.lending.proofs.Judged.{Lawful}
 use Rattle.schedule.specs.Walker.{walkerChecks, runChecks}
-use Rattle.call.specs.Index.{plainIndex}
-use Rattle.call.specs.declared.Index.the-variants.{Known}
+use Rattle.lending.specs.Index.{plainIndex}
+use Rattle.lending.specs.declared.Index.the-variants.{Known}
 use Rattle.schedule.specs.Firing.{entryFired, nodeAfter, lastEntry}
 use Rattle.schedule.specs.Calls.{checkCore, boundsCore, fireCore, runCore}
 use Rattle.schedule.specs.Plain.{plainFire, plainRun}
@@ -50,7 +50,7 @@ module _ (net sheet : List ℕ) where
   pub check-law : Lawful (checkCore net sheet) plainCheck 3 (countsOf net sheet .nodes ∷ countsOf net sheet .arcs ∷ countsOf net sheet .awaits ∷ []) checks
   check-law = record { judged = schedule-judged net sheet; proper = refl; plain-accepted = refl; own-length = refl; plain-refused = λ r. refl }
 
-  pub bounds-law : Lawful (boundsCore net sheet) plainOf 0 [] checks
+  pub bounds-law : Lawful (boundsCore net sheet) plainVerdict 0 [] checks
   bounds-law = record { judged = schedule-judged net sheet; proper = refl; plain-accepted = refl; own-length = refl; plain-refused = λ r. refl }
 
   pub fire-law : (w : Walker) (t : ℕ) → Lawful (fireCore net sheet w t) (λ a. plainFire (a .0)) 1 (plainIndex (Known (entryFired (petriNet net) sheet w t)) ∷ [])

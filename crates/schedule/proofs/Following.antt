@@ -19,8 +19,8 @@ use Rattle.sequential.specs.Check.{scheduleReply}
 use Rattle.sequential.proofs.Accepted.{accepts, closed}
 use Rattle.sequential.proofs.Runs.{from-root, fire-all-length}
 use Rattle.schedule.specs.Walker.{runChecks}
-use Rattle.call.specs.Index.{indexFrom}
-use Rattle.call.specs.declared.Index.the-variants.{Known}
+use Rattle.lending.specs.Index.{indexFrom}
+use Rattle.lending.specs.declared.Index.the-variants.{Known}
 use Rattle.sequential.proofs.Entries.{entry-of}
 use Rattle.schedule.specs.Firing.{nodeAfter, entryAfter, lastEntry, firingFault, runFault, endCounts}
 

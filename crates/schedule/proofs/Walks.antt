@@ -21,10 +21,10 @@ use Rattle.graph.proofs.Rows.{marking-right}
 use Rattle.judge.proofs.Judged.{accepted-readable}
 use Rattle.refusal.specs.Verdict.{verdictOf}
 use Rattle.refusal.proofs.Verdicts.{answer-some, then-next}
-use Rattle.call.specs.Call.{WordsDone}
-use Rattle.call.specs.Index.{indexFrom}
-use Rattle.call.specs.declared.Index.the-variants.{Known, Missing}
-use Rattle.call.proofs.Laws.{refused-words, answered-none}
+use Rattle.lending.specs.Call.{WordsDone}
+use Rattle.lending.specs.Index.{indexFrom}
+use Rattle.lending.specs.declared.Index.the-variants.{Known, Missing}
+use Rattle.lending.proofs.Laws.{refused-words, answered-none}
 use Rattle.schedule.specs.Calls.{fireCore}
 use Rattle.schedule.specs.Walker.{walker}
 use Rattle.schedule.specs.Firing.{countFault, walkerFault, stepFault, entryFired, nodeAfter, entryAfter, firingFault}

@@ -14,7 +14,7 @@ use Rattle.sequential.specs.Bounds.{bounds}
 use Rattle.judge.specs.Answer.{countsOf}
 use Rattle.judge.specs.declared.CheckAnswer.{CheckAnswer}
 use Rattle.judge.specs.declared.CheckAnswer.the-variants.{Passed, Failed}
-use Rattle.call.specs.Call.{Core, WordsDone, CallDone}
+use Rattle.lending.specs.Call.{Core, WordsDone, CallDone}
 use Rattle.schedule.specs.Firing.{freshWalker, stepFault, follows, entryFired, nodeAfter, lastEntry, runFault, endCounts}
 use Rattle.schedule.specs.declared.Walker.{Walker}
 use Rattle.schedule.specs.declared.FireAnswer.{FireAnswer}

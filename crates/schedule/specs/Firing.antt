@@ -17,8 +17,8 @@ use Rattle.refusal.specs.declared.Verdict.{Verdict}
 use Rattle.refusal.specs.declared.Verdict.the-variants.{Accepted, Refused}
 use Rattle.sequential.specs.Petri.{PetriNet, petriNet, initial, firedCount, fireAll}
 use Rattle.sequential.specs.Words.{nodeCount, arcEntry, arc, countAt}
-use Rattle.call.specs.Index.{indexFrom}
-use Rattle.call.specs.declared.Index.{Index}
+use Rattle.lending.specs.Index.{indexFrom}
+use Rattle.lending.specs.declared.Index.{Index}
 use Rattle.schedule.specs.Walker.{walker, standChecks, walkerChecks}
 use Rattle.schedule.specs.declared.Walker.{Walker}
 

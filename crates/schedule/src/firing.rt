@@ -10,7 +10,7 @@ ghost use Rattle.schedule.specs.Calls.{StepDone};
 use super::FireAnswer;
 use super::Fired;
 use super::Walker;
-use call::Index;
+use lending::Index;
 use refusal::Position;
 use refusal::Refusal;
 use refusal::Verdict;

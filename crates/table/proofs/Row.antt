@@ -8,7 +8,7 @@ use Rattle.scan.specs.Scan.{tabulate, foundOr}
 use Rattle.scan.proofs.Tabulate.{tabulate-is}
 use Rattle.table.specs.Table.{keyAt, valueAt, entryOf, Rising}
 use Rattle.table.specs.Bisection.{lowerBound}
-use Rattle.table.specs.Row.{entryTold, entryCode, walk, runRow, entryRow, valueRow}
+use Rattle.table.specs.Row.{sectionCell, entryCode, walk, runRow, entryRow, valueRow}
 use Rattle.table.proofs.Table.{rising, entry-unique, entry-some, entry-none}
 use Rattle.table.proofs.Bisection.{lower-bound}
 use Rattle.table.proofs.Walk.{AtPlace, place-is, walk-at, run-length, run-at, run-past}
@@ -84,7 +84,7 @@ module _ (words : List ℕ) (offset entries first width : ℕ) where
   -- past the width a row is 0
   pub row-past : (p : ℕ) → p < 32 → width ≤ p → getD (entryRow words offset entries first width) p 0 ≡ 0
   unfolding entryRow
-  row-past p l h = run-past words offset entries first width entryTold p l h
+  row-past p l h = run-past words offset entries first width sectionCell p l h
 
   pub value-past : (p : ℕ) → p < 32 → width ≤ p → getD (valueRow words offset entries first width) p 0 ≡ 0
   unfolding valueRow
@@ -97,7 +97,7 @@ module _ (words : List ℕ) (offset entries first width : ℕ) where
     -- below the width a row has the entry with the key, or its value
     pub row-entry : offset + entries ≤ length words → (p : ℕ) → p < 32 → p < width → getD (entryRow words offset entries first width) p 0 ≡ entryCode (entryOf words offset entries (first + p))
     unfolding entryRow
-    row-entry fits p l h = run-right words offset entries first width entryTold up fits p l ∙ rw (lt-ltb p width h)
+    row-entry fits p l h = run-right words offset entries first width sectionCell up fits p l ∙ rw (lt-ltb p width h)
 
     pub value-at : offset + 2 * entries ≤ length words → (p : ℕ) → p < 32 → p < width
         → getD (valueRow words offset entries first width) p 0 ≡ foundOr 0 (valueAt words offset entries) (entryOf words offset entries (first + p))
@@ -107,7 +107,7 @@ module _ (words : List ℕ) (offset entries first width : ℕ) where
     pub entry-row-is : offset + entries ≤ length words → (f : ℕ → ℕ)
         → ((p : ℕ) → p < 32 → f p ≡ cond (ltb p width) (entryCode (entryOf words offset entries (first + p))) 0) → entryRow words offset entries first width ≡ tabulate f 32
     unfolding entryRow
-    entry-row-is fits = run-is words offset entries first width entryTold up fits
+    entry-row-is fits = run-is words offset entries first width sectionCell up fits
 
     pub value-row-is : offset + 2 * entries ≤ length words → (f : ℕ → ℕ)
         → ((p : ℕ) → p < 32 → f p ≡ cond (ltb p width) (foundOr 0 (valueAt words offset entries) (entryOf words offset entries (first + p))) 0)

@@ -11,12 +11,12 @@ use Rattle.table.specs.Table.{keyAt, valueAt}
 use Rattle.table.specs.Bisection.{lowerBound}
 
 -- an entry as a number: 1 plus its index
-abbrev pub entryTold : ℕ → ℕ
-entryTold i = i + 1
+abbrev pub sectionCell : ℕ → ℕ
+sectionCell i = i + 1
 
 -- an entry that may be missing, as a number: 0 if it is
 abbrev pub entryCode : Option ℕ → ℕ
-entryCode o = foundOr 0 entryTold o
+entryCode o = foundOr 0 sectionCell o
 
 -- a run of keys: `width` keys from `first` on, but at most 32
 module _ (words : List ℕ) (offset first width : ℕ) where
@@ -38,7 +38,7 @@ module _ (words : List ℕ) (offset entries first width : ℕ) where
       walk words offset first width told (entries - start) start (replicate 32 0)
 
   unfoldable pub entryRow : List ℕ
-  entryRow = runRow entryTold
+  entryRow = runRow sectionCell
 
   -- the values of the run, all 0 if the words are too short for keys and values
   unfoldable pub valueRow : List ℕ

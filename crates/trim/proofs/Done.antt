@@ -6,9 +6,9 @@ use Rattle.refusal.specs.declared.Refusal.{Refusal}
 use Rattle.refusal.specs.declared.Verdict.{Verdict}
 use Rattle.refusal.specs.declared.Verdict.the-variants as verdict
 use Rattle.graph.specs.Readable.{wordsReply}
-use Rattle.call.specs.Call.{roomFault}
-use Rattle.call.proofs.Lent.{room-holds}
-use Rattle.call.proofs.Laws.{refused-first, refused-second, answered-two}
+use Rattle.lending.specs.Call.{roomFault}
+use Rattle.lending.proofs.Lent.{room-holds}
+use Rattle.lending.proofs.Laws.{refused-first, refused-second, answered-two}
 use Rattle.trimmed.specs.Trim.{trimmedWords, keptList}
 use Rattle.trimmed.specs.Call.{TrimWritten}
 use Rattle.trimmed.specs.declared.TrimAnswer.the-variants.{Written, Refused}

@@ -29,7 +29,7 @@ pub fn trim(
 ) -> TrimAnswer
     ensures { λ r. ⌜ TrimDone (now (net .entry)) (now (sheet .entry)) (now (out .entry)) (now (list .entry)) (now (scratch .entry)) r (now (out .exit)) (now (list .exit)) (now (scratch .exit)) ⌝ }
 {
-    let found = call::scratch_fault(Limits::SCRATCH, scratch.len());
+    let found = lending::scratch_fault(Limits::SCRATCH, scratch.len());
     if let Verdict::Refused(r) = found {
         return TrimAnswer::Refused(r);
     }

@@ -145,11 +145,11 @@ pub(crate) fn write(
         sheet: 2 + 2 * entries,
         list: new.found,
     };
-    let found = call::output_fault(out.len(), lengths.sheet);
+    let found = lending::output_fault(out.len(), lengths.sheet);
     if let Verdict::Refused(r) = found {
         return TrimAnswer::Refused(r);
     }
-    let found = call::output_fault(list.len(), lengths.list);
+    let found = lending::output_fault(list.len(), lengths.list);
     if let Verdict::Refused(r) = found {
         return TrimAnswer::Refused(r);
     }

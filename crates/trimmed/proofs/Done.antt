@@ -8,7 +8,7 @@ use Rattle.sequential.specs.Petri.{petriNet}
 use Rattle.sequential.specs.Checks.{wordChecks}
 use Rattle.sequential.proofs.Words.{words-tell}
 use Rattle.graph.specs.Readable.{wordsReply}
-use Rattle.call.proofs.Judged.{Lawful}
+use Rattle.lending.proofs.Judged.{Lawful}
 use Rattle.trimmed.specs.Call.{lengths, trimCore, plainTrim}
 
 pub words-judged : (net sheet : List ℕ) → Judges (wordsReply net sheet) (netChecks net ++ wordChecks (petriNet net) sheet)

@@ -3,9 +3,9 @@ use Prim.Native.Nat.{ℕ}
 use mathlib.Core.List.{List, [], _∷_}
 use lib.ListN.{length}
 use Rattle.refusal.specs.Limits.{scratchLimit}
-use Rattle.refusal.specs.Refusal.{told}
+use Rattle.refusal.specs.Refusal.{plainRefusal}
 use Rattle.graph.specs.Readable.{wordsReply}
-use Rattle.call.specs.Call.{Core, WordsDone, CallDone}
+use Rattle.lending.specs.Call.{Core, WordsDone, CallDone}
 use Rattle.trimmed.specs.Trim.{trimmedWords, keptList}
 use Rattle.trimmed.specs.declared.Lengths.{Lengths}
 use Rattle.trimmed.specs.declared.TrimAnswer.{TrimAnswer}
@@ -35,4 +35,4 @@ TrimDone net sheet out list scratch r out′ list′ scratch′ =
 -- number, kind, position, both lengths (§8.1), which are 0 if refused (§8.3)
 abbrev pub plainTrim : TrimAnswer → List ℕ
 plainTrim (Written l) = 0 ∷ 0 ∷ 0 ∷ l .sheet ∷ l .list ∷ []
-plainTrim (Refused r) = told r 2
+plainTrim (Refused r) = plainRefusal r 2

@@ -5,7 +5,7 @@ use mathlib.Core.List.{List, [], _∷_}
 use Rattle.refusal.specs.declared.Verdict.{Verdict}
 use Rattle.refusal.specs.declared.Verdict.the-variants.{Accepted, Refused}
 use Rattle.graph.specs.Readable.{wordsReply}
-use Rattle.call.specs.Call.{answerOf}
+use Rattle.lending.specs.Call.{answerOf}
 use Rattle.trimmed.specs.Trim.{trimmedWords, keptList}
 use Rattle.trimmed.specs.Call.{trimCore, plainTrim}
 

@@ -9,10 +9,10 @@ use Rattle.encoding.proofs.arc_cells.Statement.{statement}
 use Rattle.encoding.proofs.arc_cells.Tie as tie
 
 abbrev Inv-loop : tie.InvT-loop
-Inv-loop net sheet numbers n told cells₀ t₀ cells t = (t ≤ 32) × (told ≡ arcEntryRow net sheet n) × Filled (arcCellAt net sheet numbers n) t cells
+Inv-loop net sheet numbers n code cells₀ t₀ cells t = (t ≤ 32) × (code ≡ arcEntryRow net sheet n) × Filled (arcCellAt net sheet numbers n) t cells
 
 abbrev μ-loop : tie.MeasureT-loop
-μ-loop net sheet numbers n told cells₀ t₀ cells t = 32 - t
+μ-loop net sheet numbers n code cells₀ t₀ cells t = 32 - t
 
 loop-holds : tie.Need-loop-holds Inv-loop μ-loop
 loop-holds c = (omega arith, c .arc-entries .ensures, filled-none _)

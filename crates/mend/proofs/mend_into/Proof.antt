@@ -1,6 +1,6 @@
 -- `mend::mend_into` meets its contract.
 use Rattle.scan.proofs.Basics.{arith, refl, sym, _∙_}
-use Rattle.call.proofs.Laws.{refused-words}
+use Rattle.lending.proofs.Laws.{refused-words}
 use Rattle.mend.specs.Measure.{Ready}
 use Rattle.mend.proofs.Done.{few, sheet-short, list-short, both-written}
 use borrow.Author.Needs.{needs}
@@ -12,7 +12,7 @@ returns c = refused-words (sym (c .before .before .before .measured .ensures .re
 
 -- nothing is refused before the buffers are measured
 ready : (c : tie.After-enum-told) → let s = c .before .before .before .before .before .before .before .args in
-    let m = c .before .before .measured .result in Ready (s .net .now) (s .sheet .now) (m .finder) (m .entries) (m .changes)
+    let m = c .before .before .measured .result in Ready (s .net .now) (s .sheet .now) (m .parent) (m .entries) (m .changes)
 ready c = c .before .before .measured .ensures .ready (c .enum-told .given .1)
 
 returns-2 : tie.Need-returns-2

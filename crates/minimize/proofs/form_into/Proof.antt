@@ -1,7 +1,7 @@
 -- `minimize::form_into` meets its contract.
 use Rattle.scan.proofs.Basics.{refl, sym, _∙_}
 use borrow.Author.Needs.{needs}
-use Rattle.call.proofs.Laws.{refused-words}
+use Rattle.lending.proofs.Laws.{refused-words}
 use Rattle.minimal.proofs.Done.{form-of-schedule}
 use Rattle.minimize.proofs.form_into.Statement.{statement}
 use Rattle.minimize.proofs.form_into.Tie as tie

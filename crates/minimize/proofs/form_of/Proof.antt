@@ -1,7 +1,7 @@
 -- `minimize::form_of` meets its contract.
 use Rattle.scan.proofs.Basics.{refl, sym, _∙_}
 use borrow.Author.Needs.{needs}
-use Rattle.call.proofs.Laws.{refused-words}
+use Rattle.lending.proofs.Laws.{refused-words}
 use Rattle.minimize.proofs.form_of.Statement.{statement}
 use Rattle.minimize.proofs.form_of.Tie as tie
 

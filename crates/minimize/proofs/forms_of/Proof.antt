@@ -2,7 +2,7 @@
 use Rattle.scan.proofs.Basics.{refl, sym, _∙_}
 use borrow.Author.Needs.{needs}
 use Rattle.refusal.proofs.Verdicts.{then-next, then-refused}
-use Rattle.call.proofs.Laws.{refused-words}
+use Rattle.lending.proofs.Laws.{refused-words}
 use Rattle.minimize.proofs.forms_of.Statement.{statement}
 use Rattle.minimize.proofs.forms_of.Tie as tie
 

@@ -1,7 +1,7 @@
 -- `plainly::check` meets its contract.
 use Rattle.scan.proofs.Basics.{refl, sym, _∙_}
-use Rattle.call.proofs.Laws.{refused-scratch, served}
-use Rattle.call.proofs.Lent.{scratch-holds}
+use Rattle.lending.proofs.Laws.{refused-scratch, served}
+use Rattle.lending.proofs.Lent.{scratch-holds}
 use Rattle.plainly.proofs.Answer.{cleared-same}
 use Rattle.plainly.proofs.Whole.{slow-words}
 use borrow.Author.Needs.{needs}

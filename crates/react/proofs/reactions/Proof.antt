@@ -1,6 +1,6 @@
 -- `react::reactions` meets its contract.
 use Rattle.scan.proofs.Basics.{refl, sym, _∙_}
-use Rattle.call.proofs.Laws.{refused-scratch, served}
+use Rattle.lending.proofs.Laws.{refused-scratch, served}
 use borrow.Author.Needs.{needs}
 use Rattle.react.proofs.reactions.Statement.{statement}
 use Rattle.react.proofs.reactions.Tie as tie

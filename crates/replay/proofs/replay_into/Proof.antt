@@ -1,8 +1,8 @@
 -- `replay::replay_into` meets its contract.
 use Rattle.scan.proofs.Basics.{arith, refl, sym, _∙_}
 use borrow.Author.Needs.{needs}
-use Rattle.call.proofs.Lent.{room-holds}
-use Rattle.call.proofs.Laws.{refused-words}
+use Rattle.lending.proofs.Lent.{room-holds}
+use Rattle.lending.proofs.Laws.{refused-words}
 use Rattle.replay.proofs.Replays.{countable}
 use Rattle.replay.proofs.Done.{taken-short, put-short, all-written}
 use Rattle.replay.proofs.replay_into.Statement.{statement}
@@ -23,8 +23,8 @@ returns-3 c =
     put-short _ _ _ _ _ (sym (b .before .before .before .checked .ensures .reply) ∙ b .before .enum-told .given .1) (b .places .ensures)
     (c .before .before .before .output-fault2 .ensures) (c .before .found3 .given .1)
 
-settle-requires : tie.Need-settle-requires
-settle-requires c κs =
+totals-into-requires : tie.Need-totals-into-requires
+totals-into-requires c κs =
     let at-output-fault2 = c .before .before .before .before in
     let at-output-fault = at-output-fault2 .before .before .before in
     let x = room-holds _ _ (sym (at-output-fault .output-fault .ensures) ∙ at-output-fault2 .before .enum-told2 .given .1) in
@@ -39,11 +39,11 @@ returns-4 c =
     let e = b .before .enum-told .given .1 in
     all-written _ _ _ _ _ (sym (b .before .before .before .checked .ensures .reply) ∙ e) (b .places .ensures) (b .before .before .before .checked .ensures .entry e)
     (d .before .before .before .before .before .output-fault .ensures) (d .before .before .before .enum-told2 .given .1)
-    (d .before .before .output-fault2 .ensures) (d .enum-told3 .given .1) (c .before .before .before .before .settle .ensures)
+    (d .before .before .output-fault2 .ensures) (d .enum-told3 .given .1) (c .before .before .before .before .totals-into .ensures)
 
 pub replay-into-spec : {M : Type 1} → statement M
 replay-into-spec =
     tie.close
     (tie.spec (λ c κs. search needs) (λ c. search needs) returns (λ c. search needs) (λ c κs. search needs) (λ c. search needs) (λ c κs. search needs)
-    (λ c. search needs) returns-2 (λ c. search needs) (λ c κs. search needs) (λ c. search needs) returns-3 (λ c. search needs) settle-requires
+    (λ c. search needs) returns-2 (λ c. search needs) (λ c κs. search needs) (λ c. search needs) returns-3 (λ c. search needs) totals-into-requires
     (λ c. search needs) (λ c. search needs) returns-4)

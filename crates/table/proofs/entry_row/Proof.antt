@@ -1,13 +1,13 @@
 -- `table::entry_row` meets its contract: each turn of the loop is a turn of the walk.
 use Rattle.scan.proofs.Basics.{_-_, arith}
 use borrow.Author.Needs.{needs}
-use Rattle.table.specs.Row.{entryTold, entryRow}
+use Rattle.table.specs.Row.{sectionCell, entryRow}
 use Rattle.table.proofs.Walk.{Walking, walk-starts, walk-goes, walk-ends, walk-over}
 use Rattle.table.proofs.entry_row.Statement.{statement}
 use Rattle.table.proofs.entry_row.Tie as tie
 
 abbrev Inv-loop : tie.InvT-loop
-Inv-loop words offset entries first width row₀ i₀ row i = Walking words offset entries first width entryTold i row
+Inv-loop words offset entries first width row₀ i₀ row i = Walking words offset entries first width sectionCell i row
 
 abbrev μ-loop : tie.MeasureT-loop
 μ-loop words offset entries first width row₀ i₀ row i = entries - i

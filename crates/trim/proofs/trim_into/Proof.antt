@@ -2,7 +2,7 @@
 use Rattle.scan.proofs.Basics.{refl, sym, _∙_}
 use borrow.Author.Needs.{needs}
 use Rattle.graph.proofs.Readable.{reply-readable}
-use Rattle.call.proofs.Laws.{refused-words}
+use Rattle.lending.proofs.Laws.{refused-words}
 use Rattle.trim.proofs.trim_into.Statement.{statement}
 use Rattle.trim.proofs.trim_into.Tie as tie
 

@@ -29,7 +29,7 @@ returns-2 c = place-measured _ _ (passed (c .before .before .before .before)) (c
 
 -- every place fits
 mendable : (c : tie.After-arc-count) → let s = c .before .before .before .before .before .before .before .before .before .before .args in
-    Mendable (s .net .now) (s .sheet .now) (c .before .before .before .before .search .result .finder)
+    Mendable (s .net .now) (s .sheet .now) (c .before .before .before .before .search .result .parent)
 mendable c =
     let fits = c .before .before .before in
     let F = fits .before .search .ensures in

@@ -10,11 +10,11 @@ use Rattle.mend.proofs.writer.counted.Statement.{statement}
 use Rattle.mend.proofs.writer.counted.Tie as tie
 
 abbrev Inv-loop : tie.InvT-loop
-Inv-loop net sheet finder part nodes counts₀ known₀ entries₀ n₀ counts known entries n =
-    RowsTo net sheet finder nodes counts known n × (entries ≡ length (partTo net sheet part CountKeys n))
+Inv-loop net sheet parent part nodes counts₀ known₀ entries₀ n₀ counts known entries n =
+    RowsTo net sheet parent nodes counts known n × (entries ≡ length (partTo net sheet part CountKeys n))
 
 abbrev μ-loop : tie.MeasureT-loop
-μ-loop net sheet finder part nodes counts₀ known₀ entries₀ n₀ counts known entries n = nodes - n
+μ-loop net sheet parent part nodes counts₀ known₀ entries₀ n₀ counts known entries n = nodes - n
 
 loop-holds : tie.Need-loop-holds Inv-loop μ-loop
 unfolding partTo

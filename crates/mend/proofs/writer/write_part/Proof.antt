@@ -11,11 +11,11 @@ use Rattle.mend.proofs.writer.write_part.Statement.{statement}
 use Rattle.mend.proofs.writer.write_part.Tie as tie
 
 abbrev Inv-loop : tie.InvT-loop
-Inv-loop net sheet finder part section out₀ at nodes counts₀ known₀ next₀ n₀ out counts known next n =
-    RowsTo net sheet finder nodes counts known n × Appended out₀ at (partTo net sheet part section n) next out
+Inv-loop net sheet parent part section out₀ at nodes counts₀ known₀ next₀ n₀ out counts known next n =
+    RowsTo net sheet parent nodes counts known n × Appended out₀ at (partTo net sheet part section n) next out
 
 abbrev μ-loop : tie.MeasureT-loop
-μ-loop net sheet finder part section out₀ at nodes counts₀ known₀ next₀ n₀ out counts known next n = nodes - n
+μ-loop net sheet parent part section out₀ at nodes counts₀ known₀ next₀ n₀ out counts known next n = nodes - n
 
 loop-holds : tie.Need-loop-holds Inv-loop μ-loop
 loop-holds c = (search (rows-none, needs), part-none _ _ _ _)

@@ -2,8 +2,8 @@
 use Rattle.scan.proofs.Basics.{_≤_, arith, refl, sym, ap, _∙_, length}
 use borrow.Author.Needs.{needs}
 use Rattle.scan.proofs.Placed.{placed-front}
-use Rattle.call.proofs.Lent.{room-holds}
-use Rattle.call.proofs.Laws.{refused-one, answered-one}
+use Rattle.lending.proofs.Lent.{room-holds}
+use Rattle.lending.proofs.Laws.{refused-one, answered-one}
 use Rattle.minimal.specs.Minimal.{minimalForm}
 use Rattle.minimal.specs.declared.FormAnswer.the-variants.{Written}
 use Rattle.minimize.proofs.Writing.{form-length}

@@ -7,10 +7,10 @@ use Rattle.replay.proofs.tally.fired_times.Statement.{statement}
 use Rattle.replay.proofs.tally.fired_times.Tie as tie
 
 abbrev Inv-loop : tie.InvT-loop
-Inv-loop log n often₀ i₀ often i = Counting log n often i
+Inv-loop log n often₀ i₀ parikh i = Counting log n parikh i
 
 abbrev μ-loop : tie.MeasureT-loop
-μ-loop log n often₀ i₀ often i = n - i
+μ-loop log n often₀ i₀ parikh i = n - i
 
 cast-n : tie.Need-cast-n Inv-loop μ-loop
 unfolding firingCount

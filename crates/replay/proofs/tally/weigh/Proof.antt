@@ -6,10 +6,10 @@ use Rattle.replay.proofs.tally.weigh.Statement.{statement}
 use Rattle.replay.proofs.tally.weigh.Tie as tie
 
 abbrev Inv-loop : tie.InvT-loop
-Inv-loop net putting often transitions sums₀ t₀ sums t = Weighing net often putting transitions sums t
+Inv-loop net putting parikh transitions sums₀ t₀ sums t = Weighing net parikh putting transitions sums t
 
 abbrev μ-loop : tie.MeasureT-loop
-μ-loop net putting often transitions sums₀ t₀ sums t = transitions - t
+μ-loop net putting parikh transitions sums₀ t₀ sums t = transitions - t
 
 loop-holds : tie.Need-loop-holds Inv-loop μ-loop
 loop-holds c = weighs-none (c .before .before .pre) (c .transitions .ensures)
