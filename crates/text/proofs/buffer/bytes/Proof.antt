@@ -17,9 +17,7 @@ loop-holds : tie.Need-loop-holds Inv-loop μ-loop
 loop-holds c = (omega arith, nothing-put _ _)
 
 loop-again : tie.Need-loop-again Inv-loop μ-loop
-loop-again c =
-    let w = c .before .before .before .before .before .before .loop in
-    (omega arith, more-taken _ (w .i) (c .before .before .before .before .before .loop-test .taken) (w .inv .1) (c .before .before .byte .ensures))
+loop-again c = (omega arith, search (more-taken, needs))
 
 same-length : tie.Need-same-length Inv-loop μ-loop
 same-length c = ap length (c .before .loop .inv .1 .held) ∙ put-length _ _ _

@@ -5,7 +5,7 @@ use Rattle.text.proofs.buffer.field.Statement.{statement}
 use Rattle.text.proofs.buffer.field.Tie as tie
 
 returns : tie.Need-returns
-returns c = both-put (c .before .before .before .before .before .before .bytes .ensures) (c .before .before .decimal .ensures)
+returns c = search (both-put, needs)
 
 pub field-spec : {M : Type 1} → statement M
 field-spec = tie.close (tie.spec (λ c κs. search needs) (λ c κs. search needs) (λ c. search needs) returns)
