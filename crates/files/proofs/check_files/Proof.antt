@@ -8,21 +8,19 @@ use Rattle.files.proofs.check_files.Statement.{statement}
 use Rattle.files.proofs.check_files.Tie as tie
 
 slice-reshare-prefix-check-read : tie.Need-slice-reshare-prefix-check-read
-slice-reshare-prefix-check-read c = let d = c .before .before .before .before .before .before .decode .ensures in words-fit _ _ _ _ (d .words) (d .written)
+slice-reshare-prefix-check-read c = search (words-fit, needs)
 
 slice-aggregate-check-read : tie.Need-slice-aggregate-check-read
 slice-aggregate-check-read c = sym (length-take-le _ _ (slice-reshare-prefix-check-read (c .before)))
 
 slice-reshare-prefix-check-read-2 : tie.Need-slice-reshare-prefix-check-read-2
-slice-reshare-prefix-check-read-2 c = let d = c .before .before .before .decode2 .ensures in words-fit _ _ _ _ (d .words) (d .written)
+slice-reshare-prefix-check-read-2 c = search (words-fit, needs)
 
 slice-aggregate-check-read-2 : tie.Need-slice-aggregate-check-read-2
 slice-aggregate-check-read-2 c = sym (length-take-le _ _ (slice-reshare-prefix-check-read-2 (c .before)))
 
 returns : tie.Need-returns
-returns c =
-    let d = c .before .before .before .before .before in
-    files-read _ _ _ _ _ _ _ _ _ (d .before .before .before .before .decode .ensures) (d .decode2 .ensures) (c .check-read .ensures)
+returns c = search (files-read, needs)
 
 pub check-files-spec : {M : Type 1} → statement M
 check-files-spec =

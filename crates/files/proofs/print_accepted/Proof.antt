@@ -9,9 +9,7 @@ use Rattle.files.proofs.print_accepted.Statement.{statement}
 use Rattle.files.proofs.print_accepted.Tie as tie
 
 array-share-prefix-bounds : tie.Need-array-share-prefix-bounds
-array-share-prefix-bounds c =
-    let b = c .before .before in
-    bounds-fit _ _ (b .bounds .result) (b .before .before .before .before .before .before .before .before .before .before .before .before .pre) (c .before .places .ensures) (search needs)
+array-share-prefix-bounds c = search (bounds-fit, needs)
 
 slice-aggregate-accepted-lines : tie.Need-slice-aggregate-accepted-lines
 slice-aggregate-accepted-lines c = sym (length-take-le _ _ (array-share-prefix-bounds (c .before)))
