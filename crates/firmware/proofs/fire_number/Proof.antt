@@ -10,14 +10,10 @@ add-result : tie.Need-add-result
 add-result c = omega (arith, number-of (c .before .before .found .given .1) (c .before .before .before .before .early-fault .ensures .1))
 
 returns : tie.Need-returns
-returns c =
-    let a = c .before .before .before .before .before .before .before .args in
-    number-early (a .net .now) (a .sheet .now) (a .node) (a .t) (a .lent) (c .before .before .before .before .early-fault .ensures .0) (c .before .before .found .given .1)
+returns c = search (number-early, needs)
 
 returns-2 : tie.Need-returns-2
-returns-2 c =
-    let a = c .before .before .before .before .before .before .args in
-    number-words (a .net .now) (a .sheet .now) (a .node) (a .t) (a .lent) (c .before .before .before .early-fault .ensures .0) (c .before .enum-told .given .1) (c .fire .ensures)
+returns-2 c = search (number-words, needs)
 
 pub fire-number-spec : {M : Type 1} → statement M
 fire-number-spec = tie.close (tie.spec (λ c κs. search needs) (λ c. search needs) add-result returns (λ c. search needs) (λ c κs. search needs) returns-2)

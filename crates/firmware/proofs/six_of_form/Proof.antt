@@ -8,7 +8,7 @@ returns : tie.Need-returns
 returns c = form-told-written _ _ _ (c .before .before .plain .ensures) (c .enum-told .given .1)
 
 returns-2 : tie.Need-returns-2
-returns-2 c = form-told-refused _ _ _ (c .before .before .before .plain .ensures) (c .before .answer .given .1)
+returns-2 c = search (form-told-refused, needs)
 
 pub six-of-form-spec : {M : Type 1} → statement M
 six-of-form-spec =

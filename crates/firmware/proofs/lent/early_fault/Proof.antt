@@ -22,7 +22,7 @@ returns-4 c = (
 )
 
 returns-5 : tie.Need-returns-5
-returns-5 c = (early-whole _ _ _ _ (c .before .before .before .if1 .left) (c .before .before .if2 .left) (c .before .if3 .left) (c .if4 .left), omega arith)
+returns-5 c = (search (early-whole, needs), omega arith)
 
 pub early-fault-spec : {M : Type 1} → statement M
 early-fault-spec = tie.close (tie.spec (λ c κs. search needs) returns (λ c κs. search needs) returns-2 (λ c κs. search needs) returns-3 (λ c κs. search needs) returns-4 returns-5)
