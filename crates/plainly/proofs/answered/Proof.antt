@@ -10,8 +10,7 @@ returns : tie.Need-returns
 returns c = (search (refused-answer, needs), record { same-length = refl; past = λ k l. refl })
 
 shared-slice-read-spread-net : tie.Need-shared-slice-read-spread-net
-shared-slice-read-spread-net c =
-    let r = reply-readable _ _ (sym (c .before .before .before .check .ensures) ∙ c .before .enum-told .given .1) in omega arith
+shared-slice-read-spread-net c = let r = reply-readable _ _ (sym (c .before .before .before .check .ensures) ∙ c .before .enum-told .given .1) in omega arith
 
 cast-spread-net : tie.Need-cast-spread-net
 cast-spread-net c = let r = reply-readable _ _ (sym (c .before .before .before .check .ensures) ∙ c .before .enum-told .given .1) in omega arith
@@ -28,7 +27,7 @@ judged-requires c κs =
     let r = reply-readable _ _ (sym (at-spread-net .before .before .before .before .check .ensures)
     ∙ at-spread-net .before .before .enum-told .given .1) in
     let (tables, nodes) = at-spread-net .spread-net .ensures in
-    fit r _ tables nodes _ (c .before .before .before .spread-sheet .ensures .spread)
+    search (fit, needs)
 
 returns-2 : tie.Need-returns-2
 returns-2 c =

@@ -20,11 +20,11 @@ loop-holds c = (omega arith, any-none-yet _)
 
 returns : tie.Need-returns Inv-loop μ-loop
 unfolding hasArc
-returns c = sym (least-found _ _ (c .before .before .before .loop .t) (c .before .before .before .loop .inv .1) (lt-ltb _ _ (c .if1 .taken)) (c .before .before .loop-test .taken))
+returns c = sym (least-found _ _ _ (search needs) (lt-ltb _ _ (c .if1 .taken)) (c .before .before .loop-test .taken))
 
 loop-again : tie.Need-loop-again Inv-loop μ-loop
 unfolding hasArc
-loop-again c = (omega arith, any-more _ _ (c .before .before .before .loop .inv .1) (le-ltb _ _ (c .if1 .left)))
+loop-again c = (omega arith, any-more _ _ (search needs) (search (le-ltb, needs)))
 
 returns-2 : tie.Need-returns-2 Inv-loop μ-loop
 returns-2 c = let e : c .before .loop .t ≡ c .before .before .args .transitions = omega arith in sym (least-none _ _ (rw e at (c .before .loop .inv .1)))

@@ -23,11 +23,11 @@ is-source-requires c κs = (search needs, omega arith)
 
 returns : tie.Need-returns Inv-loop μ-loop
 unfolding cellsAwait awaitCell hasArc
-returns c = sym (all-fails _ _ (c .before .before .before .before .loop .t) (c .before .before .before .loop-test .taken) (rw (← c .before .is-source .ensures) (not-true _ (c .if1 .taken))))
+returns c = sym (all-fails _ _ _ (c .before .before .before .loop-test .taken) (rw (← c .before .is-source .ensures) (not-true _ (c .if1 .taken))))
 
 loop-again : tie.Need-loop-again Inv-loop μ-loop
 unfolding awaitCell hasArc
-loop-again c = (omega arith, all-more _ _ (c .before .before .before .before .loop .inv .1) (rw (← c .before .is-source .ensures) (not-false _ (c .if1 .left))))
+loop-again c = (omega arith, all-more _ _ (search needs) (rw (← c .before .is-source .ensures) (not-false _ (search needs))))
 
 returns-2 : tie.Need-returns-2 Inv-loop μ-loop
 unfolding cellsAwait

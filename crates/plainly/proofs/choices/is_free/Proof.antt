@@ -22,10 +22,10 @@ draws-alike-requires : tie.Need-draws-alike-requires Inv-loop μ-loop
 draws-alike-requires c κs = let (z, l, m) = c .before .before .before .pre in (z, l, omega arith)
 
 returns : tie.Need-returns Inv-loop μ-loop
-returns c = sym (all-fails _ _ (c .before .before .before .loop .u) (c .before .before .loop-test .taken) (sym (c .before .draws-alike .ensures) ∙ not-true _ (c .if1 .taken)))
+returns c = sym (all-fails _ _ _ (search needs) (sym (c .before .draws-alike .ensures) ∙ not-true _ (c .if1 .taken)))
 
 loop-again : tie.Need-loop-again Inv-loop μ-loop
-loop-again c = (omega arith, all-more _ _ (c .before .before .before .loop .inv .1) (sym (c .before .draws-alike .ensures) ∙ not-false _ (c .if1 .left)))
+loop-again c = (omega arith, all-more _ _ (search needs) (sym (c .before .draws-alike .ensures) ∙ not-false _ (search needs)))
 
 returns-2 : tie.Need-returns-2 Inv-loop μ-loop
 returns-2 c = let e : c .before .loop .u ≡ c .before .before .before .args .transitions = omega arith in sym (rw e at (c .before .loop .inv .1))

@@ -15,30 +15,29 @@ abbrev μ-loop : tie.MeasureT-loop
 μ-loop taken grid places transitions n t free u₀ u = transitions - u
 
 is-free-requires : tie.Need-is-free-requires Inv-loop μ-loop
-is-free-requires c κs = (c .before .before .pre .1 .0, c .before .before .pre .1 .1, c .before .before .pre .0 .few-transitions)
+is-free-requires c κs = (search needs, search needs, search needs)
 
 loop-holds : tie.Need-loop-holds Inv-loop μ-loop
 unfolding all
 loop-holds c = (omega arith, refl)
 
 same-choice-requires : tie.Need-same-choice-requires Inv-loop μ-loop
-same-choice-requires c κs =
-    let start = c .before .before .before .before .before .before in (
-      start .pre .1 .0,
-      start .pre .1 .1,
-      omega arith,
-    )
+same-choice-requires c κs = (
+  search needs,
+  search needs,
+  omega arith,
+)
 
 returns : tie.Need-returns Inv-loop μ-loop
 unfolding cellsChoice choiceCell hasArc
 returns c =
     sym (rw (← c .before .before .before .before .before .is-free .ensures)
-    (all-fails _ _ (c .before .before .before .before .loop .u) (c .before .before .before .loop-test .taken)
+    (all-fails _ _ _ (c .before .before .before .loop-test .taken)
     (rw (← c .before .same-choice .ensures) (not-true _ (c .if1 .taken)))))
 
 loop-again : tie.Need-loop-again Inv-loop μ-loop
 unfolding choiceCell hasArc
-loop-again c = (omega arith, all-more _ _ (c .before .before .before .before .loop .inv .1) (rw (← c .before .same-choice .ensures) (not-false _ (c .if1 .left))))
+loop-again c = (omega arith, all-more _ _ (search needs) (rw (← c .before .same-choice .ensures) (not-false _ (search needs))))
 
 returns-2 : tie.Need-returns-2 Inv-loop μ-loop
 unfolding cellsChoice

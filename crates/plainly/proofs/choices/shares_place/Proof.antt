@@ -18,7 +18,7 @@ loop-holds c = (omega arith, any-none-yet _)
 
 returns : tie.Need-returns Inv-loop μ-loop
 unfolding cellsShared sharedCell
-returns c = sym (any-in _ _ (c .before .before .before .before .loop .p) (c .before .before .before .loop-test .taken) (c .if1 .taken))
+returns c = sym (search (any-in, needs))
 
 loop-again : tie.Need-loop-again Inv-loop μ-loop
 unfolding sharedCell

@@ -18,18 +18,18 @@ abbrev μ-loop : tie.MeasureT-loop
 μ-loop s grid i₀ n₀ i n = s .nodes - n
 
 loop-holds : tie.Need-loop-holds Inv-loop2 μ-loop2 Inv-loop μ-loop
-loop-holds c = counted-start _ _ (c .before .pre)
+loop-holds c = search (counted-start, needs)
 
 loop2-holds : tie.Need-loop2-holds Inv-loop2 μ-loop2 Inv-loop μ-loop
-loop2-holds c = c .before .before .loop .inv
+loop2-holds c = search needs
 
 add-i : tie.Need-add-i Inv-loop2 μ-loop2 Inv-loop μ-loop
 add-i c =
     let at-loop2 = c .before .before .before .before in
     omega (
       arith,
-      counted-fits (at-loop2 .before .before .before .before .before .args .s) _
-          (at-loop2 .before .if1 .taken) (c .before .before .if2 .taken) (at-loop2 .loop2 .inv) _ (c .one-if .ensures),
+      counted-fits _ _
+          (at-loop2 .before .if1 .taken) (search needs) (at-loop2 .loop2 .inv) _ (c .one-if .ensures),
     )
 
 loop2-again : tie.Need-loop2-again Inv-loop2 μ-loop2 Inv-loop μ-loop
@@ -39,7 +39,7 @@ loop-again : tie.Need-loop-again Inv-loop2 μ-loop2 Inv-loop μ-loop
 loop-again c = search (counted-next, needs)
 
 returns : tie.Need-returns Inv-loop2 μ-loop2 Inv-loop μ-loop
-returns c = counted-all _ _ (c .if1 .left) (c .before .before .loop .inv)
+returns c = search (counted-all, needs)
 
 pub arc-count-spec : {M : Type 1} → statement M
 arc-count-spec =

@@ -18,7 +18,7 @@ abbrev μ-loop : tie.MeasureT-loop
 
 loop-holds : tie.Need-loop-holds Inv-loop μ-loop
 unfolding count
-loop-holds c = (omega arith, refl, c .before .pre .few-nodes)
+loop-holds c = (omega arith, refl, search needs)
 
 is-await-requires : tie.Need-is-await-requires Inv-loop μ-loop
 is-await-requires c κs = (search (at-row, needs), search (taking, needs))
@@ -39,7 +39,7 @@ loop-again c =
         count-more _ _,
         y,
         c .one-if .ensures,
-        c .before .is-await .ensures ∙ await-told (at-test .before .before .before .args .t1) _ _ (at-test .loop-test .taken),
+        c .before .is-await .ensures ∙ await-told (search needs) _ _ (search needs),
       ),
       z,
     )

@@ -9,7 +9,7 @@ returns : tie.Need-returns
 returns c = search (arc-no-node, needs)
 
 returns-2 : tie.Need-returns-2
-returns-2 c = arc-no-transition (c .before .before .before .before .before .before .pre) _ _ (rw (c .before .before .before .transitions .ensures) at (c .if2 .taken))
+returns-2 c = arc-no-transition (search needs) _ _ (rw (c .before .before .before .transitions .ensures) at (c .if2 .taken))
 
 mul-value-of : tie.Need-mul-value-of
 mul-value-of c =
@@ -31,7 +31,7 @@ value-of-requires c κs = (search (keyed, needs), omega arith)
 returns-3 : tie.Need-returns-3
 returns-3 c =
     let e = c .before .before .before .before .transitions .ensures in
-    (rw e at (c .value-of .ensures)) ∙ arc-value (c .before .before .before .before .before .before .before .pre) _ _ (c .before .before .if1 .left) (rw e at (c .before .if2 .left))
+    (rw e at (c .value-of .ensures)) ∙ arc-value (search needs) _ _ (search needs) (rw e at (c .before .if2 .left))
 
 pub arc-cell-spec : {M : Type 1} → statement M
 arc-cell-spec =

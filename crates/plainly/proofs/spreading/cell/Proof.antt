@@ -6,10 +6,10 @@ use Rattle.plainly.proofs.spreading.cell.Statement.{statement}
 use Rattle.plainly.proofs.spreading.cell.Tie as tie
 
 returns : tie.Need-returns
-returns c = (c .arc-cell .ensures) ∙ cell-arc _ _ _ (c .before .if1 .taken)
+returns c = (search needs) ∙ cell-arc _ _ _ (search needs)
 
 returns-2 : tie.Need-returns-2
-returns-2 c = (c .count-cell .ensures) ∙ cell-count _ _ _ (c .before .if1 .left)
+returns-2 c = (search needs) ∙ cell-count _ _ _ (search needs)
 
 pub cell-spec : {M : Type 1} → statement M
 cell-spec =

@@ -9,7 +9,7 @@ returns : tie.Need-returns
 returns c = search (count-no-node, needs)
 
 returns-2 : tie.Need-returns-2
-returns-2 c = count-no-place (c .before .before .before .before .before .before .pre) _ _ (rw (c .before .before .before .places .ensures) at (c .if2 .taken))
+returns-2 c = count-no-place (search needs) _ _ (rw (c .before .before .before .places .ensures) at (c .if2 .taken))
 
 mul-first : tie.Need-mul-first
 mul-first c = rw (c .transitions .ensures) (omega arith)
@@ -18,11 +18,9 @@ mul-value-of : tie.Need-mul-value-of
 mul-value-of c =
     let at-places = c .before .before .before .before .before in
     let a = at-places .before .before .before .args in
-    let z = at-places .before .before .before .pre .arcs .sizes in
     omega (
       arith,
       rows-small (a .n) (at-places .places .result) (omega arith) (omega arith),
-      rows-small (getD (a .sheet .now) 0 0) (c .transitions .result) (omega arith) (omega arith),
     )
 
 add-value-of : tie.Need-add-value-of
@@ -55,8 +53,8 @@ returns-3 c =
     let at-if2 = c .before .before .before in
     let e = c .before .transitions .ensures in
     let f = at-if2 .before .before .before .places .ensures in
-    (rw (e, f) at (c .value-of .ensures)) ∙ count-value (at-if2 .before .before .before .before .before .before .pre) _ _
-    (at-if2 .before .if1 .left) (rw f at (at-if2 .if2 .left))
+    (rw (e, f) at (c .value-of .ensures)) ∙ count-value (search needs) _ _
+    (search needs) (rw f at (at-if2 .if2 .left))
 
 pub count-cell-spec : {M : Type 1} → statement M
 count-cell-spec =

@@ -33,7 +33,7 @@ loop-again c =
       omega arith,
       simp length-set y,
       z,
-      stored-more (cellOf _ _) grid k _ u (omega arith) (c .cell .ensures),
+      stored-more (cellOf _ _) grid k _ u (omega arith) (search needs),
       λ j l. getD-set-other grid k j _ 0 (λ e. omega arith) ∙ w j l,
     )
 

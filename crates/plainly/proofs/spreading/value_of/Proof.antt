@@ -6,8 +6,7 @@ use Rattle.plainly.proofs.spreading.value_of.Statement.{statement}
 use Rattle.plainly.proofs.spreading.value_of.Tie as tie
 
 add-result : tie.Need-add-result
-add-result c =
-    omega (arith, value-small _ (c .before .before .before .before .before .before .before .pre .0) _ (c .before .before .before .before .find .ensures) _ (c .before .before .i .given .1))
+add-result c = omega (arith, value-small _ (search needs) _ (c .before .before .before .before .find .ensures) _ (c .before .before .i .given .1))
 
 returns : tie.Need-returns
 returns c = search (value-found, needs)
