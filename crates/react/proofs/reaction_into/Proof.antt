@@ -7,6 +7,7 @@ use Rattle.react.proofs.reaction_into.Tie as tie
 
 pub reaction-into-spec : {M : Type 1} → statement M
 reaction-into-spec =
-    tie.close (tie.spec (λ c κs. search needs) (λ c. search needs) (λ c. checked-refused _ _ _ (sym (c .before .before .before .checked .ensures) ∙ c .before .found .given .1)
-    _) (λ c. search needs) (λ c κs. sym (c .before .before .before .checked .ensures) ∙ c .before .enum-told .given .1) (λ c. search needs) (λ c.
-    c .before .before .reported .ensures))
+    tie.close
+    (tie.spec (λ c κs. search needs) (λ c. search needs)
+    (λ c. checked-refused _ _ _ (sym (c .before .before .before .checked .ensures) ∙ c .before .found .given .1) _) (λ c. search needs)
+    (λ c κs. sym (c .before .before .before .checked .ensures) ∙ c .before .enum-told .given .1) (λ c. search needs) (λ c. search needs))

@@ -6,16 +6,16 @@ use Rattle.react.proofs.reported.Statement.{statement}
 use Rattle.react.proofs.reported.Tie as tie
 
 loops-fault-requires : tie.Need-loops-fault-requires
-loops-fault-requires c κs = rows (judged _ _ _ (c .before .before .before .before .before .before .before .before .before .pre)
-    (c .before .before .before .before .starts .ensures) (c .before .before .before .nodes .ensures) .mapped)
+loops-fault-requires c κs =
+    let at-nodes = c .before .before .before in
+    rows (judged _ _ _ (at-nodes .before .before .before .before .before .before .pre) (at-nodes .before .starts .ensures) (at-nodes .nodes .ensures)
+    .mapped)
 
 returns : tie.Need-returns
 returns c = search (loops-refused, needs)
 
 size-requires : tie.Need-size-requires
-size-requires c κs =
-    let at-nodes = c .before .before .before .before .before .before .before .before in
-    rows (judged _ _ _ (at-nodes .before .before .before .before .before .before .pre) (at-nodes .before .starts .ensures) (at-nodes .nodes .ensures) .mapped)
+size-requires c κs = loops-fault-requires (c .before .before .before .before .before) κs
 
 returns-2 : tie.Need-returns-2
 returns-2 c = search (too-short, needs)

@@ -18,11 +18,14 @@ returns : tie.Need-returns Inv-loop μ-loop
 returns c = c .refuse .ensures ∙ ap verdictOf (sym (shape-refused _ _ (sym (c .before .before .shape-passes .ensures) ∙ not-true _ (c .before .if1 .taken))))
 
 returns-2 : tie.Need-returns-2 Inv-loop μ-loop
-returns-2 c = let g = c .before .before .before .before .loop .inv in c .refuse2 .ensures ∙ ap verdictOf (sym (duration-refused _ _ (g .shape) _
-    (c .before .before .before .loop-test .taken) (g .below) (sym (c .before .before .duration-fails .ensures) ∙ c .before .if2 .taken)))
+returns-2 c =
+    let at-duration-fails = c .before .before in
+    let g = at-duration-fails .before .before .loop .inv in
+    c .refuse2 .ensures ∙ ap verdictOf (sym (duration-refused _ _ (g .shape) _ (at-duration-fails .before .loop-test .taken) (g .below) (sym
+    (at-duration-fails .duration-fails .ensures) ∙ c .before .if2 .taken)))
 
 loop-again : tie.Need-loop-again Inv-loop μ-loop
-loop-again c = passing-more _ _ _ (c .before .before .before .loop .inv) (sym (c .before .duration-fails .ensures) ∙ c .if2 .left)
+loop-again c = passing-more _ _ _ (search needs) (sym (search needs) ∙ c .if2 .left)
 
 returns-3 : tie.Need-returns-3 Inv-loop μ-loop
 returns-3 c = let g = c .before .loop .inv in ap verdictOf (sym (durations-accepted _ _ (g .shape) (λ u l. g .below u (omega arith))))

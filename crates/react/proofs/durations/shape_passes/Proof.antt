@@ -9,4 +9,4 @@ pub shape-passes-spec : {M : Type 1} → statement M
 shape-passes-spec =
     tie.close
     (tie.spec (λ c. search needs) (λ c. search needs) (λ c. shape-no _ _ (c .if1 .taken)) (λ c. search needs)
-    (λ c. omega (arith, c .shared-slice-known .given 0)) (λ c. shape-yes _ _ (c .before .if1 .left)))
+    (λ c. omega (arith, c .shared-slice-known .given 0)) (λ c. search (shape-yes, needs)))

@@ -14,46 +14,38 @@ abbrev μ-loop : tie.MeasureT-loop
 μ-loop sheet starts awaits nodes size₀ n₀ size n = nodes - n
 
 add-arcs : tie.Need-add-arcs Inv-loop μ-loop
-add-arcs c = omega (arith, node-low (c .before .before .before .pre) (size-node (c .before .loop .inv) (c .loop-test .taken)))
+add-arcs c = omega arith
 
 mul-arcs : tie.Need-mul-arcs Inv-loop μ-loop
-mul-arcs c = omega (arith, node-low (c .before .before .before .pre) (size-node (c .before .loop .inv) (c .loop-test .taken)))
+mul-arcs c = omega arith
 
 element-copy-out-arcs : tie.Need-element-copy-out-arcs Inv-loop μ-loop
-element-copy-out-arcs c = omega (arith, node-low (c .before .before .before .pre) (size-node (c .before .loop .inv) (c .loop-test .taken)))
+element-copy-out-arcs c = omega arith
 
 cast-arcs : tie.Need-cast-arcs Inv-loop μ-loop
 cast-arcs c = omega (arith, end-most (c .before .before .before .before .pre) (size-node (c .before .before .loop .inv) (c .before .loop-test .taken)))
 
 mul-arcs-2 : tie.Need-mul-arcs-2 Inv-loop μ-loop
-mul-arcs-2 c = omega (arith, node-low (c .before .before .before .before .pre) (size-node (c .before .before .loop .inv) (c .before .loop-test .taken)))
+mul-arcs-2 c = omega arith
 
 element-copy-out-arcs-2 : tie.Need-element-copy-out-arcs-2 Inv-loop μ-loop
-element-copy-out-arcs-2 c = omega (arith, node-low (c .before .before .before .before .pre) (size-node (c .before .before .loop .inv) (c .before .loop-test .taken)))
+element-copy-out-arcs-2 c = omega arith
 
 cast-arcs-2 : tie.Need-cast-arcs-2 Inv-loop μ-loop
-cast-arcs-2 c = omega (
-  arith,
-  start-most (c .before .before .before .before .before .pre) (size-node (c .before .before .before .loop .inv)
-      (c .before .before .loop-test .taken)),
-)
+cast-arcs-2 c =
+    let at-test = c .before .before in
+    omega (arith, start-most (at-test .before .before .before .pre) (size-node (at-test .before .loop .inv) (at-test .loop-test .taken)))
 
 sub-arcs : tie.Need-sub-arcs Inv-loop μ-loop
-sub-arcs c = omega (arith, c .before .before .before .before .before .pre .rises _ (size-node (c .before .before .before .loop .inv) (c .before .before .loop-test .taken)))
+sub-arcs c =
+    let at-test = c .before .before in
+    omega (arith, at-test .before .before .before .pre .rises _ (size-node (at-test .before .loop .inv) (at-test .loop-test .taken)))
 
 element-copy-out-waits : tie.Need-element-copy-out-waits Inv-loop μ-loop
-element-copy-out-waits c = omega (
-  arith,
-  node-low (c .before .before .before .before .before .pre) (size-node (c .before .before .before .loop .inv)
-      (c .before .before .loop-test .taken)),
-)
+element-copy-out-waits c = omega arith
 
 add-n : tie.Need-add-n Inv-loop μ-loop
-add-n c = omega (
-  arith,
-  node-low (c .before .before .before .before .before .before .pre) (size-node (c .before .before .before .before .loop .inv)
-      (c .before .before .before .loop-test .taken)),
-)
+add-n c = omega arith
 
 mul-size : tie.Need-mul-size Inv-loop μ-loop
 mul-size c =
@@ -85,4 +77,4 @@ size-spec =
     tie.close
     (tie.spec Inv-loop μ-loop (λ c. omega arith) (λ c. omega arith) (λ c. size-start) add-arcs mul-arcs element-copy-out-arcs cast-arcs mul-arcs-2
     element-copy-out-arcs-2 cast-arcs-2 sub-arcs element-copy-out-waits add-n mul-size add-size (λ c. omega arith) loop-again (λ c. omega arith)
-    loop-again-2 (λ c. size-end (c .before .loop .inv) (c .loop-test .left)))
+    loop-again-2 (λ c. search (size-end, needs)))

@@ -20,19 +20,19 @@ loop-holds : tie.Need-loop-holds Inv-loop μ-loop
 loop-holds c = search (write-start, needs)
 
 write-row-requires : tie.Need-write-row-requires Inv-loop μ-loop
-write-row-requires c κs = writable (c .before .before .before .before .before .before .loop .inv) (c .before .before .before .before .before .loop-test .taken)
-    (c .before .before .before .if1 .taken)
+write-row-requires c κs =
+    let at-if1 = c .before .before .before in
+    writable (at-if1 .before .before .before .loop .inv) (at-if1 .before .before .loop-test .taken) (at-if1 .if1 .taken)
 
 loop-again : tie.Need-loop-again Inv-loop μ-loop
 loop-again c = search (writes-row, needs)
 
 loop-again-2 : tie.Need-loop-again-2 Inv-loop μ-loop
-loop-again-2 c = skips-row (c .before .before .before .loop .inv) (c .before .before .loop-test .taken) (omega arith)
+loop-again-2 c = skips-row (search needs) (search needs) (omega arith)
 
 pub write-spec : {M : Type 1} → statement M
 write-spec =
     tie.close
     (tie.spec Inv-loop μ-loop (λ c κs. search needs) (λ c κs. search needs) shared-slice-read-nodes (λ c. omega (arith, few-nodes)) loop-holds
-    (λ c. omega (arith, write-low (c .before .loop .inv) (c .loop-test .taken)))
-    (λ c. omega (arith, write-low (c .before .loop .inv) (c .loop-test .taken))) write-row-requires (λ c. omega arith) loop-again (λ c. omega arith)
-    loop-again-2 (λ c. search (appended-length, needs)) (λ c. search (all-written, needs)))
+    (λ c. omega (arith, write-low (c .before .loop .inv) (c .loop-test .taken))) (λ c. search (write-low, needs)) write-row-requires
+    (λ c. omega arith) loop-again (λ c. omega arith) loop-again-2 (λ c. search (appended-length, needs)) (λ c. search (all-written, needs)))

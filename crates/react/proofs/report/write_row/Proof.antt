@@ -47,25 +47,19 @@ duration-requires : tie.Need-duration-requires Inv-loop μ-loop
 duration-requires c κs = (search (row-shape, needs), search (within, needs))
 
 mul-early : tie.Need-mul-early Inv-loop μ-loop
-mul-early c = omega (
-  arith,
-  row-low (c .before .before .before .before .loop .inv) (c .before .before .before .loop-test .taken) (c .before .before .transition .ensures)
-      (c .before .leads-to .ensures),
-)
+mul-early c =
+    let at-transition = c .before .before in
+    omega (arith, row-low (at-transition .before .before .loop .inv) (at-transition .before .loop-test .taken) (at-transition .transition .ensures) (c
+    .before .leads-to .ensures))
 
 element-copy-out-early : tie.Need-element-copy-out-early Inv-loop μ-loop
-element-copy-out-early c = omega (
-  arith,
-  row-low (c .before .before .before .before .loop .inv) (c .before .before .before .loop-test .taken)
-      (c .before .before .transition .ensures) (c .before .leads-to .ensures),
-)
+element-copy-out-early c = search (row-low, needs)
 
 add-early : tie.Need-add-early Inv-loop μ-loop
-add-early c = omega (
-  arith,
-  early-fits (c .before .before .before .before .before .loop .inv) (c .before .before .before .before .loop-test .taken)
-      (c .before .before .before .transition .ensures) (c .before .before .leads-to .ensures) (c .before .duration .ensures),
-)
+add-early c =
+    let at-leads-to = c .before .before in
+    omega (arith, early-fits (at-leads-to .before .before .before .loop .inv) (at-leads-to .before .before .loop-test .taken) (at-leads-to .before
+    .transition .ensures) (at-leads-to .leads-to .ensures) (c .before .duration .ensures))
 
 duration-requires-2 : tie.Need-duration-requires-2 Inv-loop μ-loop
 duration-requires-2 c κs = (search (row-shape, needs), search (within, needs))
@@ -80,13 +74,7 @@ mul-late c =
     )
 
 element-copy-out-late : tie.Need-element-copy-out-late Inv-loop μ-loop
-element-copy-out-late c =
-    let at-leads-to = c .before .before .before in
-    omega (
-      arith,
-      row-low (at-leads-to .before .before .before .loop .inv) (at-leads-to .before .before .loop-test .taken)
-          (at-leads-to .before .transition .ensures) (at-leads-to .leads-to .ensures),
-    )
+element-copy-out-late c = search (row-low, needs)
 
 add-late : tie.Need-add-late Inv-loop μ-loop
 add-late c =
@@ -119,5 +107,5 @@ write-row-spec =
     element-copy-out-end cast-end mul-i element-copy-out-i cast-i loop-holds
     (λ c κs. let g = c .before .loop .inv in let k = c .loop-test .taken in (entry-there (g .walks) k, first-low (g .walks) k))
     (λ c κs. search (entry-there, needs)) duration-requires mul-early element-copy-out-early add-early duration-requires-2 mul-late
-    element-copy-out-late add-late (λ c κs. search needs) add-i loop-less loop-again (λ c. appended-length (c .before .loop .inv .written))
-    (λ c. row-end (c .before .loop .inv) (c .loop-test .left)))
+    element-copy-out-late add-late (λ c κs. search needs) add-i loop-less loop-again (λ c. search (appended-length, needs))
+    (λ c. search (row-end, needs)))

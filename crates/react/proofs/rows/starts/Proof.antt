@@ -25,26 +25,20 @@ cast-starts c =
 
 loop-again : tie.Need-loop-again Inv-loop μ-loop
 loop-again c =
-    let (a, b, d, f) = c .before .before .before .loop .inv in
-    let s = c .before .before .before .before .before .before .before .before .pre .sizes in (
-      simp length-set a,
-      omega arith,
-      d,
-      stored-more _ (c .before .before .before .loop .starts) _ _ f (omega arith) (c .lower-bound .ensures ∙ ap (lowerBound _ 2 _)
-          (c .before .arcs-start .ensures .0 ∙ arcs-start-is _ _ (omega arith) (s .some-transition) (s .few-transitions))),
-    )
+    let at-loop = c .before .before .before in
+    let (a, b, d, f) = at-loop .loop .inv in
+    let s = at-loop .before .before .before .before .before .pre .sizes in
+    (simp length-set a, omega arith, d, stored-more _ (at-loop .loop .starts) _ _ f (omega arith) (c .lower-bound .ensures ∙ ap (lowerBound _ 2 _) (c
+    .before .arcs-start .ensures .0 ∙ arcs-start-is _ _ (omega arith) (s .some-transition) (s .few-transitions))))
 
 cast-starts-3 : tie.Need-cast-starts-3 Inv-loop μ-loop
-cast-starts-3 c =
-    let p = c .before .before .before .before .before .before .before .pre in
-    let z = arcs-within _ _ p in
-    omega arith
+cast-starts-3 c = omega (arith, arcs-within)
 
 returns : tie.Need-returns Inv-loop μ-loop
 returns c =
-    let (a, b, d, f) = c .before .before .loop .inv in
-    starts-all (c .before .before .before .before .before .before .before .pre) (c .before .before .loop .starts) a (λ k l. f k (omega arith))
-    (c .arc-count .ensures)
+    let at-loop = c .before .before in
+    let (a, b, d, f) = at-loop .loop .inv in
+    starts-all (at-loop .before .before .before .before .before .pre) (at-loop .loop .starts) a (λ k l. f k (omega arith)) (c .arc-count .ensures)
 
 pub starts-spec : {M : Type 1} → statement M
 starts-spec =

@@ -2,7 +2,7 @@
 use Rattle.scan.proofs.Basics.{ℕ, _+_, _*_, _-_, _<_, arith, set}
 use Rattle.reaction.specs.Memo.{unvisited}
 use Rattle.react.proofs.ArcRows.{rows, start-most, end-most}
-use Rattle.react.proofs.Recursion.{few, node-low, worked-await, kept-value, worked-kept, begin-falls, begins, closes, worked-fits}
+use Rattle.react.proofs.Recursion.{few, worked-await, kept-value, worked-kept, begin-falls, begins, closes, worked-fits}
 use Rattle.react.proofs.Recursion.{Going, goes-start, goes-fewer, goes-end, shape, enters, sum-fits, goes-arc}
 use borrow.Author.Needs.{needs}
 use borrow.Fn.Kinds.{In}
@@ -99,8 +99,8 @@ pub +time-of-arcs+time-of-node-spec : {M : Type 1} → statement M
       first-low (g .walks) k,
     ))
     (λ c κs. search (entry-there, needs))
-    (λ c κs. let g = c .before .before .before .before .loop .inv in let h :
-    2 * unvisited (c .before .before .before .before .loop .memo) < t = omega (arith, goes-fewer g) in (
+    (λ c κs. let at-loop = c .before .before .before .before in let g = at-loop .loop .inv in
+    let h : 2 * unvisited (at-loop .loop .memo) < t = omega (arith, goes-fewer g) in (
       h,
       (
         g .ready,
@@ -109,37 +109,28 @@ pub +time-of-arcs+time-of-node-spec : {M : Type 1} → statement M
       ),
     ))
     (λ c κs. (search (shape, needs), search (within, needs)))
-    (λ c. omega (
+    (λ c. let at-leads-to = c .before .before .before in omega (
       arith,
-      sum-fits (c .before .before .before .before .before .before .loop .inv)
-          (c .before .before .before .before .before .loop-test .taken) (c .before .before .before .before .transition .ensures) (c .before .before .before .leads-to .ensures)
-          (c .before .time-of-node .ensures) (c .duration .ensures),
+      sum-fits (at-leads-to .before .before .before .loop .inv) (at-leads-to .before .before .loop-test .taken) (at-leads-to .before .transition .ensures)
+          (at-leads-to .leads-to .ensures) (c .before .time-of-node .ensures) (c .duration .ensures),
     )) (λ c κs. search needs) (λ c. let p =
     c .before .before .before .before .before .before .before .before .before .before .before .before .before .before .before .before .pre in
     omega (arith, end-most (rows (p .1 .0 .judged .mapped)) (p .1 .1 .node))) (λ c. omega arith)
     (λ c. search (goes-arc, needs))
-    (λ c. goes-end
-    (c .before .loop .inv) (c .loop-test .left))) λ t. time-of-node-lts.spec (time-of-arcs-below t, time-of-arcs.Post) (time-of-node-at t) time-of-node.Post (λ c. let p =
-    c .before .before .before .pre in omega (arith, node-low (p .1 .0) (p .1 .1)))
+    (λ c. search (goes-end, needs))) λ t. time-of-node-lts.spec (time-of-arcs-below t, time-of-arcs.Post) (time-of-node-at t) time-of-node.Post (λ c. omega (arith, few))
     (λ c. search (worked-await, needs))
-    (λ c. let p = c .before .before .before .before .before .pre in omega (arith, node-low (p .1 .0) (p .1 .1))) (λ c. let p =
-    c .before .before .before .before .before .pre in omega (arith, node-low (p .1 .0) (p .1 .1))) (λ c. let p = c .before .before .before .before .before .before .before .pre
+    (λ c. omega (arith, few)) (λ c. omega (arith, few)) (λ c. let p = c .before .before .before .before .before .before .before .pre
     in omega (arith, kept-value (p .1 .0) (p .1 .1) (c .if2 .taken)))
     (λ c. search (worked-kept, needs))
-    (λ c. let p = c .before .before .before .before .before .before .before .pre in omega (arith, node-low (p .1 .0) (p .1 .1))) (λ c. let p =
-    c .before .before .before .before .before .before .before .pre in omega (arith, node-low (p .1 .0) (p .1 .1))) (λ c κs. let p =
-    c .before .before .before .before .before .before .before .before .pre .1 in let z = c .before .if2 .left in let h : 2 * unvisited (set
-    (c .before .before .before .before .before .before .before .before .args .memo .now) (c .before .before .before .before .before .before .before .before .args .n) 1) + 1 <
-    t = omega (arith, begin-falls (p .0) (p .1) (omega (arith, z))) in (
+    (λ c. omega (arith, few)) (λ c. omega (arith, few))
+    (λ c κs. let start = c .before .before .before .before .before .before .before .before in let p = start .pre .1 in let z = c .before .if2 .left in
+    let h : 2 * unvisited (set (start .args .memo .now) (start .args .n) 1) + 1 < t = omega (arith, begin-falls (p .0) (p .1) (omega (arith, z))) in (
       h,
       (
         p .0,
-        begins (p .0) (p
-            .1) (omega (arith, z)) (omega arith),
+        begins (p .0) (p .1) (omega (arith, z)) (omega arith),
       ),
     )) (λ c. let p =
     c .before .before .before .before .before .before .before .before .before .pre in omega (arith, worked-fits (p .1 .0) (c .time-of-arcs .ensures) (p .1 .1 .node))) (λ c.
-    let p = c .before .before .before .before .before .before .before .before .before .pre in omega (arith, node-low (p .1 .0) (p .1 .1))) (λ c. let p =
-    c .before .before .before .before .before .before .before .before .before .pre in omega (arith, node-low (p .1 .0) (p .1 .1))) (λ c. let p =
-    c .before .before .before .before .before .before .before .before .before .pre in closes (p .1 .0) (p .1 .1) (omega arith)
-    (c .time-of-arcs .ensures))
+    omega (arith, few)) (λ c. omega (arith, few))
+    (λ c. search (closes, needs))
