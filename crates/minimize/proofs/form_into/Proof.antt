@@ -11,7 +11,9 @@ returns c = refused-words (sym (c .before .before .before .verdict .ensures) ∙
 
 returns-2 : tie.Need-returns-2
 returns-2 c =
-    form-of-schedule _ _ (sym (c .before .before .before .before .before .before .verdict .ensures) ∙ c .before .before .before .before .enum-told .given .1) (c .before .before .form-of .ensures)
+    let at-form-of = c .before .before in
+    form-of-schedule _ _ (sym (at-form-of .before .before .before .before .verdict .ensures) ∙ at-form-of .before .before .enum-told .given .1)
+    (at-form-of .form-of .ensures)
 
 pub form-into-spec : {M : Type 1} → statement M
 form-into-spec =

@@ -11,7 +11,7 @@ numbering-requires : tie.Need-numbering-requires
 numbering-requires c κs = (search (reply-readable, needs), c .classes .ensures)
 
 write-requires : tie.Need-write-requires
-write-requires c κs = (c .before .before .before .before .before .before .pre, c .before .numbering .ensures)
+write-requires c κs = (search needs, search needs)
 
 pub written-spec : {M : Type 1} → statement M
 written-spec = tie.close (tie.spec classes-requires numbering-requires write-requires (λ c. search needs) (λ c. search needs))

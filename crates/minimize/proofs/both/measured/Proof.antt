@@ -5,7 +5,7 @@ use Rattle.minimize.proofs.both.measured.Statement.{statement}
 use Rattle.minimize.proofs.both.measured.Tie as tie
 
 classes-requires : tie.Need-classes-requires
-classes-requires c κs = reply-readable _ _ (c .before .before .pre)
+classes-requires c κs = search (reply-readable, needs)
 
 numbering-requires : tie.Need-numbering-requires
 numbering-requires c κs = (search (reply-readable, needs), c .classes .ensures)

@@ -21,7 +21,7 @@ abbrev μ-loop : tie.MeasureT-loop
 μ-loop net sheet nodes arcs classes₀ rounds₀ classes rounds = nodes - rounds
 
 round-requires : tie.Need-round-requires Inv-loop μ-loop
-round-requires c κs = first-reads refl (c .before .before .before .starts-of .ensures) (zeros 128)
+round-requires c κs = search (first-reads, zeros, needs)
 
 round-requires-2 : tie.Need-round-requires-2 Inv-loop μ-loop
 round-requires-2 c κs =
@@ -30,30 +30,22 @@ round-requires-2 c κs =
 
 loop-holds : tie.Need-loop-holds Inv-loop μ-loop
 loop-holds c =
-    let S = c .before .before .before .before .before .before .starts-of2 .ensures in
+    let at-round = c .before .before .before in
+    let S = at-round .before .before .before .starts-of2 .ensures in
     let a = readable-closed (S .readable) in
-    (omega arith, omega arith, search needs, S, round-more _ a 0 _ (by-counts _ _ _ (zeros 128) (c .before .before .before .round .ensures)) _ (by-arcs _ _ _ (c .round2 .ensures)))
+    (omega arith, omega arith, search needs, S, round-more _ a 0 _ (by-counts _ _ _ (zeros 128) (at-round .round .ensures)) _ (by-arcs _ _ _ (c .round2 .ensures)))
 
 round-requires-3 : tie.Need-round-requires-3 Inv-loop μ-loop
-round-requires-3 c κs =
-    let (some, l, long, S, is) = c .before .before .before .loop .inv in
-    next-reads long S (readable-closed (S .readable)) _ is _ (λ e. some)
+round-requires-3 c κs = search (next-reads, readable-closed, needs)
 
 returns : tie.Need-returns Inv-loop μ-loop
 returns c =
-    let (some, l, long, S, is) = c .before .before .before .before .before .before .before .before .loop .inv in
-    round-last _ (readable-closed (S .readable)) _ _ is _ (by-arcs _ _ _ (c .before .before .before .before .round3 .ensures)) (sym (c .before .same-tables .ensures) ∙ c .if1 .taken)
+    let at-round3 = c .before .before .before .before in
+    let (some, l, long, S, is) = at-round3 .before .before .before .before .loop .inv in
+    round-last _ (readable-closed (S .readable)) _ _ is _ (by-arcs _ _ _ (at-round3 .round3 .ensures)) (sym (c .before .same-tables .ensures) ∙ c .if1 .taken)
 
 loop-again : tie.Need-loop-again Inv-loop μ-loop
-loop-again c =
-    let at-round3 = c .before .before .before .before in
-    let (some, l, long, S, is) = at-round3 .before .before .before .before .loop .inv in (
-      omega arith,
-      omega arith,
-      search needs,
-      S,
-      round-more _ (readable-closed (S .readable)) _ _ is _ (by-arcs _ _ _ (at-round3 .round3 .ensures)),
-    )
+loop-again c = search (round-more, readable-closed, by-arcs, needs)
 
 returns-2 : tie.Need-returns-2 Inv-loop μ-loop
 returns-2 c =

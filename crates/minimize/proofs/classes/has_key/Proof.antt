@@ -16,7 +16,7 @@ returns c = rw (le-ltb _ _ (c .if1 .taken))
 
 returns-2 : tie.Need-returns-2
 unfolding hasKey keyAt
-returns-2 c = rw (lt-ltb _ _ (c .before .if1 .left))
+returns-2 c = search (lt-ltb, needs)
 
 pub has-key-spec : {M : Type 1} → statement M
 has-key-spec =

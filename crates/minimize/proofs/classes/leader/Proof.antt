@@ -8,6 +8,7 @@ use Rattle.sequential.specs.Words.{nodeCount, graph}
 use Rattle.minimize.specs.Tables.{classIn}
 use Rattle.minimize.specs.Leaders.{split}
 use Rattle.minimize.proofs.Leaders.{leader-from, leader-not, leader-skip, split-by-rows, node-low, own-class-low}
+use borrow.Author.Needs.{needs}
 use Rattle.minimize.proofs.classes.leader.Statement.{statement}
 use Rattle.minimize.proofs.classes.leader.Tie as tie
 
@@ -19,7 +20,7 @@ abbrev μ-loop : tie.MeasureT-loop
 μ-loop net sheet starts classes next counts level n class m₀ m = n - m
 
 element-copy-out-class : tie.Need-element-copy-out-class Inv-loop μ-loop
-element-copy-out-class c = let (r, at) = c .before .before .pre in node-low r (at .node)
+element-copy-out-class c = search (node-low, needs)
 
 cast-m : tie.Need-cast-m Inv-loop μ-loop
 cast-m c = let (r, at) = c .before .before .before .pre in omega (arith, own-class-low r (at .node), node-low r (at .node))
@@ -37,16 +38,12 @@ loop-holds c =
 
 nodes-agree-requires : tie.Need-nodes-agree-requires Inv-loop μ-loop
 nodes-agree-requires c κs =
-    let (r, at) = c .before .before .before .before .before .pre in
+    let start = c .before .before .before .before .before in
+    let (r, at) = start .pre in
     let less = c .loop-test .taken in
-    let m : c .before .loop .m < nodeCount (c .before .before .before .before .before .args .sheet .now) = omega (arith, less) in
-    record {
-      of = r .of;
-      long = r .long;
-      left = m;
-      right = at .node;
-      even = λ e. record { arcs = r .arcs e; inner = omega (arith, less); offers = r .offers e _ _ m (at .node) (c .before .loop .inv .3 less) };
-    }
+    let m : c .before .loop .m < nodeCount (start .args .sheet .now) = omega (arith, less) in
+    record { of = r .of; long = r .long; left = m; right = at .node; even = λ e. record { arcs = r .arcs e; inner = omega (arith, less); offers = r .offers
+    e _ _ m (at .node) (c .before .loop .inv .3 less) }; }
 
 returns : tie.Need-returns Inv-loop μ-loop
 unfolding leaderBy inClass
@@ -58,16 +55,13 @@ returns c =
 loop-again : tie.Need-loop-again Inv-loop μ-loop
 unfolding classIn
 loop-again c =
-    let (l, low, none, one) = c .before .before .before .before .loop .inv in
-    let less = c .before .before .before .loop-test .taken in
-    let (r, at) = c .before .before .before .before .before .before .before .before .pre in
+    let at-nodes-agree = c .before .before in
+    let (l, low, none, one) = at-nodes-agree .before .before .loop .inv in
+    let less = at-nodes-agree .before .loop-test .taken in
+    let (r, at) = at-nodes-agree .before .before .before .before .before .before .pre in
     let found = c .next-least .ensures in
-    let here = leader-not _ _ _ none (split-by-rows _ _ _ _ _ (one less) ∙ sym (c .before .before .nodes-agree .ensures) ∙ c .before .if1 .left) in (
-      found .high,
-      low,
-      leader-skip _ _ _ _ _ _ here (found .low) (λ j a b q e. found .skips j a b (q, at .led .leads j (omega arith) ∙ e)),
-      found .is,
-    )
+    let here = leader-not _ _ _ none (split-by-rows _ _ _ _ _ (one less) ∙ sym (at-nodes-agree .nodes-agree .ensures) ∙ c .before .if1 .left) in
+    (found .high, low, leader-skip _ _ _ _ _ _ here (found .low) (λ j a b q e. found .skips j a b (q, at .led .leads j (omega arith) ∙ e)), found .is)
 
 returns-2 : tie.Need-returns-2 Inv-loop μ-loop
 unfolding leaderBy

@@ -3,6 +3,7 @@ use Rattle.scan.proofs.Basics.{ℕ, _-_, _≤_, _<_, arith}
 use Rattle.minimize.specs.Tables.{classIn}
 use Rattle.minimize.specs.Leaders.{LeastIn}
 use Rattle.minimize.proofs.Leaders.{skips-more}
+use borrow.Author.Needs.{needs}
 use Rattle.minimize.proofs.classes.next_least.Statement.{statement}
 use Rattle.minimize.proofs.classes.next_least.Tie as tie
 
@@ -14,10 +15,7 @@ abbrev μ-loop : tie.MeasureT-loop
 
 returns : tie.Need-returns Inv-loop μ-loop
 unfolding classIn
-returns c =
-    let d = c .before .before .before .before in
-    let (low, high, few, skips) = d .before .loop .inv in
-    record { low = low; high = high; is = λ l. c .before .before .if1 .taken; skips = skips }
+returns c = search needs
 
 loop-again : tie.Need-loop-again Inv-loop μ-loop
 unfolding classIn

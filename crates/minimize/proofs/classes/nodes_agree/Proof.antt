@@ -25,20 +25,23 @@ targets-agree-requires : tie.Need-targets-agree-requires
 targets-agree-requires c κs = search (even-rows, needs)
 
 returns : tie.Need-returns
-returns c = c .targets-agree .ensures ∙ even-walked (c .before .before .before .before .before .before .before .before .pre) (c .before .before .before .if1 .taken)
+returns c =
+    let at-if1 = c .before .before .before in
+    c .targets-agree .ensures ∙ even-walked (at-if1 .before .before .before .before .before .pre) (at-if1 .if1 .taken)
 
 rows-agree-requires : tie.Need-rows-agree-requires
 rows-agree-requires c κs =
-    let p = c .before .before .before .before .before .before .before .before .before .pre in
+    let at-first-key = c .before .before in
+    let p = at-first-key .before .before .before .before .before .before .before .pre in
     let h = p .of in
-    rw (c .before .before .before .row-width .ensures, c .before .before .first-key .ensures, c .before .first-key2 .ensures)
-    (rows (h .readable) (p .long) (p .left) (p .right) (h .start _ (p .left)) (h .start _ (p .right)))
+    rw (at-first-key .before .row-width .ensures, at-first-key .first-key .ensures, c .before .first-key2 .ensures) (rows (h .readable) (p .long) (p .left)
+    (p .right) (h .start _ (p .left)) (h .start _ (p .right)))
 
 returns-2 : tie.Need-returns-2
 returns-2 c =
-    let p = c .before .before .before .before .before .before .before .before .before .before .pre in
-    c .rows-agree .ensures
-    ∙ rw (c .before .before .before .before .row-width .ensures, c .before .before .before .first-key .ensures, c .before .before .first-key2 .ensures)
+    let at-first-key2 = c .before .before in
+    let p = at-first-key2 .before .before .before .before .before .before .before .before .pre in
+    c .rows-agree .ensures ∙ rw (at-first-key2 .before .before .row-width .ensures, at-first-key2 .before .first-key .ensures, at-first-key2 .first-key2 .ensures)
     (walked (p .of .readable) _ _ (p .left) (p .right))
 
 pub nodes-agree-spec : {M : Type 1} → statement M

@@ -18,11 +18,10 @@ abbrev μ-loop : tie.MeasureT-loop
 μ-loop net sheet starts classes counts level nodes next₀ n₀ next n = nodes - n
 
 loop-holds : tie.Need-loop-holds Inv-loop μ-loop
-loop-holds c = (omega arith, c .before .before .before .pre .of .readable .arcs .sizes .few-nodes, refl, record { leads = λ n l. absurd (omega arith) })
+loop-holds c = (omega arith, search needs, refl, record { leads = λ n l. absurd (omega arith) })
 
 leader-requires : tie.Need-leader-requires Inv-loop μ-loop
-leader-requires c κs =
-    (c .before .before .before .before .before .before .pre, record { node = c .before .loop-test .taken; led = c .before .before .loop .inv .3 })
+leader-requires c κs = (search needs, search needs)
 
 cast-next : tie.Need-cast-next Inv-loop μ-loop
 cast-next c =

@@ -13,9 +13,7 @@ abbrev μ-loop : tie.MeasureT-loop
 μ-loop sheet classes counts width a b i j x₀ y₀ t₀ x y t = width - t
 
 returns : tie.Need-returns Inv-loop μ-loop
-returns c =
-    let d = c .before .before in
-    walk-differ (d .before .before .loop .inv) (d .before .loop-test .taken) (d .has-key .ensures) (c .before .has-key2 .ensures) (not-true _ (c .if1 .taken))
+returns c = search (walk-differ, not-true, needs)
 
 values-agree-requires : tie.Need-values-agree-requires Inv-loop μ-loop
 values-agree-requires c κs =
@@ -52,5 +50,6 @@ returns-3 c =
 pub rows-agree-spec : {M : Type 1} → statement M
 rows-agree-spec =
     tie.close
-    (tie.spec Inv-loop μ-loop (λ c. walk-start (c .before .before .pre)) (λ c. search needs) (λ c κs. search needs) (λ c. search needs) (λ c κs. search needs) returns (λ c. search needs)
-    values-agree-requires returns-2 (λ c. search needs) (λ c. search needs) (λ c. search needs) loop-again (λ c. search needs) loop-again-2 returns-3)
+    (tie.spec Inv-loop μ-loop (λ c. search (walk-start, needs)) (λ c. search needs) (λ c κs. search needs) (λ c. search needs) (λ c κs. search needs)
+    returns (λ c. search needs) values-agree-requires returns-2 (λ c. search needs) (λ c. search needs) (λ c. search needs) loop-again
+    (λ c. search needs) loop-again-2 returns-3)

@@ -16,21 +16,24 @@ abbrev μ-loop : tie.MeasureT-loop
 μ-loop net sheet counts nodes entries starts₀ n₀ starts n = nodes - n
 
 loop-holds : tie.Need-loop-holds Inv-loop μ-loop
-loop-holds c = (c .before .before .before .before .pre, omega arith, refl, λ j l. absurd (omega arith))
+loop-holds c = (search needs, omega arith, refl, λ j l. absurd (omega arith))
 
 start : tie.Need-loop-again Inv-loop μ-loop
 unfolding firstEntry
 start c =
-    let (r, l, long, is) = c .before .before .before .loop .inv in
-    let w = c .before .before .before .loop in
+    let at-loop = c .before .before .before in
+    let (r, l, long, is) = at-loop .loop .inv in
+    let w = at-loop .loop in
     (r, omega arith, simp length-set long, stored-more (firstEntry _ _ _) (w .starts) (w .n) _ is (omega arith) (c .lower-bound .ensures ∙ rw (c .before .first-key .ensures)))
 
 cast-starts : tie.Need-cast-starts Inv-loop μ-loop
 unfolding firstEntry
 cast-starts c =
-    let a = c .before .before .before .before .before .before .before .before .args in
-    let w = c .before .before .before .loop in
-    let e : c .lower-bound .result ≡ firstEntry (a .net .now) (a .sheet .now) (a .counts) (w .n) = c .lower-bound .ensures ∙ rw (c .before .first-key .ensures) in
+    let at-loop = c .before .before .before in
+    let a = at-loop .before .before .before .before .before .args in
+    let w = at-loop .loop in
+    let e : c .lower-bound .result ≡ firstEntry (a .net .now) (a .sheet .now) (a .counts) (w .n) = c .lower-bound .ensures ∙ rw (c .before .first-key .ensures)
+    in
     omega (arith, e, start-low (w .inv .0) (a .counts) (w .n))
 
 returns : tie.Need-returns Inv-loop μ-loop

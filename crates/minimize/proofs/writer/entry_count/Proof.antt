@@ -23,7 +23,7 @@ abbrev μ-loop : tie.MeasureT-loop
 μ-loop net sheet new reps entries₀ i₀ entries i = new .found - i
 
 loop-holds : tie.Need-loop-holds Inv-loop μ-loop
-loop-holds c = let h = c .before .before .before .pre in (h, omega arith, entries-none _ _, omega arith)
+loop-holds c = search (entries-none, needs)
 
 row-size-requires : tie.Need-row-size-requires Inv-loop μ-loop
 row-size-requires c κs = let r = new-row (c .before .before .loop .inv .0) (c .if1 .taken) refl in (r .readable, r .old)

@@ -1,5 +1,5 @@
 -- `minimize::writer::run_of` meets its contract.
-use Rattle.scan.proofs.Basics.{arith, refl}
+use Rattle.scan.proofs.Basics.{arith}
 use borrow.Author.Needs.{needs}
 use Rattle.minimize.specs.Runs.{runFrom, runSize}
 use Rattle.minimize.proofs.Runs.{runs-rise}
@@ -15,7 +15,7 @@ sub-size c =
 
 returns : tie.Need-returns
 unfolding runFrom runSize
-returns c = (c .before .lower-bound .ensures, rw (c .lower-bound2 .ensures, c .before .lower-bound .ensures) refl)
+returns c = (search needs, search needs)
 
 pub run-of-spec : {M : Type 1} → statement M
 run-of-spec =

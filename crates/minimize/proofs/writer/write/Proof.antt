@@ -19,13 +19,14 @@ returns c =
 
 returns-2 : tie.Need-returns-2
 returns-2 c =
-    let d = c .before .before .before .before .before .before in
+    let at-write-form = c .before .before in
+    let d = at-write-form .before .before .before .before in
     let p = d .before .before .before .before .before .pre in
     let a = d .before .before .before .before .before .args in
     let e = form-length (p .1) _ (d .before .entry-count .ensures .are) in
-    let f = sym (d .output-fault .ensures) ∙ c .before .before .before .before .enum-told .given .1 in
+    let f = sym (d .output-fault .ensures) ∙ at-write-form .before .before .enum-told .given .1 in
     let z : length (minimalForm (a .net .now) (a .sheet .now)) ≤ length (a .out .now) = omega (arith, e, room-holds _ _ f) in
-    answered-one refl (p .0) (rw (← e) at f) (ap Written (sym e)) (c .before .before .write-form .ensures ∙ placed-front _ _ z)
+    answered-one refl (p .0) (rw (← e) at f) (ap Written (sym e)) (at-write-form .write-form .ensures ∙ placed-front _ _ z)
 
 pub write-spec : {M : Type 1} → statement M
 write-spec =

@@ -7,9 +7,7 @@ use Rattle.minimize.proofs.writer.write_form.Tie as tie
 
 -- what is asked lies too far back to be searched for
 write-section-requires-4 : tie.Need-write-section-requires-4
-write-section-requires-4 c κs =
-    let d = c .before .before .before .before .before .before .before .before .before .before .before .before .before in
-    d .before .before .before .before .before .before .before .before .before .before .before .before .pre .0
+write-section-requires-4 c κs = search needs
 
 returns : tie.Need-returns
 unfolding minimalForm

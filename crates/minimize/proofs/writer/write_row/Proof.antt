@@ -35,10 +35,7 @@ entry-word-requires : tie.Need-entry-word-requires Inv-loop μ-loop
 entry-word-requires c κs = search (running-worded, needs)
 
 loop-again : tie.Need-loop-again Inv-loop μ-loop
-loop-again c =
-    let w = c .before .before .before .before in
-    let (r, l, a) = w .before .before .before .before .loop .inv in
-    (r, omega arith, running-more r _ (w .entry-word .ensures) a (c .before .before .put .ensures))
+loop-again c = search (running-more, needs)
 
 returns : tie.Need-returns Inv-loop μ-loop
 returns c = let (r, l, a) = c .before .before .loop .inv in running-all r (omega arith) a
@@ -46,8 +43,6 @@ returns c = let (r, l, a) = c .before .before .loop .inv in running-all r (omega
 pub write-row-spec : {M : Type 1} → statement M
 write-row-spec =
     tie.close
-    (tie.spec Inv-loop μ-loop (λ c κs. search needs) (λ c κs. c .before .before .before .before .pre .readable)
-    (λ c κs. let h = c .before .before .before .before .before .pre in (h .few, h .new))
-    (λ c κs. search needs) run-of-requires loop-holds add-entry-word entry-word-requires (λ c κs. search needs)
-    (λ c. omega arith) (λ c. omega arith) loop-again
-    (λ c. let (r, l, a) = c .before .before .loop .inv in appended-length a) returns)
+    (tie.spec Inv-loop μ-loop (λ c κs. search needs) (λ c κs. search needs) (λ c κs. search needs) (λ c κs. search needs) run-of-requires loop-holds
+    add-entry-word entry-word-requires (λ c κs. search needs) (λ c. omega arith) (λ c. omega arith) loop-again (λ c. search (appended-length, needs))
+    returns)
