@@ -6,12 +6,12 @@ use Rattle.trim.proofs.trim.Statement.{statement}
 use Rattle.trim.proofs.trim.Tie as tie
 
 returns : tie.Need-returns
-returns c = refused-scratch (sym (c .before .before .before .scratch-fault .ensures) ∙ c .before .found .given .1) refl
+returns c = refused-scratch (sym (search needs) ∙ c .before .found .given .1) refl
 
 returns-2 : tie.Need-returns-2
 returns-2 c =
     let at-trim-into = c .before .before .before .before .before .before .before .before in
-    served (sym (at-trim-into .before .before .before .before .before .scratch-fault .ensures)
+    served (sym (search needs)
     ∙ at-trim-into .before .before .before .enum-told .given .1) (at-trim-into .trim-into .ensures) (c .before .before .clear-front .ensures)
 
 pub trim-spec : {M : Type 1} → statement M

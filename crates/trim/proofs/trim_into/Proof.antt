@@ -7,14 +7,13 @@ use Rattle.trim.proofs.trim_into.Statement.{statement}
 use Rattle.trim.proofs.trim_into.Tie as tie
 
 returns : tie.Need-returns
-returns c = refused-words (sym (c .before .before .before .check .ensures) ∙ c .before .found .given .1) refl
+returns c = refused-words (sym (search needs) ∙ c .before .found .given .1) refl
 
 kept-requires : tie.Need-kept-requires
-kept-requires c κs = reply-readable _ _ (sym (c .before .before .check .ensures) ∙ c .enum-told .given .1)
+kept-requires c κs = reply-readable _ _ (sym (search needs) ∙ c .enum-told .given .1)
 
 write-requires : tie.Need-write-requires
-write-requires c κs =
-    let d = c .before .before in (sym (d .before .before .before .check .ensures) ∙ d .before .enum-told .given .1, d .kept .ensures)
+write-requires c κs = let d = c .before .before in (sym (search needs) ∙ d .before .enum-told .given .1, d .kept .ensures)
 
 pub trim-into-spec : {M : Type 1} → statement M
 trim-into-spec = tie.close (tie.spec (λ c κs. search needs) (λ c. search needs) returns (λ c. search needs) kept-requires write-requires (λ c. search needs) (λ c. search needs) (λ c. search needs))

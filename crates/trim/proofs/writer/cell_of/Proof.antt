@@ -21,7 +21,7 @@ element-copy-out-result c =
 returns : tie.Need-returns
 returns c =
     let d = c .before in
-    let p = d .before .before .before .before .before .before .pre in arc-cell (p .0) (p .1) (d .before .before .transitions .ensures) (d .if1 .taken) .1
+    let p = d .before .before .before .before .before .before .pre in arc-cell (p .0) (p .1) (search needs) (d .if1 .taken) .1
 
 -- ---- a count
 
@@ -41,7 +41,7 @@ returns-2 : tie.Need-returns-2
 returns-2 c =
     let d = c .before .before in
     let p = d .before .before .before .before .before .before .pre in
-    count-cell (p .0) (p .1) (d .before .before .transitions .ensures) (c .before .places .ensures) (d .if1 .left) .1
+    count-cell (p .0) (p .1) (search needs) (c .before .places .ensures) (d .if1 .left) .1
 
 pub cell-of-spec : {M : Type 1} → statement M
 cell-of-spec =

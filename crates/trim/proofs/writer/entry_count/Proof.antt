@@ -12,14 +12,13 @@ use Rattle.trim.proofs.writer.entry_count.Statement.{statement}
 use Rattle.trim.proofs.writer.entry_count.Tie as tie
 
 abbrev Inv-loop : tie.InvT-loop
-Inv-loop net sheet cells all entries₀ i₀ entries i =
-    NewCells net sheet cells × (all ≡ entryCount sheet) × (i ≤ all) × (entries ≤ i) × (entries ≡ count (entryKept (petriNet net) sheet) i)
+Inv-loop net sheet cells all entries₀ i₀ entries i = NewCells net sheet cells × (all ≡ entryCount sheet) × (i ≤ all) × (entries ≤ i) × (entries ≡ count (entryKept (petriNet net) sheet) i)
 
 abbrev μ-loop : tie.MeasureT-loop
 μ-loop net sheet cells all entries₀ i₀ entries i = all - i
 
 loop-holds : tie.Need-loop-holds Inv-loop μ-loop
-loop-holds c = (c .before .before .before .pre, refl, omega arith, omega arith, count-none _)
+loop-holds c = (search needs, refl, omega arith, omega arith, count-none _)
 
 cell-of-requires : tie.Need-cell-of-requires Inv-loop μ-loop
 cell-of-requires c κs = let (h, a, l, m, e) = c .before .loop .inv in (h, omega arith)
@@ -27,12 +26,12 @@ cell-of-requires c κs = let (h, a, l, m, e) = c .before .loop .inv in (h, omega
 loop-again : tie.Need-loop-again Inv-loop μ-loop
 loop-again c =
     let (h, a, l, m, e) = c .before .before .before .loop .inv in
-    (h, a, omega arith, omega arith, count-hit _ _ e (entry-kept _ _ _ (c .before .cell-of .ensures) (c .if1 .taken)))
+    (h, a, omega arith, omega arith, count-hit _ _ e (search (entry-kept, needs)))
 
 loop-again-2 : tie.Need-loop-again-2 Inv-loop μ-loop
 loop-again-2 c =
     let (h, a, l, m, e) = c .before .before .before .loop .inv in
-    (h, a, omega arith, omega arith, count-miss _ _ e (entry-dropped _ _ _ (c .before .cell-of .ensures) (c .if1 .left)))
+    (h, a, omega arith, omega arith, count-miss _ _ e (search (entry-dropped, needs)))
 
 returns : tie.Need-returns Inv-loop μ-loop
 returns c = let (h, a, l, m, e) = c .before .loop .inv in counted (h .readable) _ (omega arith) e

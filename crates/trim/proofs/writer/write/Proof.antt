@@ -15,12 +15,10 @@ returns-2 : tie.Need-returns-2
 returns-2 c = search (list-short, needs)
 
 write-sheet-requires : tie.Need-write-sheet-requires
-write-sheet-requires c κs =
-    let d = c .before .before .before .before .before .before .before .before in (d .before .before .before .before .before .before .before .pre .1, d .entry-count .ensures)
+write-sheet-requires c κs = (search needs, search needs)
 
 write-list-requires : tie.Need-write-list-requires
-write-list-requires c κs =
-    let d = c .before .before .before .before .before .before .before .before .before .before .before .before .before in d .before .before .before .before .before .before .before .pre .1 .new
+write-list-requires c κs = search needs
 
 returns-3 : tie.Need-returns-3
 returns-3 c = search (both-written, needs)

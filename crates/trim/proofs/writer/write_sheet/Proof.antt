@@ -27,12 +27,12 @@ cell-of-requires c κs = let (h, k, a, l, m, w) = c .before .loop .inv in (h .ne
 new-key-requires : tie.Need-new-key-requires Inv-loop μ-loop
 new-key-requires c κs =
     let (h, k, a, l, m, w) = c .before .before .before .loop .inv in
-    (h, record { entry = omega arith; kept = entry-kept _ _ _ (c .before .cell-of .ensures) (c .if1 .taken) })
+    (h, record { entry = omega arith; kept = entry-kept _ _ _ (search needs) (c .if1 .taken) })
 
 new-value-requires : tie.Need-new-value-requires Inv-loop μ-loop
 new-value-requires c κs =
     let (h, k, a, l, m, w) = c .before .before .before .before .loop .inv in
-    (h .new, record { entry = omega arith; kept = entry-kept _ _ _ (c .before .before .cell-of .ensures) (c .before .if1 .taken) })
+    (h .new, record { entry = omega arith; kept = entry-kept _ _ _ (search needs) (c .before .if1 .taken) })
 
 add-put-3 : tie.Need-add-put-3 Inv-loop μ-loop
 add-put-3 c = let (h, k, a, l, m, w) = c .before .before .before .before .before .before .before .before .before .before .loop .inv in omega arith
@@ -70,7 +70,7 @@ loop-again c =
 loop-again-2 : tie.Need-loop-again-2 Inv-loop μ-loop
 loop-again-2 c =
     let (h, k, a, l, m, w) = c .before .before .before .loop .inv in
-    (h, k, a, omega arith, omega arith, written-miss _ _ _ _ w (entry-dropped _ _ _ (c .before .cell-of .ensures) (c .if1 .left)))
+    (h, k, a, omega arith, omega arith, written-miss _ _ _ _ w (search (entry-dropped, needs)))
 
 same-length : tie.Need-same-length Inv-loop μ-loop
 same-length c =
@@ -81,7 +81,7 @@ returns : tie.Need-returns Inv-loop μ-loop
 returns c =
     let (h, k, a, l, m, w) = c .before .loop .inv in
     let p₂ = c .before .before .before .before .before in
-    written-all (h .new .readable) k _ (h .found-is) (omega arith) (p₂ .before .before .before .before .put .ensures .held) (p₂ .put2 .ensures .held) w
+    written-all (h .new .readable) k _ (h .found-is) (omega arith) (search needs) (p₂ .put2 .ensures .held) w
 
 pub write-sheet-spec : {M : Type 1} → statement M
 write-sheet-spec =
