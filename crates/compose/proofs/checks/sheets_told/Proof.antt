@@ -21,12 +21,10 @@ loop-holds : tie.Need-loop-holds Inv-loop μ-loop
 loop-holds c = (omega arith, λ j l. absurd (omega arith))
 
 array-read-task-verdict : tie.Need-array-read-task-verdict Inv-loop μ-loop
-array-read-task-verdict c =
-    omega arith
+array-read-task-verdict c = omega arith
 
 cast-t17 : tie.Need-cast-t17 Inv-loop μ-loop
-cast-t17 c =
-    omega arith
+cast-t17 c = omega arith
 
 returns : tie.Need-returns Inv-loop μ-loop
 returns c =
@@ -36,16 +34,14 @@ returns c =
     let k = v .before .before .loop-test .taken in
     record {
       passes = λ e. accepted-refused _ _ e (c .enum-told .given .1);
-      fails = λ r e. record { below = k; before = l .loop .inv .1; there = turn-fails _ _ _ _ _ _ s k (v .before .pick .ensures) (v .task-verdict .ensures) r e };
+      fails = λ r e. record { below = k; before = l .loop .inv .1; there = turn-fails _ _ _ _ _ _ s k (search needs) (v .task-verdict .ensures) r e };
     }
 
 loop-again : tie.Need-loop-again Inv-loop μ-loop
 loop-again c =
     let v = c .before .before in
     let l = v .before .before .before in
-    let s = l .before .before .before .before .before .before .pre in
-    let k = v .before .before .loop-test .taken in
-    (omega arith, below-more _ _ (l .loop .inv .1) (turn-passes _ _ _ _ _ _ s k (v .before .pick .ensures) (v .task-verdict .ensures) (c .enum-told2 .given .1)))
+    (omega arith, below-more _ _ (l .loop .inv .1) (search (turn-passes, needs)))
 
 returns-2 : tie.Need-returns-2 Inv-loop μ-loop
 returns-2 c =
