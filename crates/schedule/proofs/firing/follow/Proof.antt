@@ -52,7 +52,7 @@ loop-again c =
     let e = arc-found _ _ r _ _ _ (sym (c .before .before .before .before .arc .ensures) ∙ (c .before .before .e .given .1)) in (
       omega arith,
       (c .value .ensures) ∙ after-more _ _ _ _ _ (w .loop .inv .1) _ e,
-      rw (c .value .ensures) (target-node _ _ _ _ (r .sizes .some-transition) (r .holds) (w .loop .inv .2) _ e),
+      rw (c .value .ensures) (search (target-node, needs)),
       first-more _ _ (w .loop .inv .3) (firing-passes _ _ _ _ _ (w .loop .inv .1) _ e),
       entry-more _ _ _ _ _ (w .loop .inv .1) _ e,
     )

@@ -9,10 +9,10 @@ use Rattle.schedule.proofs.firing.step.Statement.{statement}
 use Rattle.schedule.proofs.firing.step.Tie as tie
 
 walker-fault-requires : tie.Need-walker-fault-requires
-walker-fault-requires c κs = accepted-readable _ _ (c .before .before .pre)
+walker-fault-requires c κs = search (accepted-readable, needs)
 
 returns : tie.Need-returns
-returns c = walker-refused _ _ _ _ (c .before .before .before .before .before .before .pre) _ _ (c .before .before .before .walker-fault .ensures) (c .before .found .given .1)
+returns c = search (walker-refused, needs)
 
 cast-entry : tie.Need-cast-t17
 cast-entry c =
