@@ -6,12 +6,13 @@ use Rattle.mend.proofs.measure.checked.Statement.{statement}
 use Rattle.mend.proofs.measure.checked.Tie as tie
 
 returns : tie.Need-returns
-returns c = words-refused _ _ (c .before .before .check-arcs .ensures) (c .enum-told .given .1)
+returns c = search (words-refused, needs)
 
 returns-2 : tie.Need-returns-2
 returns-2 c =
-    nodes-refused _ _ (sym (c .before .before .before .before .before .check-arcs .ensures) ∙ c .before .before .before .enum-told2 .given .1)
-    (c .before .before .nodes .ensures) refl (c .enum-told3 .given .1)
+    let at-nodes = c .before .before in
+    nodes-refused _ _ (sym (at-nodes .before .before .before .check-arcs .ensures) ∙ at-nodes .before .enum-told2 .given .1) (at-nodes .nodes .ensures)
+    refl (c .enum-told3 .given .1)
 
 returns-3 : tie.Need-returns-3
 returns-3 c =

@@ -23,7 +23,7 @@ unfolding changedCell
 loop-again c = search (storing-more, needs)
 
 returns : tie.Need-returns Inv-loop μ-loop
-returns c = storing-all (c .before .loop .inv) (c .loop-test .left)
+returns c = search (storing-all, needs)
 
 pub changed-cells-spec : {M : Type 1} → statement M
 changed-cells-spec =

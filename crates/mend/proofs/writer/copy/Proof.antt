@@ -23,7 +23,7 @@ loop-again : tie.Need-loop-again Inv-loop μ-loop
 loop-again c = (omega arith, search (copied-more, needs))
 
 same-length : tie.Need-same-length Inv-loop μ-loop
-same-length c = appended-length (c .before .loop .inv .1)
+same-length c = search (appended-length, needs)
 
 returns : tie.Need-returns Inv-loop μ-loop
 returns c = let w = c .before .loop in let e : w .i ≡ c .before .before .before .before .args .n = omega arith in rw e at (w .inv .1)

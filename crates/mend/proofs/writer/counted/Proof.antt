@@ -21,7 +21,7 @@ unfolding partTo
 loop-holds c = (search (rows-none, needs), refl)
 
 loop-again : tie.Need-loop-again Inv-loop μ-loop
-loop-again c = let d = c .before .before in let (w, e) = d .before .before .before .loop .inv in (search (rows-more, needs), part-count _ _ _ CountKeys _ (d .part-row .ensures) e (c .filled .ensures))
+loop-again c = search (rows-more, part-count, needs)
 
 add-entries : tie.Need-add-entries Inv-loop μ-loop
 add-entries c = let (w, e) = loop-again c in omega (arith, part-few _ _ _ CountKeys _ e)

@@ -24,7 +24,7 @@ loop-again : tie.Need-loop-again Inv-loop μ-loop
 loop-again c = (search (rows-more, needs), search (part-more, needs))
 
 same-length : tie.Need-same-length Inv-loop μ-loop
-same-length c = appended-length (c .before .loop .inv .1)
+same-length c = search (appended-length, needs)
 
 returns : tie.Need-returns Inv-loop μ-loop
 returns c =
