@@ -42,8 +42,18 @@ nodes-agree-requires c κs =
     let (r, at) = start .pre in
     let less = c .loop-test .taken in
     let m : c .before .loop .m < nodeCount (start .args .sheet .now) = omega (arith, less) in
-    record { of = r .of; long = r .long; left = m; right = at .node; even = λ e. record { arcs = r .arcs e; inner = omega (arith, less); offers = r .offers
-    e _ _ m (at .node) (c .before .loop .inv .3 less) }; }
+    record {
+      of = r .of;
+      long = r .long;
+      left = m;
+      right = at .node;
+      even = λ e. record {
+        arcs = r .arcs e;
+        inner = omega (arith, less);
+        offers = r .offers
+            e _ _ m (at .node) (c .before .loop .inv .3 less);
+      };
+    }
 
 returns : tie.Need-returns Inv-loop μ-loop
 unfolding leaderBy inClass

@@ -32,8 +32,7 @@ cast-starts c =
     let at-loop = c .before .before .before in
     let a = at-loop .before .before .before .before .before .args in
     let w = at-loop .loop in
-    let e : c .lower-bound .result ≡ firstEntry (a .net .now) (a .sheet .now) (a .counts) (w .n) = c .lower-bound .ensures ∙ rw (c .before .first-key .ensures)
-    in
+    let e : c .lower-bound .result ≡ firstEntry (a .net .now) (a .sheet .now) (a .counts) (w .n) = c .lower-bound .ensures ∙ rw (c .before .first-key .ensures) in
     omega (arith, e, start-low (w .inv .0) (a .counts) (w .n))
 
 returns : tie.Need-returns Inv-loop μ-loop

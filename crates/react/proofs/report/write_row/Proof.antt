@@ -49,8 +49,8 @@ duration-requires c κs = (search (row-shape, needs), search (within, needs))
 mul-early : tie.Need-mul-early Inv-loop μ-loop
 mul-early c =
     let at-transition = c .before .before in
-    omega (arith, row-low (at-transition .before .before .loop .inv) (at-transition .before .loop-test .taken) (at-transition .transition .ensures) (c
-    .before .leads-to .ensures))
+    let leads = c .before .leads-to .ensures in
+    omega (arith, row-low (at-transition .before .before .loop .inv) (at-transition .before .loop-test .taken) (at-transition .transition .ensures) leads)
 
 element-copy-out-early : tie.Need-element-copy-out-early Inv-loop μ-loop
 element-copy-out-early c = search (row-low, needs)
@@ -58,8 +58,11 @@ element-copy-out-early c = search (row-low, needs)
 add-early : tie.Need-add-early Inv-loop μ-loop
 add-early c =
     let at-leads-to = c .before .before in
-    omega (arith, early-fits (at-leads-to .before .before .before .loop .inv) (at-leads-to .before .before .loop-test .taken) (at-leads-to .before
-    .transition .ensures) (at-leads-to .leads-to .ensures) (c .before .duration .ensures))
+    omega (
+      arith,
+      early-fits (at-leads-to .before .before .before .loop .inv) (at-leads-to .before .before .loop-test .taken) (at-leads-to .before
+          .transition .ensures) (at-leads-to .leads-to .ensures) (c .before .duration .ensures),
+    )
 
 duration-requires-2 : tie.Need-duration-requires-2 Inv-loop μ-loop
 duration-requires-2 c κs = (search (row-shape, needs), search (within, needs))
@@ -89,9 +92,7 @@ add-late c =
 add-i : tie.Need-add-i Inv-loop μ-loop
 add-i c =
     let at-test = c .before .before .before .before .before .before .before .before .before .before in
-    let p =
-    at-test .before .before .before .before .before .before .before .before .before .before .pre
-    in
+    let p = at-test .before .before .before .before .before .before .before .before .before .before .pre in
     omega (arith, end-most (rows (p .mapped)) (p .node))
 
 loop-less : tie.Need-loop-less Inv-loop μ-loop

@@ -28,8 +28,8 @@ loop-again c =
     let at-loop = c .before .before .before in
     let (a, b, d, f) = at-loop .loop .inv in
     let s = at-loop .before .before .before .before .before .pre .sizes in
-    (simp length-set a, omega arith, d, stored-more _ (at-loop .loop .starts) _ _ f (omega arith) (c .lower-bound .ensures ∙ ap (lowerBound _ 2 _) (c
-    .before .arcs-start .ensures .0 ∙ arcs-start-is _ _ (omega arith) (s .some-transition) (s .few-transitions))))
+    let first = c .before .arcs-start .ensures .0 ∙ arcs-start-is _ _ (omega arith) (s .some-transition) (s .few-transitions) in
+    (simp length-set a, omega arith, d, stored-more _ (at-loop .loop .starts) _ _ f (omega arith) (c .lower-bound .ensures ∙ ap (lowerBound _ 2 _) first))
 
 cast-starts-3 : tie.Need-cast-starts-3 Inv-loop μ-loop
 cast-starts-3 c = omega (arith, arcs-within)
