@@ -145,7 +145,7 @@ REFUSALS = {
         "Plan the transition after one that drains the place, or correct its capacity.",
     ),
     28: Refusal(
-        "number of sheets",
+        "wrong number of sheets",
         "There are more or fewer sheets to compose than the net has sources, or more than four.",
         "Give one sheet for each source, in any order. A net with more than four sources has to be planned in one sheet.",
     ),

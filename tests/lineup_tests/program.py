@@ -110,7 +110,7 @@ def statuses(tally, folder):
         (1, "mend x.net hoard.sheet", ["hoard.sheet:2:3: refused, 25 no counts fit", "node n, s -> n: a: 0 - 0 + 1 = 1, and another way to node n gives 0", "node n is reached by no firing and then holds nothing", "core: answer 25 none 0"]),
         (1, "mend shared.net starved.sheet", ["starved.sheet:4:3: refused, 25 no counts fit", "node m, w -> n: a: w takes 2, and there is 1", "node m is reached by s and then holds a"]),
         (0, "compose two.net other.sheet x.sheet", ["# composed: 3 nodes, 4 arcs, 1 await node", "# for s: x.sheet, 2 nodes", "# for v: other.sheet, 2 nodes", "# core: answer 0 none 0 length 14 sheet 0", "{n+k}:", "{m+k}:  a"]),
-        (1, "compose two.net x.sheet", ["two.net:3:4: refused, 28 number of sheets", "the net has 2 sources, s, v, and there is 1 sheet", "core: answer 28 none 0 length 0 sheet 0"]),
+        (1, "compose two.net x.sheet", ["two.net:3:4: refused, 28 wrong number of sheets", "the net has 2 sources, s, v, and there is 1 sheet", "core: answer 28 none 0 length 0 sheet 0"]),
         (1, "compose two.net torn.sheet other.sheet", ["torn.sheet:3:1: refused, 11 dead end", "read as one for s alone, without v", "core: answer 11 node 1 length 0 sheet 1"]),
         (1, "compose over.net x.sheet", ["over.net:1:13: refused, 26 overfull start", "core: answer 26 place 0 length 0 sheet 0"]),
         (0, "compose x.net x.sheet", ["# composed: 2 nodes, 2 arcs, 1 await node", "m:  a"]),

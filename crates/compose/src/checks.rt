@@ -32,7 +32,7 @@ pub(crate) fn wrong_number(number: usize, sources: usize) -> bool
     number != sources
 }
 
-// The verdict on all schedules, and the index of the first that is refused.
+// The verdict on all schedules, and the index of the first that is refused, 0 if none is.
 pub(crate) struct SheetsAnswer {
     pub(crate) verdict: Verdict,
     pub(crate) sheet: u32,

@@ -28,7 +28,7 @@ abbrev pub AlwaysAccepted : List ℕ → List ℕ → Type 0
 AlwaysAccepted net sheet = (limit : ℕ) (scratch scratch′ : List ℕ) (answer : CheckAnswer) → limit ≤ length scratch
     → CheckWithinDone limit net sheet scratch answer scratch′ → number (plainCheck answer) ≡ 0
 
--- a call of the minimal form that answered 0 (§11.7), under any limit of scratch, so that of the small panel (§10.20) too; the buffers lent held anything
+-- a call of the minimal form that answered 0 (§11.7), whatever its limit of scratch, which is less on the small panel (§10.20), and whatever the buffers lent held
 pub record Form (net sheet : List ℕ) : Type 0 where
   pub limit : ℕ
   pub out : List ℕ

@@ -27,7 +27,7 @@ abbrev pub plainCheck : CheckAnswer → List ℕ
 plainCheck (Passed c) = 0 ∷ 0 ∷ 0 ∷ c .nodes ∷ c .arcs ∷ c .awaits ∷ []
 plainCheck (Failed r) = plainRefusal r 3
 
--- ---- what both public functions are built on: the verdict, and marks at the await nodes of an accepted schedule
+-- ---- what the three public functions are built on: the verdict, and marks at the await nodes of an accepted schedule
 
 pub record Judged (net : List ℕ) (s : ℕ) (sheet : List ℕ) (answer : NodesAnswer) : Type 0 where
   pub reply : answer .verdict ≡ taskReply net s sheet

@@ -11,18 +11,18 @@ use Rattle.lending.specs.Call.{Core, CallDone, buffer}
 
 -- ---- an answer as plain numbers: §8.1
 
--- the number of the answer, and the i-th of the call's own numbers, which follow number, kind and position; one that can be missing is sent by §8.4
+-- the number of the answer, and the i-th of the call's own numbers, which follow number, kind and position; for one that can be missing see §8.4
 abbrev pub number : List ℕ → ℕ
 number plain = getD plain 0 0
 
 abbrev pub own : List ℕ → ℕ → ℕ
 own plain i = getD plain (3 + i) 0
 
--- all that a call checks: scratch first (§7.54), then its words, and last, if it writes, whether the result fits
+-- all that a call checks: scratch first (§7.54), then the rest, which are its words and, last, whether the result fits
 abbrev pub callChecks : ℕ → List ℕ → List Check → List Check
 callChecks limit scratch rest = once (limit ≤ length scratch) 21 ∷ rest
 
--- an answer with k own numbers: it is 0 exactly if all checks pass; else it is the first check that fails (§7.54), and the own numbers are 0 (§8.3)
+-- an answer with k own numbers: it is 0 exactly if all checks pass; else it is the first check that fails (§7.54), and these k numbers are 0 (§8.3)
 pub record ByChecks (checks : List Check) (plain : List ℕ) (k : ℕ) : Type 0 where
   pub zero : (number plain ≡ 0) ↔ AllPass checks
   -- 0 goes with the kind that counts nothing and the index 0: §7.51

@@ -1,4 +1,4 @@
-// What mending works out before it writes: the checks in their order, and the lengths of both results.
+// What mending works out before it writes: the checks in their order, and how many entries and how many changes there will be.
 ghost use mathlib.Core.Path.{_≡_};
 ghost use Rattle.refusal.specs.Refusal.{refusal};
 ghost use Rattle.refusal.specs.declared.Position.the-variants.{Nothing};

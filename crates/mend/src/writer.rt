@@ -16,7 +16,7 @@ use super::rows;
 use encoding::Row;
 use encoding::Section;
 
-// Which counts of the nodes are written: all, or only those that change.
+// Which counts of the nodes are written: all above 0, or only those that change.
 pub(crate) enum Part {
     Counts,
     Changes,
@@ -36,6 +36,7 @@ fn copy(sheet: &[u32], from: usize, n: usize, out: &mut [u32], at: usize) -> usi
     next
 }
 
+// The cell of a count that changes is 1 more than it, since a count may change to 0; the cell of one that stays is 0.
 fn changed_cell(new: u32, given: u32) -> u32
     requires { ⌜ new ≤ mostCount ⌝ }
     ensures { λ r. ⌜ r ≡ changedNumber new given ⌝ }

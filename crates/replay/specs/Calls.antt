@@ -1,4 +1,4 @@
--- The replay of a log (§10.11): what it makes of its words, and its postcondition. What is true of every call is said in the crate `call`.
+-- The replay of a log (§10.11): what it makes of its words, and its postcondition. What is true of every call is said in the crate `lending`.
 use Prim.Native.Nat.{ℕ}
 use mathlib.Core.Path.{_≡_}
 use mathlib.Core.List.{List, [], _∷_}

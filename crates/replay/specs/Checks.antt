@@ -30,7 +30,7 @@ module _ (N : PetriNet) (sheet log : List ℕ) where
   abbrev pub FiringOffered : ℕ → Type 0
   FiringOffered i = allows (graph N sheet) 0 (firingsTo log (suc i)) ≡ true
 
-  -- they lead to the node that is logged for it: §7.24
+  -- the firings up to the one at index i lead to the node that is logged for it: §7.24
   abbrev pub NodeReached : ℕ → Type 0
   NodeReached i = leads (suc i) ≡ some (loggedAt log i)
 

@@ -25,7 +25,7 @@ pub record LooksUp (net sheet keys starts : List ℕ) (transitions node : ℕ) :
   pub all : transitions ≡ transitionCount net
   pub at-node : node < nodeCount sheet
 
--- ranks of any value; a guess that uses one still fits a word
+-- ranks that may be wrong, but are small enough for a guess made with one to fit its type
 pub record Ranks (ranks : List ℕ) : Type 0 where
   pub long : length ranks ≡ 32
   pub low : (t : ℕ) → t < 32 → getD ranks t 0 ≤ 4096

@@ -55,7 +55,7 @@ pub(crate) fn followed(net: &[u32], sheet: &[u32], log: &[u32]) -> Findings
                         entry,
                     };
                 }
-                // The logged node is the one that was reached. It is taken from the log, so that the next firing does not wait for a read of the schedule.
+                // The logged node is the one that was reached. It is taken from the log: the processor can go on with it while the comparison is still under way.
                 node = logged;
                 entry = Index::Known(e as u32);
                 i += 1;

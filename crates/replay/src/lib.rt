@@ -58,7 +58,7 @@ impl ReplayAnswer {
     }
 }
 
-// Refusal 23. N is looked at before the length, so that the product fits.
+// Refusal 23. N is held to its limit before it is compared with the length, so that the product fits.
 fn log_fault(log: &[u32]) -> Verdict
     ensures { λ r. ⌜ r ≡ verdictOf (logFault (now (log .entry))) ⌝ }
 {

@@ -1,5 +1,5 @@
-// The look-up of a firing's arc without a search. Each node of an accepted schedule offers one whole choice set (§6.3), so that a transition's arc has
-// the same rank in every row that has one. The entry of that rank is guessed and its key compared: keys rise, so the entry with the key is the arc's.
+// The look-up of a firing's arc, mostly without a search. Each node of an accepted schedule offers one whole choice set (§6.3), so that a transition's arc has
+// the same rank in every row that has one. The entry of that rank is guessed and its key compared: keys rise, so the entry with the key is the arc's. A wrong guess is searched for, and its rank kept.
 ghost use mathlib.Core.Path.{_≡_};
 ghost use Rattle.graph.specs.Readable.{ArcsReadable};
 ghost use Rattle.graph.specs.LookUp.{arcLookUp};
@@ -7,7 +7,7 @@ ghost use Rattle.sequential.specs.Words.{entryValue};
 ghost use Rattle.replay.specs.LookUp.{FirstKeys, ArcStarts, LooksUp, Ranks, EntryThere};
 use table::Found;
 
-// The first key of each node's arcs, as the page of row starts has it (§3.9).
+// The key at which the row of each node's arcs begins, as the page of row starts has it (§3.9).
 pub(crate) fn first_keys(net: &[u32], sheet: &[u32]) -> [u16; 128]
     requires { ⌜ ArcsReadable (now net) (now sheet) ⌝ }
     ensures { λ r. ⌜ FirstKeys (now (net .entry)) (now (sheet .entry)) r ⌝ }

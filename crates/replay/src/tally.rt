@@ -12,7 +12,7 @@ ghost use Rattle.replay.specs.Log.{firingCount, firedAt};
 ghost use Rattle.replay.specs.Tally.{LogHolds, firedTimes, sideOf, weighed, added, at, AtMost, Countable, Weighable, Rooms, SideDone, Settled};
 use super::Totals;
 
-// How often each transition fires.
+// The Parikh vector of a log: how often each transition fires.
 fn fired_times(log: &[u32]) -> [u32; 32]
     requires { ⌜ LogHolds (now log) ⌝ }
     requires { ⌜ ((i : ℕ) → i < firingCount (now log) → firedAt (now log) i < 32) ⌝ }
@@ -45,7 +45,7 @@ fn wide(x: u32) -> u64
     x as u64
 }
 
-// The sums, with `times` times a row added. A sum has at most 32 such terms of at most 4,096 times a word, which is far below 2 ^ 50.
+// The sums, with `times` times a row added. A sum has at most 32 such terms of at most 4,096 times a word, which is at most 2 ^ 49.
 fn add_row(sums: [u64; 32], row: [u32; 32], times: u32) -> [u64; 32]
     requires { ⌜ times ≤ 4096 ⌝ }
     requires { ⌜ AtMost 1125899906842624 sums ⌝ }

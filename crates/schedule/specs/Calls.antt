@@ -1,4 +1,4 @@
--- The calls on schedules: what each makes of its words, and its postcondition. What is true of every call is said once, in the crate `call`.
+-- The calls on schedules: what each makes of its words, and its postcondition. What is true of every call is said once, in the crate `lending`.
 use Prim.Native.Nat.{ℕ}
 use mathlib.Core.Path.{_≡_}
 use mathlib.Core.List.{List, [], _∷_}
