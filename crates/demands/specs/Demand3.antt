@@ -25,8 +25,7 @@ pub record Merges (net sheet form : List ℕ) : Type 0 where
 
 -- every call of the check that is lent scratch enough answers 0, whatever its limit: §11.8
 abbrev pub AlwaysAccepted : List ℕ → List ℕ → Type 0
-AlwaysAccepted net sheet = (limit : ℕ) (scratch scratch′ : List ℕ) (answer : CheckAnswer) → limit ≤ length scratch
-    → CheckWithinDone limit net sheet scratch answer scratch′ → number (plainCheck answer) ≡ 0
+AlwaysAccepted net sheet = (limit : ℕ) (s s′ : List ℕ) (a : CheckAnswer) → limit ≤ length s → CheckWithinDone limit net sheet s a s′ → number (plainCheck a) ≡ 0
 
 -- a call of the minimal form that answered 0 (§11.7), whatever its limit of scratch, which is less on the small panel (§10.20), and whatever the buffers lent held
 pub record Form (net sheet : List ℕ) : Type 0 where
@@ -48,8 +47,7 @@ made c = take (size c) (c .out′)
 
 pub record Demand3 : Type 0 where
   -- two are equal, word for word, exactly when every list is allowed from both roots or from neither: §11.8, §11.9
-  pub equal : (net x y : List ℕ) → Accepted net x → Accepted net y → (a : Form net x) (b : Form net y)
-      → (made a ≡ made b) ↔ SameLists (said net x) (said net y) 0 0
+  pub equal : (net x y : List ℕ) → Accepted net x → Accepted net y → (a : Form net x) (b : Form net y) → (made a ≡ made b) ↔ SameLists (said net x) (said net y) 0 0
   -- each form is the one schedule that merging and numbering give: §11.3, §11.5, §11.6
   pub the-form : (net sheet : List ℕ) → Accepted net sheet → (c : Form net sheet) (form : List ℕ) → (form ≡ made c) ↔ Merges net sheet form
   -- it is accepted, and allows the lists that its original allows: §11.9
