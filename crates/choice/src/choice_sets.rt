@@ -150,7 +150,7 @@ fn row_empty(row: [u32; 32], places: usize) -> bool
     true
 }
 
-// The least source (§2.9), or T where there is none: a source draws on no place first.
+// The least source (§2.9), or T if there is none. A source draws on no place, so its first place is P.
 fn first_source(net: &[u32], firsts: &[u32; 32]) -> u32
     requires { ⌜ FirstPlaces (now net) (now firsts) ⌝ }
     ensures { λ r. ⌜ r ≡ firstSource (netByRows (now (net .entry))) ⌝ }

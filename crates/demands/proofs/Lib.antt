@@ -13,6 +13,7 @@ pub mod BesideRun
 pub mod Replay
 pub mod Entries
 pub mod Mend
+pub mod Dependent
 pub mod Compose
 pub mod Trim
 pub mod Reaction
