@@ -21,6 +21,7 @@ pub mod Search
 pub mod Turns
 -- the minimal automaton
 pub mod Quotient
+pub mod Carried
 pub mod Kept
 pub mod Minimal
 pub mod Fewest

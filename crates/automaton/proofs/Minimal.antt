@@ -10,7 +10,8 @@ use Rattle.automaton.proofs.Equivalence.{equivalent-sym, equivalent-tra
 use Rattle.automaton.proofs.Unique.{unique, unique-nodes}
 use Rattle.automaton.proofs.Search.{order-short}
 use Rattle.automaton.proofs.Quotient.{minimal-transitions, minimal-arc, minimal-confined, minimal-breadth-first, quotient}
-use Rattle.automaton.proofs.Kept.{quotient-root, quotient-reduced, quotient-lands, quotient-fires}
+use Rattle.automaton.proofs.Carried.{carried-root, carried-lands, carried-fires}
+use Rattle.automaton.proofs.Kept.{quotient-carries, quotient-reduced}
 
 module _ (fire : List ℕ → ℕ → List ℕ) (A : Automaton) (c : Closed A) (f : Fires fire A) where
   Q : Quotient A (minimal A) (number A)
@@ -19,7 +20,7 @@ module _ (fire : List ℕ → ℕ → List ℕ) (A : Automaton) (c : Closed A) (
   pub minimal-closed : Closed (minimal A)
   minimal-closed = record {
     root = rw (Q .root) at (Q .node 0 (root-reachable A));
-    lands = quotient-lands A (minimal A) (number A) Q;
+    lands = carried-lands (quotient-carries Q);
     bounded = λ i t l.
         byLess i ((minimal A) .nodes) (λ k. minimal-arc A i t k ∙ ap (Option·map (number A)) (c .bounded (representative A i) t (rw (minimal-transitions A) at l)))
         (minimal-confined A .arcs i t);
@@ -28,14 +29,14 @@ module _ (fire : List ℕ → ℕ → List ℕ) (A : Automaton) (c : Closed A) (
   pub minimal-canonical : Canonical fire (minimal A)
   minimal-canonical = record {
     closed = minimal-closed;
-    fires = quotient-fires A (minimal A) (number A) Q fire c f;
+    fires = carried-fires (quotient-carries Q) fire c f;
     breadthFirst = minimal-breadth-first fire A c f;
-    reduced = quotient-reduced A (minimal A) (number A) Q;
+    reduced = quotient-reduced Q;
     confined = minimal-confined A;
   }
 
   pub minimal-equivalent : Equivalent (minimal A) A 0 0
-  minimal-equivalent = quotient-root A (minimal A) (number A) Q
+  minimal-equivalent = carried-root (quotient-carries Q)
 
   pub minimal-size : (minimal A) .nodes ≤ A .nodes
   unfolding minimal minimalBy merged
@@ -47,14 +48,14 @@ module _ (fire : List ℕ → ℕ → List ℕ) (A : Automaton) (c : Closed A) (
   quotient-unique M g R b k bounded T =
       unique fire M (minimal A)
       (record {
-        closed = record { root = rw (R .root) at (R .node 0 (root-reachable A)); lands = quotient-lands A M g R; bounded = bounded };
-        fires = quotient-fires A M g R fire c f;
+        closed = record { root = rw (R .root) at (R .node 0 (root-reachable A)); lands = carried-lands (quotient-carries R); bounded = bounded };
+        fires = carried-fires (quotient-carries R) fire c f;
         breadthFirst = b;
-        reduced = quotient-reduced A M g R;
+        reduced = quotient-reduced R;
         confined = k;
       })
       minimal-canonical
-      (equivalent-trans M A (minimal A) 0 0 0 (quotient-root A M g R) (equivalent-sym (minimal A) A 0 0 minimal-equivalent)) (T ∙ sym (minimal-transitions A))
+      (equivalent-trans M A (minimal A) 0 0 0 (carried-root (quotient-carries R)) (equivalent-sym (minimal A) A 0 0 minimal-equivalent)) (T ∙ sym (minimal-transitions A))
 
 -- ---- canonical automata
 

@@ -9,8 +9,9 @@ use Rattle.automaton.specs.Reach.{Reachable}
 use Rattle.automaton.proofs.Automaton.{follow-arc, follow-on, follow-lands}
 use Rattle.sequential.specs.Petri.{PetriNet}
 use Rattle.composed.specs.Product.{Tasks, OnePerSource, nodeOf, moved, awaits, allAwait, product}
-use Rattle.composed.specs.Composed.{trimmedNumber, composed, Serves, Served, Commutes, serves, Back, back-here, back-on}
-use Rattle.composed.proofs.Trimmed.{part-follow}
+use Rattle.composed.specs.Composed.{trimmedNumber, Serves, Served, Commutes, serves, Back, back-here, back-on}
+use Rattle.automaton.proofs.Carried.{carried-follow}
+use Rattle.composed.proofs.Trimmed.{part-carries}
 use Rattle.composed.proofs.Product.{all-others}
 use Rattle.composed.proofs.Steps.{State, node-below, moved-other, moved-state, moved-commute, reached-state, task-follow}
 use Rattle.composed.proofs.Composed.{served-waits, composed-part}
@@ -72,8 +73,8 @@ module _ (N : PetriNet) (X : Tasks) (H : OnePerSource N X) where
         one-order = first;
         other-order = second;
         waits = T .waits;
-        written = part-follow (product N X) (composed N X) (trimmedNumber (product N X)) (composed-part N X H) (σ ++ τ) s r ∙
+        written = carried-follow (part-carries (composed-part N X H)) (σ ++ τ) s r ∙
             ap (Option·map (trimmedNumber (product N X))) first;
-        written-other = part-follow (product N X) (composed N X) (trimmedNumber (product N X)) (composed-part N X H) (τ ++ σ) s r ∙
+        written-other = carried-follow (part-carries (composed-part N X H)) (τ ++ σ) s r ∙
             ap (Option·map (trimmedNumber (product N X))) second;
       }

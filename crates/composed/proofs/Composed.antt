@@ -21,9 +21,10 @@ use Rattle.sequential.specs.Only.{only}
 use Rattle.scan.proofs.First.{found-some}
 use Rattle.composed.specs.Product.{Tasks, OnePerSource, sizeOf, nodeOf, moved, awaits, waiting, busy, allAwait, product}
 use Rattle.composed.specs.Composed.{trimmedNumber, ReachedPart, composed, Independent}
-use Rattle.composed.proofs.Trimmed.{reached-part, trimmed-reachable, trimmed-breadth-first, trimmed-closed, trimmed-confined, trimmed-transitions, trimmed-size}
+use Rattle.composed.proofs.Trimmed.{part-carries, reached-part, trimmed-breadth-first, trimmed-closed, trimmed-confined, trimmed-transitions, trimmed-size}
 use Rattle.composed.proofs.Removed.{left-source, await-alone, busy-choice, await-offers}
-use Rattle.composed.proofs.Reached.{ScheduleOnReached, part-schedule}
+use Rattle.sequential.specs.OnReached.{HoldsOnReached}
+use Rattle.sequential.proofs.Carried.{carried-schedule}
 use Rattle.composed.proofs.Product.{OthersWait, Fired, waiting-offers, offers-waiting, busy-not, all-waiting, some-busy, one-others, all-others, others-all, step-out, fires-alone}
 use Rattle.composed.proofs.Steps.{node-below, moved-same, moved-others, root-waits, task-step, product-closed, reached-state, one-busy, task-follow}
 use Rattle.composed.proofs.Counts.{root-marking, step-lands, reached-balanced}
@@ -133,7 +134,7 @@ module _ (N : PetriNet) (X : Tasks) (H : OnePerSource N X) where
 
   -- ---- the schedule
 
-  pub product-schedule : Independent N X → ScheduleOnReached N (product N X)
+  pub product-schedule : Independent N X → HoldsOnReached N (product N X)
   product-schedule I = record {
     starts = unfold product in (root-marking N X H);
     choices = state-choice;
@@ -151,8 +152,7 @@ module _ (N : PetriNet) (X : Tasks) (H : OnePerSource N X) where
   pub composed-schedule : Independent N X → IsSchedule N (composed N X)
   unfolding composed
   composed-schedule I =
-      part-schedule N (product N X) (composed N X) (trimmedNumber (product N X)) composed-part (product-schedule I)
-      (trimmed-reachable (product N X) (product-closed N X H))
+      carried-schedule N (part-carries composed-part) .1 (product-schedule I)
 
   -- §11.5
   pub composed-breadth-first : BreadthFirst (composed N X)

@@ -23,7 +23,7 @@ use Rattle.sequential.proofs.Clauses.{enabled↔}
 use Rattle.composed.specs.Product.{Tasks, OnePerSource, marking, product}
 use Rattle.composed.specs.Composed.{trimmedNumber, ReachedPart, composed, relabelled, Composable}
 use Rattle.composed.specs.Composed.{Disabled, Dependent, ReachedEnabled, at-root, by-arc, Independent, Balanced, disabledBy, disabledAt, isDependent}
-use Rattle.composed.proofs.Reached.{reach-induction}
+use Rattle.automaton.proofs.Reach.{reach-induction}
 use Rattle.composed.proofs.Product.{step-out}
 use Rattle.composed.proofs.Steps.{product-closed}
 use Rattle.composed.proofs.Counts.{root-balanced, root-marking, step-lands, step-balanced}

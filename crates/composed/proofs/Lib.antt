@@ -1,6 +1,5 @@
 pub mod Tuples
 pub mod Trimmed
-pub mod Reached
 pub mod Removed
 pub mod Product
 pub mod Steps

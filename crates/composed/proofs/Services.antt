@@ -17,7 +17,8 @@ use Rattle.composed.specs.Product.{Tasks, OnePerSource, nodeOf, moved, w
 use Rattle.composed.specs.Composed.{ReachedPart, OwnSources}
 use Rattle.composed.proofs.Product.{OthersWait, Fired, step-out, busy-not, all-others}
 use Rattle.composed.proofs.Steps.{State, node-below, moved-same, moved-state, moved-others, root-node, root-waits, root-state, source-own, task-step}
-use Rattle.composed.proofs.Trimmed.{part-follow}
+use Rattle.automaton.proofs.Carried.{carried-follow}
+use Rattle.composed.proofs.Trimmed.{part-carries}
 
 module _ (N : PetriNet) (X : Tasks) (H : OnePerSource N X) (i : ℕ) (l : i < X .number) where
   -- t is no other task's source
@@ -62,6 +63,6 @@ module _ (N : PetriNet) (X : Tasks) (H : OnePerSource N X) (i : ℕ) (l : i < X 
   pub services-allowed : (M : Automaton) (f : ℕ → ℕ) → ReachedPart (product N X) M f → (σ : List ℕ) → OwnSources N (X .source i) σ → allows M 0 σ ≡ allows (X .task i) 0 σ
   services-allowed M f R σ h =
       ap (λ (n : ℕ). allows M n σ) (sym (R .root))
-      ∙ unfold allows in (ap found (part-follow (product N X) M f R σ 0 (root-reachable (product N X))) ∙ found-map f (follow (product N X) 0 σ))
+      ∙ unfold allows in (ap found (carried-follow (part-carries R) σ 0 (root-reachable (product N X))) ∙ found-map f (follow (product N X) 0 σ))
       ∙ own-allows σ 0 (root-state N X H) (all-others X 0 i (root-waits N X H)) (own-list σ h)
       ∙ ap (λ (n : ℕ). allows (X .task i) n σ) (root-node N X H i)

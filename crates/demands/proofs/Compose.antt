@@ -35,11 +35,12 @@ use Rattle.composed.proofs.Counts.{held as counts-held, reached-balanced}
 use Rattle.composed.proofs.Done.{compose-law, compose-judged}
 use Rattle.composed.proofs.Named.{named}
 use Rattle.composed.proofs.OneSource.{renumbered}
-use Rattle.composed.proofs.Reached.{await-kept, await-back}
+use Rattle.sequential.proofs.Carried.{await-carried}
 use Rattle.composed.proofs.Services.{services-allowed}
 use Rattle.composed.proofs.Sheet.{written-words, written-schedule, written-part, written-breadth-first, written-short}
 use Rattle.composed.proofs.States.{reached↔one-busy}
-use Rattle.composed.proofs.Trimmed.{part-follow}
+use Rattle.automaton.proofs.Carried.{carried-follow}
+use Rattle.composed.proofs.Trimmed.{part-carries}
 use Rattle.demands.specs.Terms.{said}
 use Rattle.demands.specs.Compose.{tasks, Composing, composedBy, composedSize, Written, ComposeDemand}
 use Rattle.demands.proofs.Calls.{unread-one, own-size, own-front, own-rest, own-fits}
@@ -128,8 +129,8 @@ module _ (net : List ℕ) (k : ℕ) (a b c d : List ℕ) where
       numbered = rw words-are (written-breadth-first N T S k sheet composes);
       counts = λ s p r l. rw (count-is s p r l) (whole-count s p r l);
       awaits = λ s r. (
-        λ w. await-kept N (product N X) (said net (composedBy x)) state part s r (await-sources N X one-each s w),
-        λ w. sources-await N X one-each s r (await-back N (product N X) (said net (composedBy x)) state part s r w),
+        λ w. await-carried N (part-carries part) s r .1 (await-sources N X one-each s w),
+        λ w. sources-await N X one-each s r (await-carried N (part-carries part) s r .0 w),
       );
       either = λ s i j m n σ τ r w li lj e p q.
           let K = commutes N X one-each s i j m n σ τ r w li lj e p q in
@@ -138,8 +139,8 @@ module _ (net : List ℕ) (k : ℕ) (a b c d : List ℕ) where
             K .waits,
             K .one-order,
             K .other-order,
-            part-follow (product N X) G state part (σ ++ τ) s r ∙ ap (Option·map state) (K .one-order),
-            part-follow (product N X) G state part (τ ++ σ) s r ∙ ap (Option·map state) (K .other-order),
+            carried-follow (part-carries part) (σ ++ τ) s r ∙ ap (Option·map state) (K .one-order),
+            carried-follow (part-carries part) (τ ++ σ) s r ∙ ap (Option·map state) (K .other-order),
           );
       short = rw size-is (written-short N T S k sheet composes);
       fits = rw size-same (own-fits (compose-law net k sheet) (x .done) zero 0 refl);

@@ -21,7 +21,7 @@ use Rattle.lending.proofs.Lent.{room-two}
 use Rattle.lending.proofs.Done.{done-zero}
 use Rattle.lending.proofs.Demands.{every-call-none, every-call-two}
 use Rattle.trimmed.specs.Trim.{newNumber, trimmedWords, keptList}
-use Rattle.trimmed.specs.Clauses.{HoldsOnReached}
+use Rattle.sequential.specs.OnReached.{HoldsOnReached}
 use Rattle.trimmed.specs.Call.{plainTrim, TrimDone}
 use Rattle.trimmed.specs.declared.TrimAnswer.{TrimAnswer}
 use Rattle.trimmed.proofs.Words.{result-trimming, result-list, list-old, list-size, result-unique, result-lists, result-reached, result-accepted, all-on-reached}

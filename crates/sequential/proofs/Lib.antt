@@ -14,6 +14,8 @@ pub mod Published
 pub mod Paths
 pub mod Numbers
 pub mod Bounds
+-- what a map onto another graph keeps
+pub mod Carried
 -- words past the longest
 pub mod Cut
 -- a net with one source alone

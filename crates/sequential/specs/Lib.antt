@@ -1,6 +1,7 @@
 pub mod Petri
 pub mod Words
 pub mod Schedule
+pub mod OnReached
 pub mod Published
 pub mod Runs
 pub mod Checks

@@ -1,7 +1,6 @@
 -- the numbers of kept nodes
 pub mod Rank
 -- a graph that is cut down
-pub mod Trimming
 pub mod Unique
 pub mod Trimmed
 -- its words, entry by entry

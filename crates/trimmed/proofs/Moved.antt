@@ -18,8 +18,8 @@ use Rattle.encoding.proofs.Recoded.{encode-decode}
 use Rattle.trimmed.specs.Trim.{isKept, newNumber, trimmedGraph}
 use Rattle.trimmed.specs.Entries.{countNode, countPlace, entryNode, entryKept, newKey, newValue}
 use Rattle.trimmed.proofs.Gathered.{row-rises}
-use Rattle.trimmed.proofs.Trimming.{trimming-arc}
-use Rattle.trimmed.proofs.Trimmed.{kept↔, trimming}
+use Rattle.automaton.proofs.Carried.{carried-arc}
+use Rattle.trimmed.proofs.Trimmed.{kept↔, trimming, trimming-carries}
 
 module _ (N : PetriNet) (sheet : List ℕ) where
   abbrev A : Automaton
@@ -153,7 +153,7 @@ module _ (N : PetriNet) (sheet : List ℕ) where
 
     pub says-kept : (k v : ℕ) → Says N M k v → Kept k v
     says-kept k v (inl a) =
-        let (n, m, r, p, b, q) = trimming-arc A M (newNumber A) (trimming A closed) (a .node) (a .transition) v (a .is-node) (a .arc) in
+        let (n, m, r, p, b, q) = carried-arc (trimming-carries (trimming A closed)) (a .node) (a .transition) v (a .is-node) (a .arc) in
         let l = reachable-node A closed n r in
         let e = entered (n * N .transitions + a .transition) m
         (inl (record { node = n; transition = a .transition; is-node = l; is-transition = a .is-transition; key = refl; arc = b })) in

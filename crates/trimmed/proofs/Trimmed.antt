@@ -9,9 +9,9 @@ use Rattle.automaton.specs.Reach.{Reachable}
 use Rattle.automaton.specs.Quotient.{Confined}
 use Rattle.automaton.proofs.Automaton.{arc-cases}
 use Rattle.automaton.proofs.Reach.{reachable-node, root-reachable, reached↔reachable}
+use Rattle.automaton.proofs.Carried.{Carries, carried-root, carried-reached, carried-lands}
 use Rattle.trimmed.specs.Trim.{isKept, oldNumbers, newNumber, trimmedGraph, Trimming, ListsReached}
 use Rattle.trimmed.proofs.Rank.{Ranked, listed-length, rank-less, listed-at, ranked, ranked-at, listed-rising, listed-all}
-use Rattle.trimmed.proofs.Trimming.{trimming-lists, trimming-reached, trimming-lands}
 
 -- ---- new nodes and what they have
 
@@ -57,6 +57,9 @@ module _ (A : Automaton) where
   unfolding oldNumbers
   old-rising i j l h = listed-rising (isKept A) (A .nodes) i j l (omega (arith, listed-length (isKept A) (A .nodes)))
 
+pub trimming-carries : {A M : Automaton} {f : ℕ → ℕ} → Trimming A M f → Carries A M f
+trimming-carries Q = record { root = Q .root; node = Q .node; onto = Q .onto; arcs = Q .arcs; labels = Q .labels }
+
 module _ (A : Automaton) (c : Closed A) where
   pub kept↔ : (n : ℕ) → (isKept A n ≡ true) ↔ Reachable A n
   unfolding isKept
@@ -95,17 +98,17 @@ module _ (A : Automaton) (c : Closed A) where
   pub trimmed-closed : Closed (trimmedGraph A)
   trimmed-closed = record {
     root = rw (trimming .root) at (new-node 0 (root-reachable A));
-    lands = trimming-lands A (trimmedGraph A) (newNumber A) trimming;
+    lands = carried-lands (trimming-carries trimming);
     bounded = λ i t l.
         byLess i (trimmedGraph A .nodes) (λ k. trimmed-arc A i t k ∙ ap (Option·map (newNumber A)) (c .bounded (getD (oldNumbers A) i 0) t (rw (trimmed-transitions A) at l)))
         (trimmed-confined A .arcs i t);
   }
 
   pub trimmed-lists : SameLists (trimmedGraph A) A 0 0
-  trimmed-lists = trimming-lists A (trimmedGraph A) (newNumber A) trimming
+  trimmed-lists = carried-root (trimming-carries trimming) .lists
 
   pub trimmed-reached : (i : ℕ) → i < trimmedGraph A .nodes → Reachable (trimmedGraph A) i
-  trimmed-reached = trimming-reached A (trimmedGraph A) (newNumber A) trimming
+  trimmed-reached = carried-reached (trimming-carries trimming)
 
   -- ---- where all of it is reached
 

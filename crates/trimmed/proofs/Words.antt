@@ -12,10 +12,12 @@ use Rattle.refusal.proofs.Judges.{Spared, spared-append, without-spared}
 use Rattle.net.specs.Checks.{netChecks}
 use Rattle.sequential.specs.Petri.{PetriNet, petriNet}
 use Rattle.sequential.specs.Words.{nodeCount, graph}
+use Rattle.sequential.specs.OnReached.{HoldsOnReached}
 use Rattle.sequential.specs.Checks.{wordChecks, graphChecks, sheetChecks}
 use Rattle.sequential.specs.Check.{scheduleReply}
 use Rattle.sequential.specs.Known.{WordsHold}
 use Rattle.sequential.proofs.Accepted.{accepted-exactly}
+use Rattle.sequential.proofs.Carried.{carried-schedule}
 use Rattle.graph.specs.Readable.{wordsReply, Readable}
 use Rattle.graph.proofs.Readable.{reply-readable, words}
 use Rattle.encoding.specs.Encoding.{held, encode, Encodable}
@@ -23,10 +25,9 @@ use Rattle.encoding.proofs.Encoded.{encoded-nodes, encoded-entries, encoded-len
 use Rattle.encoding.proofs.Decoded.{decode-encode}
 use Rattle.encoding.proofs.Recoded.{encode-decode, decoded-encodable}
 use Rattle.trimmed.specs.Trim.{isKept, oldNumbers, newNumber, trimmedGraph, trimmedWords, keptList, Trimming, ListsReached}
-use Rattle.trimmed.specs.Clauses.{HoldsOnReached, HoldsOnAll}
-use Rattle.trimmed.proofs.Trimming.{trimming-schedule}
+use Rattle.trimmed.specs.Clauses.{HoldsOnAll}
 use Rattle.trimmed.proofs.Unique.{Onto, onto-count, onto-rank}
-use Rattle.trimmed.proofs.Trimmed.{kept↔, nodes-few, kept-length, trimmed-nodes, trimmed-transitions, trimmed-label, trimmed-confined, old-node, trimming}
+use Rattle.trimmed.proofs.Trimmed.{kept↔, nodes-few, kept-length, trimmed-nodes, trimmed-transitions, trimmed-label, trimmed-confined, old-node, trimming, trimming-carries}
 use Rattle.trimmed.proofs.Trimmed.{lists-reached, trimmed-closed, trimmed-lists, trimmed-reached, all-listed, old-of-new, trimmed-itself}
 use Rattle.trimmed.proofs.Entries.{kept-few}
 
@@ -150,7 +151,7 @@ module _ (net sheet : List ℕ) (h : wordsReply net sheet ≡ verdict.Accepted) 
 
   pub result-accepted : (scheduleReply net (trimmedWords net sheet) ≡ verdict.Accepted) ↔ HoldsOnReached (petriNet net) (graph (petriNet net) sheet)
   result-accepted =
-      let (f, g) = trimming-schedule A (graph N (trimmedWords net sheet)) (newNumber A) result-trimming N in
+      let (f, g) = carried-schedule N (trimming-carries result-trimming) in
       let (a, b) = accepted-exactly net (trimmedWords net sheet) in
       (λ e. f (a e .schedule), λ s. b (record { net-accepted = readable .arcs .accepted; words = result-words; schedule = g s }))
 
