@@ -9,7 +9,7 @@ use Rattle.scan.proofs.Sum.{sum-distinct}
 use Rattle.automaton.specs.Automaton.{Automaton, Closed}
 use Rattle.automaton.specs.Reach.{Reachable}
 use Rattle.automaton.specs.Equivalence.{Equivalent, Fires}
-use Rattle.automaton.specs.Quotient.{minimal, number, representative, Quotient, Renumbering}
+use Rattle.automaton.specs.Quotient.{minimal, classNumber, representative, Quotient, Renumbering}
 use Rattle.automaton.proofs.Quotient.{representative-node, representative-reachable, number-representative, quotient}
 use Rattle.automaton.proofs.Minimal.{equivalent→minimal-equal}
 
@@ -38,7 +38,7 @@ distinct-all f N h d v l = byTest (any hits N) (λ e. let (i, li, q) = any-out h
 module _ (fire : List ℕ → ℕ → List ℕ) (A : Automaton) (c : Closed A) (f : Fires fire A) where
   distinct : (i j : ℕ) → i < j → j < (minimal A) .nodes → representative A i ≡ representative A j → ⊥
   distinct i j ij lj e =
-      let q : i ≡ j = sym (number-representative fire A c f i (omega arith)) ∙ ap (number A) e ∙ number-representative fire A c f j lj in
+      let q : i ≡ j = sym (number-representative fire A c f i (omega arith)) ∙ ap (classNumber A) e ∙ number-representative fire A c f j lj in
       omega arith
 
   -- what is counted at every node comes to no more over the classes
@@ -49,14 +49,14 @@ module _ (fire : List ℕ → ℕ → List ℕ) (A : Automaton) (c : Closed A) (
 
   module _ (e : (minimal A) .nodes ≡ A .nodes) where
     -- every node stands for its class
-    own-representative : (n : ℕ) → n < A .nodes → (number A n < (minimal A) .nodes) × (representative A (number A n) ≡ n)
+    own-representative : (n : ℕ) → n < A .nodes → (classNumber A n < (minimal A) .nodes) × (representative A (classNumber A n) ≡ n)
     own-representative n l =
         let (i, li, q) = distinct-all (representative A) (A .nodes) (λ i li. representative-node fire A c f i (rw e li)) (λ i j ij lj. distinct i j ij (rw e lj)) n l in
         let m : i < (minimal A) .nodes = rw e li in
-        let p : number A n ≡ i = ap (number A) (sym q) ∙ number-representative fire A c f i m in
+        let p : classNumber A n ≡ i = ap (classNumber A) (sym q) ∙ number-representative fire A c f i m in
         (rw p m, ap (representative A) p ∙ q)
 
-    pub minimal-renumbering : Renumbering A (minimal A) (number A)
+    pub minimal-renumbering : Renumbering A (minimal A) (classNumber A)
     minimal-renumbering = record {
       root = Q .root;
       node = λ n l. own-representative n l .0;
@@ -66,15 +66,15 @@ module _ (fire : List ℕ → ℕ → List ℕ) (A : Automaton) (c : Closed A) (
       labels = λ n l. Q .labels n (reached n l);
     }
       where
-        Q : Quotient A (minimal A) (number A)
+        Q : Quotient A (minimal A) (classNumber A)
         Q = quotient fire A c f
 
         reached : (n : ℕ) → n < A .nodes → Reachable A n
-        reached n l = rw (← own-representative n l .1) (representative-reachable fire A c f (number A n) (own-representative n l .0))
+        reached n l = rw (← own-representative n l .1) (representative-reachable fire A c f (classNumber A n) (own-representative n l .0))
 
 -- an automaton with an equivalent root and as few nodes is the minimal one up to the numbers of its nodes
 pub fewest-renumbering : (fire : List ℕ → ℕ → List ℕ) (A B : Automaton) → Closed A → Closed B → Fires fire A → Fires fire B → A .transitions ≡ B .transitions
-    → Equivalent A B 0 0 → B .nodes ≡ (minimal A) .nodes → Renumbering B (minimal A) (number B)
+    → Equivalent A B 0 0 → B .nodes ≡ (minimal A) .nodes → Renumbering B (minimal A) (classNumber B)
 fewest-renumbering fire A B cA cB fA fB T e N =
     let q : minimal A ≡ minimal B = equivalent→minimal-equal fire A B cA cB fA fB T e in
-    subst (λ (M : Automaton). Renumbering B M (number B)) (sym q) (minimal-renumbering fire B cB fB (sym (N ∙ ap (λ (M : Automaton). M .nodes) q)))
+    subst (λ (M : Automaton). Renumbering B M (classNumber B)) (sym q) (minimal-renumbering fire B cB fB (sym (N ∙ ap (λ (M : Automaton). M .nodes) q)))

@@ -4,7 +4,7 @@ use Rattle.scan.proofs.Tests.{byLess}
 use Rattle.automaton.specs.Automaton.{Automaton, Closed, SameLists}
 use Rattle.automaton.specs.Equivalence.{Equivalent, Fires, same}
 use Rattle.automaton.specs.BreadthFirst.{BreadthFirst}
-use Rattle.automaton.specs.Quotient.{merged, minimalBy, minimal, number, representative, Quotient, Confined, Canonical}
+use Rattle.automaton.specs.Quotient.{merged, minimalBy, minimal, classNumber, representative, Quotient, Confined, Canonical}
 use Rattle.automaton.proofs.Reach.{root-reachable}
 use Rattle.automaton.proofs.Equivalence.{equivalent-sym, equivalent-trans, same-equivalence}
 use Rattle.automaton.proofs.Unique.{unique, unique-nodes}
@@ -14,7 +14,7 @@ use Rattle.automaton.proofs.Carried.{carried-root, carried-lands, carri
 use Rattle.automaton.proofs.Kept.{quotient-carries, quotient-reduced}
 
 module _ (fire : List ℕ → ℕ → List ℕ) (A : Automaton) (c : Closed A) (f : Fires fire A) where
-  Q : Quotient A (minimal A) (number A)
+  Q : Quotient A (minimal A) (classNumber A)
   Q = quotient fire A c f
 
   pub minimal-closed : Closed (minimal A)
@@ -22,7 +22,7 @@ module _ (fire : List ℕ → ℕ → List ℕ) (A : Automaton) (c : Closed A) (
     root = rw (Q .root) at (Q .node 0 (root-reachable A));
     lands = carried-lands (quotient-carries Q);
     bounded = λ i t l.
-        byLess i ((minimal A) .nodes) (λ k. minimal-arc A i t k ∙ ap (Option·map (number A)) (c .bounded (representative A i) t (rw (minimal-transitions A) at l)))
+        byLess i ((minimal A) .nodes) (λ k. minimal-arc A i t k ∙ ap (Option·map (classNumber A)) (c .bounded (representative A i) t (rw (minimal-transitions A) at l)))
         (minimal-confined A .arcs i t);
   }
 

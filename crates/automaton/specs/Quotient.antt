@@ -30,9 +30,9 @@ minimalBy r A = merged r A (order r A)
 unfoldable pub minimal : Automaton → Automaton
 minimal A = minimalBy (same A) A
 
--- the number that an old node gets
-unfoldable pub number : Automaton → ℕ → ℕ
-number A n = indexOf (same A) (order (same A) A) n
+-- the number of a node's class in it
+unfoldable pub classNumber : Automaton → ℕ → ℕ
+classNumber A n = indexOf (same A) (order (same A) A) n
 
 -- the old node that stands for new node i
 abbrev pub representative : Automaton → ℕ → ℕ

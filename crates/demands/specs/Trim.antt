@@ -18,8 +18,7 @@ use Rattle.judge.specs.declared.CheckAnswer.{CheckAnswer}
 use Rattle.schedule.specs.Calls.{CheckDone}
 use Rattle.lending.specs.Demands.{number, own, EveryCall}
 use Rattle.trimmed.specs.Trim.{Trimming, ListsReached}
-use Rattle.sequential.specs.OnReached.{HoldsOnReached}
-use Rattle.trimmed.specs.Clauses.{HoldsOnAll}
+use Rattle.sequential.specs.OnReached.{HoldsOnReached, HoldsOnAll}
 use Rattle.trimmed.specs.Call.{plainTrim, TrimDone}
 use Rattle.trimmed.specs.declared.TrimAnswer.{TrimAnswer}
 use Rattle.demands.specs.Terms.{said, Accepted}

@@ -8,7 +8,7 @@ use Rattle.refusal.specs.declared.Verdict.{Verdict}
 use Rattle.refusal.specs.declared.Verdict.the-variants.{Accepted, Refused}
 use Rattle.refusal.proofs.Judges.{Judges}
 use Rattle.lending.specs.Call.{Core, CallDone, buffer, scratchFault, outputFault, wordsVerdict, callVerdict, answerOf, outsAfter, writtenOver, scratchAfter}
-use Rattle.lending.specs.Demands.{callChecks, EveryCall, Alike, Independent, SameFromAnyLimit}
+use Rattle.lending.specs.Demands.{callChecks, EveryCall, Alike, BuffersUnread, SameFromAnyLimit}
 use Rattle.lending.proofs.Lent.{room-one, room-two}
 use Rattle.lending.proofs.Laws.{call-enough}
 use Rattle.lending.proofs.Judged.{Lawful, scratch-judged, output-judged, judges-same, words-judged, words-judged-none}
@@ -109,7 +109,7 @@ verdicts-alike core limit outs₁ outs₂ s₁ s₂ a h =
     rw (scratch, output)
 
 pub independent : {Answer : Type 0} {core : Core Answer} {plain : Answer → List ℕ} {k : ℕ} {own : List ℕ} {words : List Check} (limit : ℕ)
-    → Lawful core plain k own words → Independent core limit plain
+    → Lawful core plain k own words → BuffersUnread core limit plain
 independent {core = core} limit law outs₁ outs₂ outs₁′ outs₂′ s₁ s₂ s₁′ s₂′ a₁ a₂ a h c d =
     let same : a₁ ≡ a₂ = c .reply ∙ ap (answerOf core) (verdicts-alike core limit outs₁ outs₂ s₁ s₂ a h) ∙ sym (d .reply) in
     (same, λ z i. front i outs₁ outs₁′ (done-zero law c z .written i) ∙ sym (front i outs₂ outs₂′ (done-zero law d (rw same at z) .written i)))

@@ -75,8 +75,8 @@ Alike needed a b = (needed ≤ length a) ↔ (needed ≤ length b)
 
 module _ {Answer : Type 0} (core : Core Answer) where
   -- neither the answer nor a written word depends on what scratch and the output buffers held
-  abbrev pub Independent : ℕ → (Answer → List ℕ) → Type 0
-  Independent limit plain = (outs₁ outs₂ outs₁′ outs₂′ : List (List ℕ)) (s₁ s₂ s₁′ s₂′ : List ℕ) (a₁ a₂ : Answer)
+  abbrev pub BuffersUnread : ℕ → (Answer → List ℕ) → Type 0
+  BuffersUnread limit plain = (outs₁ outs₂ outs₁′ outs₂′ : List (List ℕ)) (s₁ s₂ s₁′ s₂′ : List ℕ) (a₁ a₂ : Answer)
       → Alike limit s₁ s₂ → ((i : ℕ) → Alike (length (buffer (core .results) i)) (buffer outs₁ i) (buffer outs₂ i))
       → CallDone limit core outs₁ s₁ a₁ outs₁′ s₁′ → CallDone limit core outs₂ s₂ a₂ outs₂′ s₂′
       → (a₁ ≡ a₂)

@@ -6,7 +6,7 @@ use Rattle.scan.proofs.Sum.{sum-ext, sum-plus}
 use Rattle.scan.proofs.First.{found-map}
 use Rattle.automaton.specs.Automaton.{Automaton, Closed}
 use Rattle.automaton.specs.Equivalence.{Fires}
-use Rattle.automaton.specs.Quotient.{minimal, number, representative}
+use Rattle.automaton.specs.Quotient.{minimal, classNumber, representative}
 use Rattle.automaton.proofs.Quotient.{minimal-arc, minimal-label}
 use Rattle.automaton.proofs.Fewest.{minimal-sum}
 use Rattle.sequential.specs.Petri.{PetriNet}
@@ -44,7 +44,7 @@ module _ (N : PetriNet) (fire : List ℕ → ℕ → List ℕ) (A : Automaton) (
   unfolding degree
   minimal-degree i l = rw (
     count-ext (finds ((minimal A) .arc i)) (finds (A .arc (representative A i))) (N .transitions)
-        (λ t m. unfold finds in (ap found (minimal-arc A i t l) ∙ found-map (number A) (A .arc (representative A i) t))),
+        (λ t m. unfold finds in (ap found (minimal-arc A i t l) ∙ found-map (classNumber A) (A .arc (representative A i) t))),
     count-ext (holdsSome N (minimal A) i) (holdsSome N A (representative A i)) (N .places) (λ p m. unfold holdsSome held in (rw (minimal-label A i l))),
   )
 

@@ -4,7 +4,7 @@ use Rattle.scan.proofs.Basics.{ℕ, _+_, _*_, _≤_, _<_, arith, _≡_, refl, s
 use Rattle.automaton.specs.Automaton.{Automaton, Closed, SameLists}
 use Rattle.automaton.specs.BreadthFirst.{BreadthFirst}
 use Rattle.automaton.specs.Equivalence.{Equivalent, Fires}
-use Rattle.automaton.specs.Quotient.{minimal, number, representative, Quotient, Renumbering}
+use Rattle.automaton.specs.Quotient.{minimal, classNumber, representative, Quotient, Renumbering}
 use Rattle.automaton.proofs.Quotient.{minimal-transitions, minimal-label, minimal-confined, minimal-breadth-first, representative-node, quotient}
 use Rattle.automaton.proofs.Minimal.{minimal-closed, minimal-equivalent, minimal-size, minimal-idempotent, minimal-equal↔lists, minimal-fewest, quotient-unique}
 use Rattle.automaton.proofs.Fewest.{fewest-renumbering}
@@ -43,7 +43,7 @@ module _ (N : PetriNet) (A : Automaton) (E : Encodable N A) (s : IsSchedule N A)
       node i l = representative-node (fire N) A (E .closed) fires i l
 
   pub minimal-schedule : IsSchedule N (minimal A)
-  minimal-schedule = quotient-schedule N A (minimal A) (number A) (quotient (fire N) A (E .closed) fires) (E .closed) s
+  minimal-schedule = quotient-schedule N A (minimal A) (classNumber A) (quotient (fire N) A (E .closed) fires) (E .closed) s
 
 -- ---- an accepted sheet
 
@@ -115,8 +115,8 @@ module _ (net sheet : List ℕ) (h : Accepted net sheet) where
 
   pub form-quotient : QuotientForm (petriNet net) sheet (minimalForm net sheet)
   form-quotient = record {
-    number = number A;
-    quotient = subst (λ (M : Automaton). Quotient A M (number A)) (sym form-graph) (quotient (fire N) A closed fired);
+    number = classNumber A;
+    quotient = subst (λ (M : Automaton). Quotient A M (classNumber A)) (sym form-graph) (quotient (fire N) A closed fired);
     breadthFirst = subst BreadthFirst (sym form-graph) (minimal-breadth-first (fire N) A closed fired);
   }
 
@@ -159,8 +159,8 @@ module _ (net x y : List ℕ) (hx : Accepted net x) (hy : Accepted net y) where
       record {
         fewest = rw nodes (minimal-fewest (fire (petriNet net)) (G x) (G y) (closed net x hx) (closed net y hy) (fired net x hx) (fired net y hy) same);
         renumbered = λ e. (
-          number (G y),
-          subst (λ (M : Automaton). Renumbering (G y) M (number (G y))) (sym (form-graph net x hx)) (fewest-renumbering (fire (petriNet net)) (G x) (G y)
+          classNumber (G y),
+          subst (λ (M : Automaton). Renumbering (G y) M (classNumber (G y))) (sym (form-graph net x hx)) (fewest-renumbering (fire (petriNet net)) (G x) (G y)
               (closed net x hx) (closed net y hy) (fired net x hx) (fired net y hy) refl same (e ∙ nodes)),
         );
       }

@@ -12,7 +12,7 @@ use Rattle.refusal.proofs.Judges.{Spared, spared-append, without-spared}
 use Rattle.net.specs.Checks.{netChecks}
 use Rattle.sequential.specs.Petri.{PetriNet, petriNet}
 use Rattle.sequential.specs.Words.{nodeCount, graph}
-use Rattle.sequential.specs.OnReached.{HoldsOnReached}
+use Rattle.sequential.specs.OnReached.{HoldsOnReached, HoldsOnAll}
 use Rattle.sequential.specs.Checks.{wordChecks, graphChecks, sheetChecks}
 use Rattle.sequential.specs.Check.{scheduleReply}
 use Rattle.sequential.specs.Known.{WordsHold}
@@ -25,7 +25,6 @@ use Rattle.encoding.proofs.Encoded.{encoded-nodes, encoded-entries, encoded-len
 use Rattle.encoding.proofs.Decoded.{decode-encode}
 use Rattle.encoding.proofs.Recoded.{encode-decode, decoded-encodable}
 use Rattle.trimmed.specs.Trim.{isKept, oldNumbers, newNumber, trimmedGraph, trimmedWords, keptList, Trimming, ListsReached}
-use Rattle.trimmed.specs.Clauses.{HoldsOnAll}
 use Rattle.trimmed.proofs.Unique.{Onto, onto-count, onto-rank}
 use Rattle.trimmed.proofs.Trimmed.{kept↔, nodes-few, kept-length, trimmed-nodes, trimmed-transitions, trimmed-label, trimmed-confined, old-node, trimming, trimming-carries}
 use Rattle.trimmed.proofs.Trimmed.{lists-reached, trimmed-closed, trimmed-lists, trimmed-reached, all-listed, old-of-new, trimmed-itself}
