@@ -28,7 +28,7 @@ fn named(name: &[u8], n: u64) {
     io::print_decimal(STDOUT_FILENO, n);
 }
 
-fn kind(kind: usize) {
+fn kind(kind: u64) {
     match kind {
         0 => text(b" none"),
         1 => text(b" entry"),
@@ -39,42 +39,42 @@ fn kind(kind: usize) {
 }
 
 // The three numbers that every answer begins with: §8.1.
-fn told(number: usize, of: usize, position: usize) {
-    named(b"answer", number as u64);
-    kind(of);
-    named(b"", position as u64);
+fn begin(plain: [u64; 6]) {
+    named(b"answer", plain[0]);
+    kind(plain[1]);
+    named(b"", plain[2]);
 }
 
 pub(crate) fn verdict(verdict: Verdict) {
     let plain = verdict.plain();
-    told(plain[0], plain[1], plain[2]);
+    begin(plain);
 }
 
 pub(crate) fn check_answer(answer: CheckAnswer) {
     let plain = answer.plain();
-    told(plain[0], plain[1], plain[2]);
-    named(b" nodes", plain[3] as u64);
-    named(b" arcs", plain[4] as u64);
-    named(b" awaits", plain[5] as u64);
+    begin(plain);
+    named(b" nodes", plain[3]);
+    named(b" arcs", plain[4]);
+    named(b" awaits", plain[5]);
 }
 
 pub(crate) fn fire_answer(answer: FireAnswer) {
     let plain = answer.plain();
-    told(plain[0], plain[1], plain[2]);
-    named(b" entry", plain[3] as u64);
+    begin(plain);
+    named(b" entry", plain[3]);
 }
 
 pub(crate) fn run_answer(answer: RunAnswer) {
     let plain = answer.plain();
-    told(plain[0], plain[1], plain[2]);
-    named(b" fired", plain[3] as u64);
-    named(b" node", plain[4] as u64);
-    named(b" entry", plain[5] as u64);
+    begin(plain);
+    named(b" fired", plain[3]);
+    named(b" node", plain[4]);
+    named(b" entry", plain[5]);
 }
 
 pub(crate) fn replay_answer(answer: ReplayAnswer) {
     let plain = answer.plain();
-    told(plain[0] as usize, plain[1] as usize, plain[2] as usize);
+    begin(plain);
     named(b" taken", plain[3]);
     named(b" put", plain[4]);
     named(b" entry", plain[5]);
@@ -82,44 +82,44 @@ pub(crate) fn replay_answer(answer: ReplayAnswer) {
 
 pub(crate) fn form_answer(answer: FormAnswer) {
     let plain = answer.plain();
-    told(plain[0], plain[1], plain[2]);
-    named(b" length", plain[3] as u64);
+    begin(plain);
+    named(b" length", plain[3]);
 }
 
 pub(crate) fn mend_answer(answer: MendAnswer) {
     let plain = answer.plain();
-    told(plain[0], plain[1], plain[2]);
-    named(b" length", plain[3] as u64);
-    named(b" list", plain[4] as u64);
+    begin(plain);
+    named(b" length", plain[3]);
+    named(b" list", plain[4]);
 }
 
 pub(crate) fn compose_answer(answer: ComposeAnswer) {
     let plain = answer.plain();
-    told(plain[0], plain[1], plain[2]);
-    named(b" length", plain[3] as u64);
-    named(b" sheet", plain[4] as u64);
+    begin(plain);
+    named(b" length", plain[3]);
+    named(b" sheet", answer.sheet());
 }
 
 pub(crate) fn trim_answer(answer: TrimAnswer) {
     let plain = answer.plain();
-    told(plain[0], plain[1], plain[2]);
-    named(b" length", plain[3] as u64);
-    named(b" list", plain[4] as u64);
+    begin(plain);
+    named(b" length", plain[3]);
+    named(b" list", plain[4]);
 }
 
 pub(crate) fn reaction_answer(answer: ReactionAnswer) {
     let plain = answer.plain();
-    told(plain[0], plain[1], plain[2]);
-    named(b" length", plain[3] as u64);
+    begin(plain);
+    named(b" length", plain[3]);
 }
 
 pub(crate) fn compare_answer(answer: CompareAnswer) {
     let plain = answer.plain();
-    told(plain[0], plain[1], plain[2]);
-    named(b" length", plain[3] as u64);
-    named(b" length", plain[4] as u64);
-    named(b" same", plain[5] as u64);
-    named(b" sheet", plain[6] as u64);
+    begin(plain);
+    named(b" length", plain[3]);
+    named(b" length", plain[4]);
+    named(b" same", plain[5]);
+    named(b" sheet", answer.sheet());
 }
 
 // What a transition takes and puts at a place, what the place starts with and its capacity.

@@ -1,9 +1,6 @@
 -- The comparison as an instance of what holds of every call, except for its last number, which a refusal can have too.
-use Rattle.scan.proofs.Basics.{ℕ, _≡_, refl, List, [], _∷_, _++_, length}
+use Rattle.scan.proofs.Basics.{ℕ, refl, List, [], _∷_, _++_, length}
 use Rattle.scan.specs.Scan.{bit}
-use Rattle.refusal.specs.Refusal.{refusal, plainRefusal}
-use Rattle.refusal.specs.declared.Position.{Position}
-use Rattle.refusal.specs.declared.Position.the-variants.{Nothing, Entry, Place, Node, Record}
 use Rattle.refusal.proofs.Judges.{Judges, judges-found, judges-then, pass-append}
 use Rattle.net.specs.Checks.{netChecks}
 use Rattle.net.proofs.Checks.{net-judged}
@@ -13,7 +10,7 @@ use Rattle.sequential.specs.Checks.{sheetChecks}
 use Rattle.sequential.proofs.Accepted.{schedule-judged, sheet-tells}
 use Rattle.lending.proofs.Judged.{Lawful}
 use Rattle.minimal.specs.Minimal.{minimalForm}
-use Rattle.compare.specs.Compare.{compareVerdict, sameForms, compareCore, plainCompared}
+use Rattle.compare.specs.Compare.{compareVerdict, sameForms, compareCore, plainCompare}
 
 module _ (net x y : List ℕ) where
   pub compare-judged : Judges (compareVerdict net x y) ((netChecks net ++ sheetChecks (petriNet net) x) ++ sheetChecks (petriNet net) y)
@@ -23,13 +20,6 @@ module _ (net x y : List ℕ) where
       let n = pass-append (netChecks net) (sheetChecks (petriNet net) x) .0 p .0 in
       judges-found _ _ (sheet-tells (petriNet net) y (sizes net (net-judged net .accepts .1 n) .some-transition)))
 
-  pub compare-law : Lawful (compareCore net x y) plainCompared 3 (length (minimalForm net x) ∷ length (minimalForm net y) ∷ bit (sameForms net x y) ∷ [])
+  pub compare-law : Lawful (compareCore net x y) plainCompare (length (minimalForm net x) ∷ length (minimalForm net y) ∷ bit (sameForms net x y) ∷ [])
       ((netChecks net ++ sheetChecks (petriNet net) x) ++ sheetChecks (petriNet net) y)
-  compare-law = record { judged = compare-judged; proper = refl; plain-accepted = refl; own-length = refl; plain-refused = λ r. refused (r .number) (r .at) }
-    where
-      refused : (number : ℕ) (at : Position) → plainCompared (compareCore net x y .refused (refusal number at)) ≡ plainRefusal (refusal number at) 3
-      refused number Nothing = refl
-      refused number (Entry i) = refl
-      refused number (Place i) = refl
-      refused number (Node i) = refl
-      refused number (Record i) = refl
+  compare-law = record { judged = compare-judged; proper = refl; plain-accepted = refl; own-length = refl; plain-refused = λ r. refl }

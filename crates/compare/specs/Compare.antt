@@ -1,9 +1,9 @@
 -- Two schedules of a net compared (§10.50): what is made of their words, what is written and answered, and the answer as plain numbers.
 use Prim.Native.Nat.{ℕ}
 use mathlib.Core.Bool.{Bool, cond, _&&_, _||_}
-use mathlib.Core.List.{List, [], _∷_, _++_}
+use mathlib.Core.List.{List, [], _∷_}
 use lib.Dec.{leb, eqb}
-use lib.ListN.{length, getD, take}
+use lib.ListN.{length, getD}
 use Rattle.scan.specs.Scan.{all, bit}
 use Rattle.refusal.specs.Refusal.{plainRefusal}
 use Rattle.refusal.specs.Verdict.{verdictOf, andThen}
@@ -63,11 +63,12 @@ compareCore net first second = record {
 abbrev pub CompareWritten : List ℕ → List ℕ → List ℕ → List ℕ → List ℕ → CompareAnswer → List ℕ → List ℕ → Type 0
 CompareWritten net first second one two r one′ two′ = WordsDone (compareCore net first second) (one ∷ two ∷ []) r (one′ ∷ two′ ∷ [])
 
--- number, kind, position, both lengths, 1 if the forms are equal (§8.1), these three 0 if refused (§8.3); and the index of the refused schedule (§8.4)
+-- number, kind and position, both lengths, and 1 if the forms are equal (§8.1); these three are 0 if refused (§8.3)
 abbrev pub plainCompare : CompareAnswer → List ℕ
-plainCompare (Compared c) = 0 ∷ 0 ∷ 0 ∷ c .first ∷ c .second ∷ bit (c .same) ∷ 0 ∷ []
-plainCompare (Refused f) = plainRefusal (f .refusal) 3 ++ (plainIndex (f .sheet) ∷ [])
+plainCompare (Compared c) = 0 ∷ 0 ∷ 0 ∷ c .first ∷ c .second ∷ bit (c .same) ∷ []
+plainCompare (Refused f) = plainRefusal (f .refusal)
 
--- all but the last number, the only own number that a refusal can have
-abbrev pub plainCompared : CompareAnswer → List ℕ
-plainCompared a = take 6 (plainCompare a)
+-- the number beyond these: the index of the refused schedule (§8.4)
+abbrev pub sheetIndex : CompareAnswer → ℕ
+sheetIndex (Compared c) = 0
+sheetIndex (Refused f) = plainIndex (f .sheet)

@@ -3,7 +3,7 @@ ghost use mathlib.Core.Path.{_≡_};
 ghost use Prim.Native.Nat.{_≤_};
 ghost use lib.ListN.{length};
 ghost use Rattle.scan.specs.Scan.{bit};
-ghost use Rattle.compare.specs.Compare.{plainCompare, ofSchedule, refusedBy, sameFronts, CompareWritten};
+ghost use Rattle.compare.specs.Compare.{plainCompare, sheetIndex, ofSchedule, refusedBy, sameFronts, CompareWritten};
 ghost use Rattle.compare.specs.Means.{CompareDone};
 use lending::Index;
 use minimize::FormsAnswer;
@@ -30,7 +30,7 @@ pub enum CompareAnswer {
 }
 
 // 1 if a test holds, and else 0.
-fn told(test: bool) -> usize
+fn bit(test: bool) -> u64
     ensures { λ r. ⌜ r ≡ bit test ⌝ }
 {
     if test {
@@ -41,24 +41,36 @@ fn told(test: bool) -> usize
 
 impl CompareAnswer {
     // Its plain numbers: §8.1.
-    pub fn plain(self) -> [usize; 7]
+    pub fn plain(self) -> [u64; 6]
         ensures { λ r. ⌜ r ≡ plainCompare self ⌝ }
     {
         match self {
-            CompareAnswer::Compared(c) => [0usize, 0, 0, c.first, c.second, told(c.same), 0],
+            CompareAnswer::Compared(c) => {
+                [
+                    0u64,
+                    0,
+                    0,
+                    c.first as u64,
+                    c.second as u64,
+                    bit(c.same),
+                ]
+            }
             CompareAnswer::Refused(f) => {
                 let r = f.refusal;
-                let at = r.at;
+                r.plain()
+            }
+        }
+    }
+
+    // The number beyond these: the index of the refused schedule, §8.4.
+    pub fn sheet(self) -> u64
+        ensures { λ r. ⌜ r ≡ sheetIndex self ⌝ }
+    {
+        match self {
+            CompareAnswer::Compared(_) => 0,
+            CompareAnswer::Refused(f) => {
                 let sheet = f.sheet;
-                [
-                    r.number as usize,
-                    at.kind() as usize,
-                    at.index(),
-                    0,
-                    0,
-                    0,
-                    sheet.plain(),
-                ]
+                sheet.plain()
             }
         }
     }

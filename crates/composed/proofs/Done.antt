@@ -1,13 +1,12 @@
 -- Composition as an instance of what holds of every call: the checks of its words, its paths, and which schedule a refusal names.
-use Rattle.scan.proofs.Basics.{ℕ, zero, suc, _<_, _≡_, refl, ap, _∙_, Bool, true, false, cond, eqb, Option, none, some, List, [], _∷_, _++_, length, take}
+use Rattle.scan.proofs.Basics.{ℕ, zero, suc, _<_, _≡_, refl, ap, _∙_, Bool, true, false, cond, eqb, Option, none, some, List, [], _∷_, _++_, length}
 use Rattle.scan.specs.Scan.{when, found, passing}
 use Rattle.scan.proofs.Tests.{ne-eqb}
 use Rattle.scan.proofs.First.{orElse-next, orElse-hit, when-hit, when-miss, first-empty, first-hit}
-use Rattle.refusal.specs.Refusal.{refusal, plainRefusal}
+use Rattle.refusal.specs.Refusal.{refusal}
 use Rattle.refusal.specs.Verdict.{verdictOf}
 use Rattle.refusal.specs.Finding.{foundBy, finding}
-use Rattle.refusal.specs.declared.Position.{Position}
-use Rattle.refusal.specs.declared.Position.the-variants.{Nothing, Entry, Place, Node, Record}
+use Rattle.refusal.specs.declared.Position.the-variants.{Nothing}
 use Rattle.refusal.specs.declared.Refusal.{Refusal}
 use Rattle.refusal.specs.declared.Verdict.the-variants as verdict
 use Rattle.refusal.proofs.Verdicts.{then-next}
@@ -24,7 +23,7 @@ use Rattle.composed.specs.Composed.{isDependent}
 use Rattle.composed.specs.Sheet.{netOf, tasksOf, composedSheet}
 use Rattle.composed.specs.Checks.{eachSheet, lastChecks, composeChecks}
 use Rattle.composed.specs.Fault.{numberFails, sheetFault, tooMany, limitsExceeded, lastTests, composeFault, sheetFails, refusedSheet}
-use Rattle.composed.specs.Call.{composeVerdict, sheetBeside, composeCore, withoutSheet}
+use Rattle.composed.specs.Call.{composeVerdict, sheetBeside, composeCore, plainCompose}
 use Rattle.composed.proofs.Chain.{compose-tells}
 
 -- ---- the instance
@@ -43,24 +42,14 @@ module _ (net : List ℕ) (number : ℕ) (sheet : ℕ → List ℕ) where
   sheets-proper zero = refl
   sheets-proper (suc n) = proper-append (eachSheet (petriNet net) number sheet n) (sheetChecks (netOf (petriNet net) n) (sheet n)) (sheets-proper n) refl
 
-  told-four : (r : Refusal) (index : ℕ) → take 4 (plainRefusal r 1 ++ (index ∷ [])) ≡ plainRefusal r 1
-  told-four r index = go (r .at)
-    where
-      go : (at : Position) → take 4 (plainRefusal (refusal (r .number) at) 1 ++ (index ∷ [])) ≡ plainRefusal (refusal (r .number) at) 1
-      go Nothing = refl
-      go (Entry i) = refl
-      go (Place i) = refl
-      go (Node i) = refl
-      go (Record i) = refl
-
-  pub compose-law : Lawful (composeCore net number sheet) withoutSheet 1 (length (composedSheet (petriNet net) number sheet) ∷ []) (netChecks net ++ composeChecks (petriNet net) number sheet)
+  pub compose-law : Lawful (composeCore net number sheet) plainCompose (length (composedSheet (petriNet net) number sheet) ∷ 0 ∷ 0 ∷ []) (netChecks net ++ composeChecks (petriNet net) number sheet)
   compose-law = record {
     judged = compose-judged;
     proper = proper-append (netChecks net) (composeChecks (petriNet net) number sheet) refl
         (proper-append (eachSheet (petriNet net) number sheet number) (lastChecks (petriNet net) number sheet) (sheets-proper number) refl);
     plain-accepted = refl;
     own-length = refl;
-    plain-refused = λ r. told-four r _;
+    plain-refused = λ r. refl;
   }
 
 -- ---- the paths

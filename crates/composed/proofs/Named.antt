@@ -1,14 +1,11 @@
 -- The last of the call's own numbers names the first schedule that is refused, and none if the refusal is about no schedule (§10.30).
-use Rattle.scan.proofs.Basics.{ℕ, _+_, _≤_, _<_, arith, _≡_, refl, sym, ap, _∙_, ⊎-elim, _↔_, true, false, eqb, Option, none, some, List, [], _∷_, _++_, length}
+use Rattle.scan.proofs.Basics.{ℕ, _+_, _≤_, _<_, arith, _≡_, refl, sym, ap, _∙_, ⊎-elim, _↔_, true, false, eqb, Option, none, some, List, length}
 use mathlib.Core.Logic.{Iff·rfl}
 use Rattle.scan.proofs.Tests.{byTest, eqb-false, true-false}
 use Rattle.scan.specs.Scan.{found, passing}
 use Rattle.scan.proofs.First.{none-some, first-at, when-none, when-some}
 use Rattle.refusal.specs.Limits.{scratchLimit}
-use Rattle.refusal.specs.Refusal.{refusal, plainRefusal}
 use Rattle.refusal.specs.Checks.{AllPass}
-use Rattle.refusal.specs.declared.Position.{Position}
-use Rattle.refusal.specs.declared.Position.the-variants.{Nothing, Entry, Place, Node, Record}
 use Rattle.refusal.specs.declared.Refusal.{Refusal}
 use Rattle.refusal.specs.declared.Verdict.{Verdict}
 use Rattle.refusal.specs.declared.Verdict.the-variants as verdict
@@ -20,14 +17,13 @@ use Rattle.sequential.specs.Petri.{petriNet}
 use Rattle.sequential.specs.Checks.{sheetChecks}
 use Rattle.sequential.proofs.Accepted.{sheet-tells}
 use Rattle.lending.specs.Call.{CallDone, wordsVerdict, callVerdict, answerOf}
-use Rattle.lending.specs.Demands.{own}
 use Rattle.lending.specs.Index.{plainIndex, indexFrom}
 use Rattle.lending.proofs.Laws.{call-enough}
 use Rattle.lending.proofs.Judged.{call-judged, words-judged}
 use Rattle.lending.proofs.Lent.{Room}
 use Rattle.composed.specs.Sheet.{netOf}
 use Rattle.composed.specs.Fault.{numberFails, sheetFault, sheetFails, refusedSheet}
-use Rattle.composed.specs.Call.{whereAccepted, sheetBeside, composeCore, plainCompose}
+use Rattle.composed.specs.Call.{whereAccepted, sheetBeside, composeCore, sheetIndex}
 use Rattle.composed.specs.Named.{Named}
 use Rattle.composed.specs.declared.ComposeAnswer.{ComposeAnswer}
 use Rattle.composed.proofs.Chain.{number↔}
@@ -42,16 +38,6 @@ index-told (some j) i e = ap some (omega arith)
 named-net : (v : Verdict) (o : Option ℕ) (i : ℕ) → whereAccepted v o ≡ some i → (v ≡ verdict.Accepted) × (o ≡ some i)
 named-net verdict.Accepted o i e = (refl, e)
 named-net (verdict.Refused r) o i e = none-some none i refl e
-
-own-refused : (r : Refusal) (x : ℕ) → own (plainRefusal r 1 ++ (x ∷ [])) 1 ≡ x
-own-refused r x = go (r .at)
-  where
-    go : (at : Position) → own (plainRefusal (refusal (r .number) at) 1 ++ (x ∷ [])) 1 ≡ x
-    go Nothing = refl
-    go (Entry i) = refl
-    go (Place i) = refl
-    go (Node i) = refl
-    go (Record i) = refl
 
 not-found : (o : Option Refusal) → found o ≡ false → o ≡ none
 unfolding found
@@ -93,8 +79,8 @@ module _ (net : List ℕ) (number : ℕ) (sheet : ℕ → List ℕ) where
     abbrev answered : Verdict
     answered = callVerdict scratchLimit (composeCore net number sheet) outs (length s)
 
-    name-out : (i : ℕ) → own (plainCompose a) 1 ≡ i + 1 → Named net number sheet s i
-    name-out i e = go answered refl (ap (λ (x : ComposeAnswer). own (plainCompose x) 1) (sym (d .reply)) ∙ e)
+    name-out : (i : ℕ) → sheetIndex a ≡ i + 1 → Named net number sheet s i
+    name-out i e = go answered refl (ap sheetIndex (sym (d .reply)) ∙ e)
       where
         enough : (r : Refusal) → answered ≡ verdict.Refused r → (r .number ≡ 21 → ⊥) → scratchLimit ≤ length s
         enough r q n =
@@ -102,10 +88,10 @@ module _ (net : List ℕ) (number : ℕ) (sheet : ℕ → List ℕ) where
             (call-judged (composeCore net number sheet) outs scratchLimit s
             (words-judged (composeCore net number sheet) outs {Fits = Room (composeCore net number sheet .results) outs} (compose-law net number sheet .judged) (λ p. Iff·rfl)) .refuses r .0 q)
 
-        go : (v : Verdict) → answered ≡ v → own (plainCompose (answerOf (composeCore net number sheet) v)) 1 ≡ i + 1 → Named net number sheet s i
+        go : (v : Verdict) → answered ≡ v → sheetIndex (answerOf (composeCore net number sheet) v) ≡ i + 1 → Named net number sheet s i
         go verdict.Accepted q z = absurd (omega arith)
         go (verdict.Refused r) q z =
-            let (n, h, c, l, f, b) = beside-says r i (index-told _ i (sym (own-refused r _) ∙ z)) in
+            let (n, h, c, l, f, b) = beside-says r i (index-told _ i z) in
             let (t, k, y) = some-source net h in
             record {
               enough = enough r q n;
@@ -116,7 +102,7 @@ module _ (net : List ℕ) (number : ℕ) (sheet : ℕ → List ℕ) where
               fails = λ p. true-false (sheetFails (petriNet net) number sheet i) f (sheet-told h i .1 p);
             }
 
-    name-in : (i : ℕ) → Named net number sheet s i → own (plainCompose a) 1 ≡ i + 1
+    name-in : (i : ℕ) → Named net number sheet s i → sheetIndex a ≡ i + 1
     unfolding wordsVerdict
     name-in i n =
         let h = net-judged net .accepts .1 (n .is-net) in
@@ -125,7 +111,7 @@ module _ (net : List ℕ) (number : ℕ) (sheet : ℕ → List ℕ) where
         let (r, e) = found-fault (sheetFault (petriNet net) number sheet i) (λ q. n .fails (sheet-told h i .0 (unfold sheetFails found in (rw q refl)))) in
         let (v, b) = sheet-refused net number sheet h c (n .below) (λ j m. not-found _ (unfold sheetFails in (sheet-told h j .1 (n .before j m)))) e in
         let q : answered ≡ verdict.Refused r = call-enough (composeCore net number sheet) outs scratchLimit (length s) (n .enough) ∙ then-refused _ _ r v ∙ v in
-        ap (λ (x : ComposeAnswer). own (plainCompose x) 1) (d .reply ∙ ap (answerOf (composeCore net number sheet)) q) ∙ own-refused r _ ∙ ap (λ (o : Option ℕ). plainIndex (indexFrom o)) b
+        ap sheetIndex (d .reply ∙ ap (answerOf (composeCore net number sheet)) q) ∙ ap (λ (o : Option ℕ). plainIndex (indexFrom o)) b
 
-    pub named : (i : ℕ) → (own (plainCompose a) 1 ≡ i + 1) ↔ Named net number sheet s i
+    pub named : (i : ℕ) → (sheetIndex a ≡ i + 1) ↔ Named net number sheet s i
     named i = (name-out i, name-in i)

@@ -1,6 +1,6 @@
 // One schedule for each source, composed (request #108): what composing answers. The code that does it is the crate `compose`.
 ghost use mathlib.Core.Path.{_≡_};
-ghost use Rattle.composed.specs.Call.{plainCompose};
+ghost use Rattle.composed.specs.Call.{plainCompose, sheetIndex};
 use lending::Index;
 use refusal::Refusal;
 
@@ -24,22 +24,23 @@ pub enum ComposeAnswer {
 }
 
 impl ComposeAnswer {
-    // Its plain numbers: §8.1, §8.4.
-    pub fn plain(self) -> [usize; 5]
+    // Its plain numbers: §8.1.
+    pub fn plain(self) -> [u64; 6]
         ensures { λ r. ⌜ r ≡ plainCompose self ⌝ }
     {
         match self {
-            ComposeAnswer::Written(n) => [0usize, 0, 0, n, 0],
-            ComposeAnswer::Refused(r, sheet) => {
-                let at = r.at;
-                [
-                    r.number as usize,
-                    at.kind() as usize,
-                    at.index(),
-                    0,
-                    sheet.plain(),
-                ]
-            }
+            ComposeAnswer::Written(n) => [0u64, 0, 0, n as u64, 0, 0],
+            ComposeAnswer::Refused(r, _) => r.plain(),
+        }
+    }
+
+    // The number beyond these: the index of the refused schedule, §8.4.
+    pub fn sheet(self) -> u64
+        ensures { λ r. ⌜ r ≡ sheetIndex self ⌝ }
+    {
+        match self {
+            ComposeAnswer::Written(_) => 0,
+            ComposeAnswer::Refused(_, sheet) => sheet.plain(),
         }
     }
 }

@@ -25,18 +25,18 @@ at-record (Node j) i k e = absurd (omega arith)
 at-record (Record j) i k e = ap Record e
 
 -- two refusals that are told alike are one
-told-same : (r : Refusal) (n i k : ℕ) → plainRefusal r k ≡ plainRefusal (refusal n (Record i)) k → r ≡ refusal n (Record i)
-told-same r n i k e =
-    let f = refusal-parts r k ∙ e ∙ sym (refusal-parts (refusal n (Record i)) k) in
+told-same : (r : Refusal) (n i : ℕ) → plainRefusal r ≡ plainRefusal (refusal n (Record i)) → r ≡ refusal n (Record i)
+told-same r n i e =
+    let f = refusal-parts r ∙ e ∙ sym (refusal-parts (refusal n (Record i))) in
     let at = at-record (r .at) i (ap (λ (l : List ℕ). getD l 1 0) f) (ap (λ (l : List ℕ). getD l 2 0) f) in
     ap (λ (y : ℕ). refusal y (r .at)) (ap (λ (l : List ℕ). getD l 0 0) f) ∙ ap (refusal n) at
 
 -- what is told by 20 at an index is the check that fails first
-pub named : {checks : List Check} {plain : List ℕ} {i : ℕ} → ByChecks checks plain 3 → (plain ≡ plainRefusal (refusal 20 (Record i)) 3) ↔ FirstFails checks (refusal 20 (Record i))
+pub named : {checks : List Check} {plain : List ℕ} {i : ℕ} → ByChecks checks plain → (plain ≡ plainRefusal (refusal 20 (Record i))) ↔ FirstFails checks (refusal 20 (Record i))
 named {checks} {plain} {i} b = (
   λ e. let n : number plain ≡ 20 = ap number e in
       let (x, f, q) = b .named (λ z. omega arith) in
-      let same : x ≡ refusal 20 (Record i) = told-same x 20 i 3 (sym q ∙ e) in
+      let same : x ≡ refusal 20 (Record i) = told-same x 20 i (sym q ∙ e) in
       rw same at f,
   b .this (refusal 20 (Record i)),
 )

@@ -16,7 +16,7 @@ use Rattle.lending.proofs.Demands.{independent}
 use Rattle.demands.specs.Demand1.{Unread}
 use Rattle.demands.specs.Replay.{LeftAlike}
 
-module _ {Answer : Type 0} {core : Core Answer} {plain : Answer → List ℕ} {k : ℕ} {numbers : List ℕ} {words : List Check} (law : Lawful core plain k numbers words) where
+module _ {Answer : Type 0} {core : Core Answer} {plain : Answer → List ℕ} {numbers : List ℕ} {words : List Check} (law : Lawful core plain numbers words) where
   module _ {limit : ℕ} {outs outs′ : List (List ℕ)} {s s′ : List ℕ} {a : Answer} (d : CallDone limit core outs s a outs′ s′) where
     -- exactly where scratch suffices, the words pass and the results fit
     pub call-zero : (number (plain a) ≡ 0) ↔ ((limit ≤ length s) × (core .verdict ≡ Accepted) × Room (core .results) outs)

@@ -62,7 +62,7 @@ enabling = record {
 -- ---- words without a key of a capacity
 
 -- a number that no check of the list gives is not answered
-pub not-answered : (k : ℕ) {checks : List Check} {plain : List ℕ} {own : ℕ} → (0 ≡ k → ⊥) → Spared k checks → ByChecks checks plain own → number plain ≡ k → ⊥
+pub not-answered : (k : ℕ) {checks : List Check} {plain : List ℕ} → (0 ≡ k → ⊥) → Spared k checks → ByChecks checks plain → number plain ≡ k → ⊥
 not-answered k {checks} n s b e =
     let (r, f, q) = b .named (λ z. n (sym z ∙ e)) in
     spared-never k checks r s f (sym (ap number q) ∙ e)
@@ -106,15 +106,15 @@ module _ (net : List ℕ) (h : NoCapacityKeys net) where
   call-spared k s asked besides n h g w =
       (λ e. absurd (n e), spared-append k (netChecks net ++ asked) besides (spared-append k (netChecks net) asked h g) (without-spared k besides w))
 
-  both : {checks : List Check} {plain : List ℕ} {own : ℕ} → Spared 26 checks → Spared 27 checks → ByChecks checks plain own → Spares plain
+  both : {checks : List Check} {plain : List ℕ} → Spared 26 checks → Spared 27 checks → ByChecks checks plain → Spares plain
   both v w b = (not-answered 26 (λ z. omega arith) v b, not-answered 27 (λ z. omega arith) w b)
 
-  call-spares : (s : List ℕ) (asked besides : List Check) {plain : List ℕ} {own : ℕ} → Spared 26 asked → Spared 27 asked → without 26 besides ≡ true → without 27 besides ≡ true
-      → ByChecks (callChecks scratchLimit s ((netChecks net ++ asked) ++ besides)) plain own → Spares plain
+  call-spares : (s : List ℕ) (asked besides : List Check) {plain : List ℕ} → Spared 26 asked → Spared 27 asked → without 26 besides ≡ true → without 27 besides ≡ true
+      → ByChecks (callChecks scratchLimit s ((netChecks net ++ asked) ++ besides)) plain → Spares plain
   call-spares s asked besides g h v w = both (call-spared 26 s asked besides (λ z. omega arith) net-26 g v) (call-spared 27 s asked besides (λ z. omega arith) net-27 h w)
 
-  spares : (sheet s : List ℕ) (besides : List Check) {plain : List ℕ} {own : ℕ} → without 26 besides ≡ true → without 27 besides ≡ true
-      → ByChecks (allChecks net sheet besides s) plain own → Spares plain
+  spares : (sheet s : List ℕ) (besides : List Check) {plain : List ℕ} → without 26 besides ≡ true → without 27 besides ≡ true
+      → ByChecks (allChecks net sheet besides s) plain → Spares plain
   spares sheet s besides v w b =
       call-spares s (sheetChecks N sheet) besides (without-spared 26 (sheetChecks N sheet) refl)
       (spared-append 27 (wordChecks N sheet) (graphChecks N sheet) (without-spared 27 (wordChecks N sheet) refl) (graph-27 sheet)) v w b

@@ -1,5 +1,5 @@
 -- What is promised of the comparison of two schedules, proved: what every call does, and what the postcondition says in the words of demand 3.
-use Rattle.scan.proofs.Basics.{ℕ, _≤_, arith, _≡_, refl, sym, subst, _∙_, _↔_, List, [], _∷_, length}
+use Rattle.scan.proofs.Basics.{ℕ, _≤_, arith, _≡_, refl, sym, subst, _↔_, List, [], _∷_, length}
 use mathlib.Core.Logic.{Iff·rfl, Iff·trans}
 use Rattle.scan.specs.Scan.{bit}
 use Rattle.scan.proofs.Count.{bit-one, bit-le}
@@ -8,16 +8,14 @@ use Rattle.refusal.specs.Limits.{scratchLimit}
 use Rattle.refusal.specs.declared.Verdict.the-variants as verdict
 use Rattle.sequential.specs.Check.{scheduleReply}
 use Rattle.lending.specs.Call.{writtenOver}
-use Rattle.lending.specs.Demands.{number, EveryCall}
+use Rattle.lending.specs.Demands.{EveryCall}
 use Rattle.lending.proofs.Lent.{room-two}
 use Rattle.lending.proofs.Done.{Answered, done-zero, written-front}
 use Rattle.lending.proofs.Demands.{every-call-two}
 use Rattle.minimal.specs.Minimal.{minimalForm}
 use Rattle.minimal.proofs.Minimal.{form-accepted, form-lists, form-short, forms-equal}
-use Rattle.compare.specs.Compare.{sameForms, plainCompare, plainCompared, compareCore}
+use Rattle.compare.specs.Compare.{sameForms, plainCompare, compareCore}
 use Rattle.compare.specs.Means.{CompareDone}
-use Rattle.compare.specs.declared.CompareAnswer.{CompareAnswer}
-use Rattle.compare.specs.declared.CompareAnswer.the-variants.{Compared, Refused}
 use Rattle.compare.proofs.Words.{lists-same}
 use Rattle.compare.proofs.Paths.{both-pass, both-accepted}
 use Rattle.compare.proofs.Done.{compare-law}
@@ -30,15 +28,10 @@ use Rattle.demands.proofs.Checked.{accepted-reply, reply-accepted, alwa
 use Rattle.demands.proofs.Demand3.{form-merges, merges-form, made-form}
 use Rattle.demands.proofs.ToldIndex.{index-told}
 
--- the number is the same with the last one and without
-same-number : (a : CompareAnswer) → number (plainCompared a) ≡ number (plainCompare a)
-same-number (Compared c) = refl
-same-number (Refused f) = refl
-
 -- ---- every call
 
 module _ (net x y one two : List ℕ) where
-  every : EveryCall {Left = List ℕ × List ℕ} scratchLimit plainCompared 3
+  every : EveryCall {Left = List ℕ × List ℕ} scratchLimit plainCompare
       (allCompareChecks net x y ((length (minimalForm net x) ≤ length one) × (length (minimalForm net y) ≤ length two))) (one, two)
       (λ s a left s′. CompareDone net x y one two s a (left .0) (left .1) s′)
   every =
@@ -55,7 +48,7 @@ module _ (net x y one two : List ℕ) where
 
 module _ (net x y : List ℕ) (c : Comparing net x y) where
   answered : Answered (compareCore net x y) (c .one ∷ c .two ∷ []) (c .answer) (c .one′ ∷ c .two′ ∷ [])
-  answered = done-zero (compare-law net x y) (c .done .call) (same-number (c .answer) ∙ c .zero)
+  answered = done-zero (compare-law net x y) (c .done .call) (c .zero)
 
   accepted-both : (scheduleReply net x ≡ verdict.Accepted) × (scheduleReply net y ≡ verdict.Accepted)
   accepted-both = both-pass net x y (answered .passed)
@@ -117,5 +110,5 @@ compare-demand = record {
         both-accepted net x y a b,
         room-two _ _ one two .0 (omega (arith, form-short net x a), omega (arith, form-short net y b)),
       ) in
-      (record { one = one; two = two; scratch = s; answer = r; one′ = left .0; two′ = left .1; scratch′ = s′; done = d; zero = sym (same-number r) ∙ z }, refl, refl, refl);
+      (record { one = one; two = two; scratch = s; answer = r; one′ = left .0; two′ = left .1; scratch′ = s′; done = d; zero = z }, refl, refl, refl);
 }

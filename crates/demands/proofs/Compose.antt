@@ -19,14 +19,14 @@ use Rattle.sequential.specs.Check.{scheduleReply}
 use Rattle.sequential.proofs.Entries.{marking-node, marking-at}
 use Rattle.sequential.proofs.Accepted.{accepted-exactly}
 use Rattle.lending.specs.Call.{CallDone}
-use Rattle.lending.specs.Demands.{number, own}
+use Rattle.lending.specs.Demands.{own}
 use Rattle.lending.proofs.Done.{done-zero}
 use Rattle.lending.proofs.Demands.{every-call-one}
 use Rattle.composed.specs.Product.{Tasks, OnePerSource, heldAt, heldByAll, product}
 use Rattle.composed.specs.Composed.{ReachedPart, trimmedNumber, OwnSources}
 use Rattle.composed.specs.Sheet.{fourSheets, givenSheets, readSheets, sourceOf, composedSheet}
 use Rattle.composed.specs.Checks.{composeChecks, Composes}
-use Rattle.composed.specs.Call.{composeVerdict, composeCore, ComposeDone, plainCompose, withoutSheet}
+use Rattle.composed.specs.Call.{composeVerdict, composeCore, ComposeDone, plainCompose}
 use Rattle.composed.specs.declared.ComposeAnswer.{ComposeAnswer}
 use Rattle.composed.proofs.Chain.{one-per-source, composes↔}
 use Rattle.composed.proofs.Commute.{commutes}
@@ -43,9 +43,9 @@ use Rattle.automaton.proofs.Carried.{carried-follow}
 use Rattle.composed.proofs.Trimmed.{part-carries}
 use Rattle.demands.specs.Terms.{said}
 use Rattle.demands.specs.Compose.{tasks, Composing, composedBy, composedSize, Written, ComposeDemand}
-use Rattle.demands.proofs.Calls.{unread-one, own-size, own-front, own-rest, own-fits}
+use Rattle.demands.proofs.Calls.{unread-one, own-front, own-rest, own-fits}
 use Rattle.demands.proofs.Checked.{always-accepted}
-use Rattle.demands.proofs.Dependent.{same-number, some-transition, source-there, is-dependent}
+use Rattle.demands.proofs.Dependent.{some-transition, source-there, is-dependent}
 
 -- ---- a call that answered 0
 
@@ -60,11 +60,8 @@ module _ (net : List ℕ) (k : ℕ) (a b c d : List ℕ) where
   X = tasks net k a b c d
 
   module _ (x : Composing net k a b c d) where
-    zero : number (withoutSheet (x .answer)) ≡ 0
-    zero = sym (same-number (x .answer)) ∙ x .zero
-
     accepted : composeVerdict net k (givenSheets k a b c d) ≡ verdict.Accepted
-    accepted = done-zero (compose-law net k sheet) (x .done) zero .passed
+    accepted = done-zero (compose-law net k sheet) (x .done) (x .zero) .passed
 
     net-accepted : netReply net ≡ verdict.Accepted
     net-accepted = net-judged net .accepts .1 (pass-append (netChecks net) (composeChecks N k sheet) .0 (compose-judged net k sheet .accepts .0 accepted) .0)
@@ -84,13 +81,10 @@ module _ (net : List ℕ) (k : ℕ) (a b c d : List ℕ) where
     -- ---- its words
 
     pub size-is : composedSize x ≡ length (composedSheet (petriNet net) k (givenSheets k a b c d))
-    size-is = ap (λ (r : ComposeAnswer). own (plainCompose r) 0) (done-zero (compose-law net k sheet) (x .done) zero .reply)
-
-    size-same : composedSize x ≡ own (withoutSheet (x .answer)) 0
-    size-same = size-is ∙ sym (own-size (compose-law net k sheet) (x .done) zero 0 refl)
+    size-is = ap (λ (r : ComposeAnswer). own (plainCompose r) 0) (done-zero (compose-law net k sheet) (x .done) (x .zero) .reply)
 
     words-are : composedBy x ≡ composedSheet (petriNet net) k (givenSheets k a b c d)
-    words-are = rw size-same (own-front (compose-law net k sheet) (x .done) zero 0 refl)
+    words-are = own-front (compose-law net k sheet) (x .done) (x .zero) 0 refl
 
     abbrev state : ℕ → ℕ
     state = trimmedNumber (product N X)
@@ -143,8 +137,8 @@ module _ (net : List ℕ) (k : ℕ) (a b c d : List ℕ) where
             carried-follow (part-carries part) (τ ++ σ) s r ∙ ap (Option·map state) (K .other-order),
           );
       short = rw size-is (written-short N T S k sheet composes);
-      fits = rw size-same (own-fits (compose-law net k sheet) (x .done) zero 0 refl);
-      within = rw size-same (own-rest (compose-law net k sheet) (x .done) zero 0 refl);
+      fits = own-fits (compose-law net k sheet) (x .done) (x .zero) 0 refl;
+      within = own-rest (compose-law net k sheet) (x .done) (x .zero) 0 refl;
     }
 
     pub lists : (i : ℕ) → i < k → (σ : List ℕ) → OwnSources (petriNet net) (sourceOf (petriNet net) i) σ

@@ -24,7 +24,7 @@ use Rattle.demands.proofs.Calls.{unread-one}
 
 -- ---- the net
 
-pub net-by : (net : List ℕ) (v : Verdict) → NetDone net v → ByChecks (netChecks net) (plainVerdict v) 0
+pub net-by : (net : List ℕ) (v : Verdict) → NetDone net v → ByChecks (netChecks net) (plainVerdict v)
 net-by net v e = rw e (verdict-by-checks _ (netChecks net) (net-judged net) refl)
 
 refused-walker : (net : List ℕ) (v : Verdict) (w : Walker) → w ≡ freshWalker v net → (number (plainVerdict v) ≡ 0 → ⊥) → w ≡ walker 0 (replicate 32 0)

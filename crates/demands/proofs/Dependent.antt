@@ -25,18 +25,12 @@ use Rattle.composed.specs.Composed.{Dependent, Independent, isDependent, Compos
 use Rattle.composed.specs.Sheet.{givenSheets}
 use Rattle.composed.specs.Fault.{sheetFault}
 use Rattle.composed.specs.Checks.{eachSheet, lastChecks, composeChecks}
-use Rattle.composed.specs.Call.{composeCore, ComposeDone, plainCompose, withoutSheet}
+use Rattle.composed.specs.Call.{composeCore, ComposeDone, plainCompose}
 use Rattle.composed.specs.declared.ComposeAnswer.{ComposeAnswer}
-use Rattle.composed.specs.declared.ComposeAnswer.the-variants as answer
 use Rattle.composed.proofs.Chain.{sheet↔, sheets↔, sheets-tell, one-per-source}
 use Rattle.composed.proofs.Dependent.{dependent↔, independent↔, dependent-early, independent↔composable}
 use Rattle.composed.proofs.Done.{compose-law, compose-judged}
 use Rattle.demands.specs.Compose.{tasks, allComposeChecks, SheetsPass, DependentAnswer}
-
--- the plain numbers but for the last are told by every call's laws
-pub same-number : (r : ComposeAnswer) → number (plainCompose r) ≡ number (withoutSheet r)
-same-number (answer.Written n) = refl
-same-number (answer.Refused r i) = refl
 
 module _ (net : List ℕ) (h : netReply net ≡ verdict.Accepted) where
   pub some-transition : 0 < petriNet net .transitions
@@ -71,7 +65,7 @@ module _ (net : List ℕ) (k : ℕ) (a b c d : List ℕ) where
     tasks-pass : OnePerSource (petriNet net) (tasks net k a b c d)
     tasks-pass = one-per-source N T S k sheet (before .number-passes) (λ i l. sheet↔ N T S k sheet i .0 (before .each-passes i l))
 
-    told : ByChecks (allComposeChecks net k a b c d (Room (composeCore net k (givenSheets k a b c d) .results) (out ∷ [])) s) (withoutSheet r) 1
+    told : ByChecks (allComposeChecks net k a b c d (Room (composeCore net k (givenSheets k a b c d) .results) (out ∷ [])) s) (plainCompose r)
     told = by-checks (compose-law net k sheet) done (words-judged (composeCore net k sheet) (out ∷ []) (compose-judged net k sheet) (λ p. Iff·rfl))
 
     -- what fails where all of these pass
@@ -89,9 +83,8 @@ module _ (net : List ℕ) (k : ℕ) (a b c d : List ℕ) where
     to : number (plainCompose r) ≡ 30 → Composable (petriNet net) (tasks net k a b c d) → ⊥
     to e C =
         let I = independent↔composable N X tasks-pass .1 C in
-        let n = sym (same-number r) ∙ e in
-        let (f, g, q) = told .named (λ z. let w : _≡_ {A = ℕ} 0 30 = sym z ∙ n in omega arith) in
-        let m : f .number ≡ 30 = sym (ap number q) ∙ n in
+        let (f, g, q) = told .named (λ z. let w : _≡_ {A = ℕ} 0 30 = sym z ∙ e in omega arith) in
+        let m : f .number ≡ 30 = sym (ap number q) ∙ e in
         ⊎-elim (λ (z, y). z (before .scratch-holds))
         (λ (z, g₁). ⊎-elim
         (λ g₂. ⊎-elim (λ y. accepted-refused (netReply net) f h (net-judged net .refuses f .1 y)) (λ (y, g₃). first-left g₃ m I) (fail-append (netChecks net) (composeChecks N k sheet) f .0 g₂))
@@ -104,7 +97,7 @@ module _ (net : List ℕ) (k : ℕ) (a b c d : List ℕ) where
         (inr (all-sheets, inr (before .few, inl (λ I. n (independent↔composable N X tasks-pass .0 I), refl)))) in
         let f = fail-append (netChecks net ++ composeChecks N k sheet) _ (refusal 30 Nothing) .1
         (inl (fail-append (netChecks net) (composeChecks N k sheet) (refusal 30 Nothing) .1 (inr (before .net-passes, inr (before .number-passes, last))))) in
-        same-number r ∙ ap number (told .this (refusal 30 Nothing) (inr (before .scratch-holds, f)))
+        ap number (told .this (refusal 30 Nothing) (inr (before .scratch-holds, f)))
 
     -- whether some state fires a transition that is not enabled is decided
     disabled : number (plainCompose r) ≡ 30 → Dependent (petriNet net) (tasks net k a b c d)

@@ -44,7 +44,7 @@ names : (N : PetriNet) (sheet : List ℕ) (n t m k told : ℕ) → arcEntry N sh
 names N sheet n t m k told e v p = let (l, q) = entry-key N sheet n t k e in record { entry = k; one-more = p; below = l; key = q; value = v }
 
 -- one's own number that tells an entry is 0 exactly where the answer is refused, or where there is no firing to tell of
-missing : {Answer : Type 0} {core : Core Answer} {plain : Answer → List ℕ} {k : ℕ} {numbers : List ℕ} {words : List Check} (law : Lawful core plain k numbers words)
+missing : {Answer : Type 0} {core : Core Answer} {plain : Answer → List ℕ} {numbers : List ℕ} {words : List Check} (law : Lawful core plain numbers words)
     {limit : ℕ} {outs outs′ : List (List ℕ)} {s s′ : List ℕ} {a : Answer} (d : CallDone limit core outs s a outs′ s′) (i : ℕ) {NoFiring : Type 0}
     → (NoFiring → getD numbers i 0 ≡ 0) → (number (plain a) ≡ 0 → NoFiring ⊎ ((j : ℕ) × (own (plain a) i ≡ plainIndex (Known j))))
     → (own (plain a) i ≡ 0) ↔ ((number (plain a) ≡ 0 → ⊥) ⊎ NoFiring)

@@ -63,7 +63,7 @@ module _ (net sheet : List ℕ) where
   unfolding arcsReply
   arcs-judged = judges-then (netReply net) _ (netChecks net) (arcWordChecks (petriNet net) sheet) (net-judged net) (λ p. judges-found _ _ (arcs-tell (petriNet net) sheet))
 
-  read-law : Lawful (readCore net sheet) plainForm 1 (length (minimalForm net sheet) ∷ []) (readChecks net sheet)
+  read-law : Lawful (readCore net sheet) plainForm (length (minimalForm net sheet) ∷ 0 ∷ 0 ∷ []) (readChecks net sheet)
   read-law = record { judged = words-judged; proper = refl; plain-accepted = refl; own-length = refl; plain-refused = λ r. refl }
 
   -- the check's answer is by its verdict
@@ -76,7 +76,7 @@ module _ (net sheet : List ℕ) where
   own-judged n = rw (then-next (netReply net) _ n) (judges-found _ _ (words-tell (petriNet net) sheet))
 
 module _ (net x y : List ℕ) where
-  forms-law : Lawful (bothCore net x y) plainForms 2 (length (minimalForm net x) ∷ length (minimalForm net y) ∷ []) (readChecks net x ++ wordChecks (petriNet net) y)
+  forms-law : Lawful (bothCore net x y) plainForms (length (minimalForm net x) ∷ length (minimalForm net y) ∷ 0 ∷ []) (readChecks net x ++ wordChecks (petriNet net) y)
   forms-law = record {
     judged = judges-then (wordsReply net x) (wordsReply net y) (readChecks net x) (wordChecks (petriNet net) y) (words-judged net x)
         (λ p. own-judged net y (net-judged net .accepts .1 (pass-append (netChecks net) (wordChecks (petriNet net) x) .0 p .0)));

@@ -143,7 +143,7 @@ module _ (net sheet : List ℕ) where
   answer-same Accepted lent e (Refused x) f = rw (e, verdict-same, f)
   answer-same Accepted lent e Accepted f = rw (e, verdict-same, f) (ap Passed (counts-same f))
 
-  slow-law : Lawful (slowCore net sheet) plainCheck 3 (slowCounts net sheet .nodes ∷ slowCounts net sheet .arcs ∷ slowCounts net sheet .awaits ∷ [])
+  slow-law : Lawful (slowCore net sheet) plainCheck (slowCounts net sheet .nodes ∷ slowCounts net sheet .arcs ∷ slowCounts net sheet .awaits ∷ [])
       (netChecks net ++ sheetChecks (petriNet net) sheet)
   slow-law = record {
     judged = rw verdict-same (check-law net sheet .judged);

@@ -1,12 +1,12 @@
 -- The index of the refused schedule in a comparison's answer: the number of the refusal says whether it is about a schedule.
-use Rattle.scan.proofs.Basics.{ℕ, _≤_, arith, _≡_, refl, sym, subst, inr, ⊎-elim, Bool, true, false, cond, not, _&&_, List, [], _∷_, _++_, length}
+use Rattle.scan.proofs.Basics.{ℕ, _≤_, arith, _≡_, refl, inr, ⊎-elim, Bool, true, false, cond, not, _&&_, List, [], _∷_, _++_, length}
 use mathlib.Core.Logic.{Iff·rfl}
 use Rattle.scan.proofs.Tests.{not-true, and-left, and-right}
-use Rattle.refusal.specs.Refusal.{refusal, plainRefusal}
+use Rattle.refusal.specs.Refusal.{refusal}
 use Rattle.refusal.specs.Limits.{scratchLimit}
 use Rattle.refusal.specs.Checks.{Clause, Check, once, each, FailAt, Fails, AllPass, FirstFails}
 use Rattle.refusal.specs.declared.Position.{Position}
-use Rattle.refusal.specs.declared.Position.the-variants.{Nothing, Entry, Place, Node, Record}
+use Rattle.refusal.specs.declared.Position.the-variants.{Nothing}
 use Rattle.refusal.specs.declared.Refusal.{Refusal}
 use Rattle.refusal.specs.declared.Verdict.{Verdict}
 use Rattle.refusal.specs.declared.Verdict.the-variants as verdict
@@ -19,12 +19,12 @@ use Rattle.sequential.specs.Checks.{sheetChecks}
 use Rattle.sequential.specs.Check.{scheduleReply}
 use Rattle.sequential.proofs.Accepted.{schedule-judged}
 use Rattle.lending.specs.Call.{callVerdict, answerOf}
-use Rattle.lending.specs.Demands.{own, callChecks}
+use Rattle.lending.specs.Demands.{callChecks}
 use Rattle.lending.specs.Index.{plainIndex}
 use Rattle.lending.specs.declared.Index.the-variants.{Known, Missing}
 use Rattle.lending.proofs.Lent.{Room}
 use Rattle.lending.proofs.Judged.{words-judged, call-judged}
-use Rattle.compare.specs.Compare.{ofSchedule, about, plainCompare, compareCore}
+use Rattle.compare.specs.Compare.{ofSchedule, about, sheetIndex, compareCore}
 use Rattle.compare.specs.Means.{CompareDone}
 use Rattle.compare.specs.declared.CompareAnswer.{CompareAnswer}
 use Rattle.compare.proofs.Done.{compare-judged}
@@ -64,15 +64,6 @@ net-numbers net r f = not-true _ (first-fails (λ n. not (ofSchedule n)) (netChe
 
 sheet-numbers : (net sheet : List ℕ) (r : Refusal) → FirstFails (sheetChecks (petriNet net) sheet) r → ofSchedule (r .number) ≡ true
 sheet-numbers net sheet r f = first-fails ofSchedule (sheetChecks (petriNet net) sheet) r (unfold ofSchedule in refl) f
-
--- ---- the last number of a refusal
-
-last-told : (number : ℕ) (at : Position) (p : ℕ) → own (plainRefusal (refusal number at) 3 ++ (p ∷ [])) 3 ≡ p
-last-told number Nothing p = refl
-last-told number (Entry i) p = refl
-last-told number (Place i) p = refl
-last-told number (Node i) p = refl
-last-told number (Record i) p = refl
 
 module _ (net x y scratch : List ℕ) where
   abbrev X : List Check
@@ -161,13 +152,13 @@ module _ (net x y scratch : List ℕ) where
     judged : Judges found (callChecks scratchLimit scratch (((netChecks net ++ X) ++ Y) ++ fits))
     judged = call-judged (compareCore net x y) (one ∷ two ∷ []) scratchLimit scratch (words-judged (compareCore net x y) (one ∷ two ∷ []) (compare-judged net x y) (λ p. Iff·rfl))
 
-    answer-told : (v : Verdict) → found ≡ v → ToldIndex net x y scratch (own (plainCompare (answerOf (compareCore net x y) v)) 3)
+    answer-told : (v : Verdict) → found ≡ v → ToldIndex net x y scratch (sheetIndex (answerOf (compareCore net x y) v))
     answer-told verdict.Accepted e =
         let (l, p) = judged .accepts .0 e in
         let (a, q) = pass-append (netChecks net ++ X) Y .0 (pass-append ((netChecks net ++ X) ++ Y) fits .0 p .0) in
         after-told (pass-append (netChecks net) X .0 a .1) q
-    answer-told (verdict.Refused r) e = subst (ToldIndex net x y scratch) (sym (last-told (r .number) (r .at) (toldBy r))) (by-call r (judged .refuses r .0 e))
+    answer-told (verdict.Refused r) e = by-call r (judged .refuses r .0 e)
 
   pub index-told : {one two one′ two′ scratch′ : List ℕ} {a : CompareAnswer} → CompareDone net x y one two scratch a one′ two′ scratch′
-      → ToldIndex net x y scratch (own (plainCompare a) 3)
+      → ToldIndex net x y scratch (sheetIndex a)
   index-told {one} {two} d = rw (d .call .reply) (answer-told one two (found one two) refl)

@@ -12,7 +12,7 @@ use Rattle.net.specs.Checks.{IsNet}
 use Rattle.sequential.specs.Petri.{petriNet}
 use Rattle.sequential.specs.Checks.{sheetChecks}
 use Rattle.lending.specs.Demands.{number, own, EveryCall}
-use Rattle.compare.specs.Compare.{plainCompare, plainCompared}
+use Rattle.compare.specs.Compare.{plainCompare, sheetIndex}
 use Rattle.compare.specs.Means.{CompareDone}
 use Rattle.compare.specs.declared.CompareAnswer.{CompareAnswer}
 use Rattle.demands.specs.Terms.{said, allChecks, Accepted}
@@ -60,7 +60,7 @@ allCompareChecks net x y Room = allChecks net x (sheetChecks (petriNet net) y ++
 pub record EveryComparison (net x y : List ℕ) : Type 0 where
   pub forFirst : ℕ
   pub forSecond : ℕ
-  pub every : (one two : List ℕ) → EveryCall {Left = List ℕ × List ℕ} scratchLimit plainCompared 3 (allCompareChecks net x y ((forFirst ≤ length one) × (forSecond ≤ length two)))
+  pub every : (one two : List ℕ) → EveryCall {Left = List ℕ × List ℕ} scratchLimit plainCompare (allCompareChecks net x y ((forFirst ≤ length one) × (forSecond ≤ length two)))
       (one, two) (λ s a left s′. CompareDone net x y one two s a (left .0) (left .1) s′)
   pub answered : (c : Comparing net x y) → (firstSize c ≡ forFirst) × (secondSize c ≡ forSecond)
 
@@ -84,7 +84,7 @@ pub record FormOfSheet (net sheet out form out′ : List ℕ) : Type 0 where
 
 pub record CompareDemand : Type 0 where
   pub every : (net x y : List ℕ) → EveryComparison net x y
-  pub index : (net x y one two s one′ two′ s′ : List ℕ) (a : CompareAnswer) → CompareDone net x y one two s a one′ two′ s′ → ToldIndex net x y s (own (plainCompare a) 3)
+  pub index : (net x y one two s one′ two′ s′ : List ℕ) (a : CompareAnswer) → CompareDone net x y one two s a one′ two′ s′ → ToldIndex net x y s (sheetIndex a)
   -- nothing depends on what the buffers and scratch held: §13.5
   pub unread : (net x y o₁ o₂ t₁ t₂ s₁ s₂ o₁′ o₂′ t₁′ t₂′ s₁′ s₂′ : List ℕ) (a₁ a₂ : CompareAnswer) → length o₁ ≡ length o₂ → length t₁ ≡ length t₂ → length s₁ ≡ length s₂
       → CompareDone net x y o₁ t₁ s₁ a₁ o₁′ t₁′ s₁′ → CompareDone net x y o₂ t₂ s₂ a₂ o₂′ t₂′ s₂′

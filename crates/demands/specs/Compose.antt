@@ -23,7 +23,7 @@ use Rattle.composed.specs.Product.{Tasks, OnePerSource, sizeOf, nodeOf, allAwai
 use Rattle.composed.specs.Composed.{ReachedPart, Disabled, Dependent, ReachedEnabled, OneBusy, Composable, Serves, OwnSources}
 use Rattle.composed.specs.Sheet.{fourSheets, givenSheets, sourceOf, netOf, tasksOf}
 use Rattle.composed.specs.Checks.{NumberPasses, FewPass, composeChecks}
-use Rattle.composed.specs.Call.{ComposeDone, plainCompose, withoutSheet}
+use Rattle.composed.specs.Call.{ComposeDone, plainCompose, sheetIndex}
 use Rattle.composed.specs.Named.{Named}
 use Rattle.composed.specs.declared.ComposeAnswer.{ComposeAnswer}
 use Rattle.demands.specs.Terms.{said}
@@ -60,7 +60,7 @@ module _ (net : List ℕ) (k : ℕ) (a b c d : List ℕ) where
   -- it does what every call does (§13.1), by its checks; the words that it needs of the buffer are as many as the length that it answers
   pub record EveryComposition : Type 0 where
     pub needed : ℕ
-    pub every : (out : List ℕ) → EveryCall scratchLimit withoutSheet 1 (allComposeChecks net k a b c d (needed ≤ length out)) out (ComposeDone net k a b c d out)
+    pub every : (out : List ℕ) → EveryCall scratchLimit plainCompose (allComposeChecks net k a b c d (needed ≤ length out)) out (ComposeDone net k a b c d out)
     pub answered : (x : Composing net k a b c d) → composedSize x ≡ needed
 
   -- the written schedule is accepted; its nodes are the reached states, numbered breadth first
@@ -106,7 +106,7 @@ pub record ComposeDemand : Type 0 where
   pub every : (net : List ℕ) (k : ℕ) (a b c d : List ℕ) → EveryComposition net k a b c d
   -- the index that comes with a refusal: §10.30
   pub named : (net : List ℕ) (k : ℕ) (a b c d out s out′ s′ : List ℕ) (r : ComposeAnswer) → ComposeDone net k a b c d out s r out′ s′
-      → (i : ℕ) → (own (plainCompose r) 1 ≡ i + 1) ↔ Named net k (givenSheets k a b c d) s i
+      → (i : ℕ) → (sheetIndex r ≡ i + 1) ↔ Named net k (givenSheets k a b c d) s i
   -- nothing depends on what the buffers held (§13.5), nor on a slice past the number of schedules
   pub unread : (net : List ℕ) (k : ℕ) (a b c d : List ℕ) → Unread (ComposeDone net k a b c d)
   pub past-unread : (net : List ℕ) (k : ℕ) (a b c d a₁ b₁ c₁ d₁ out s out′ s′ : List ℕ) (r : ComposeAnswer)

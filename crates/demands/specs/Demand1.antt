@@ -29,19 +29,19 @@ Unread {Answer} Done = (o₁ o₂ s₁ s₂ o₁′ o₂′ s₁′ s₂′ : Li
 
 pub record Demand1 : Type 0 where
   -- ---- each call on its own: §10.1, §10.3 to §10.9
-  pub net-check : (net : List ℕ) (v : Verdict) → NetDone net v → ByChecks (netChecks net) (plainVerdict v) 0
+  pub net-check : (net : List ℕ) (v : Verdict) → NetDone net v → ByChecks (netChecks net) (plainVerdict v)
   pub fresh-walker : (net : List ℕ) (v : Verdict) (w : Walker) → FreshDone net v w
-      → ByChecks (netChecks net) (plainVerdict v) 0 × ((number (plainVerdict v) ≡ 0 → ⊥) → w ≡ record { node = 0; counts = replicate mostPlaces 0 })
-  pub check : (net sheet : List ℕ) → EveryCall {Left = Unit} scratchLimit plainCheck 3 (allChecks net sheet []) tt (λ s a left s′. CheckDone net sheet s a s′)
+      → ByChecks (netChecks net) (plainVerdict v) × ((number (plainVerdict v) ≡ 0 → ⊥) → w ≡ record { node = 0; counts = replicate mostPlaces 0 })
+  pub check : (net sheet : List ℕ) → EveryCall {Left = Unit} scratchLimit plainCheck (allChecks net sheet []) tt (λ s a left s′. CheckDone net sheet s a s′)
   pub place-bounds : (net sheet out : List ℕ)
-      → EveryCall scratchLimit plainVerdict 0 (allChecks net sheet (once (petriNet net .places ≤ length out) 22 ∷ [])) out (BoundsDone net sheet out)
+      → EveryCall scratchLimit plainVerdict (allChecks net sheet (once (petriNet net .places ≤ length out) 22 ∷ [])) out (BoundsDone net sheet out)
   pub fire : (net sheet : List ℕ) (w : Walker) (t : ℕ)
-      → EveryCall scratchLimit plainFire 1 (allChecks net sheet (walkerChecks (petriNet net) sheet w t)) w (λ s a next s′. FireDone net sheet s w t a next s′)
+      → EveryCall scratchLimit plainFire (allChecks net sheet (walkerChecks (petriNet net) sheet w t)) w (λ s a next s′. FireDone net sheet s w t a next s′)
   pub run : (net sheet firings out : List ℕ)
-      → EveryCall scratchLimit plainRun 3 (allChecks net sheet (runChecks (petriNet net) sheet firings ++ (once (petriNet net .places ≤ length out) 22 ∷ []))) out (RunDone net sheet firings out)
+      → EveryCall scratchLimit plainRun (allChecks net sheet (runChecks (petriNet net) sheet firings ++ (once (petriNet net .places ≤ length out) 22 ∷ []))) out (RunDone net sheet firings out)
   -- demand 3 says how many words the minimal form needs (§11.7)
   pub minimal-form : (net sheet : List ℕ) → (needed : ℕ)
-      × ((out : List ℕ) → EveryCall scratchLimit plainForm 1 (allChecks net sheet (once (needed ≤ length out) 22 ∷ [])) out (FormDone net sheet out))
+      × ((out : List ℕ) → EveryCall scratchLimit plainForm (allChecks net sheet (once (needed ≤ length out) 22 ∷ [])) out (FormDone net sheet out))
   -- ---- and none depends on what the buffers held
   pub bounds-unread : (net sheet : List ℕ) → Unread (BoundsDone net sheet)
   pub run-unread : (net sheet firings : List ℕ) → Unread (RunDone net sheet firings)

@@ -71,7 +71,7 @@ pub record Demand2 : Type 0 where
   pub published : (net sheet s s′ : List ℕ) (a : CheckAnswer) → CheckDone net sheet s a s′ → scratchLimit ≤ length s → IsNet net → WordsPass (petriNet net) sheet
       → (number (plainCheck a) ≡ 0) ↔ (SequentialSchedule (petriNet net) (said net sheet) × ((n : ℕ) → n < said net sheet .nodes → Reachable (said net sheet) n))
   -- otherwise the first check that fails is named: §7.54
-  pub names : (net sheet s s′ : List ℕ) (a : CheckAnswer) → CheckDone net sheet s a s′ → ByChecks (allChecks net sheet [] s) (plainCheck a) 3
+  pub names : (net sheet s s′ : List ℕ) (a : CheckAnswer) → CheckDone net sheet s a s′ → ByChecks (allChecks net sheet [] s) (plainCheck a)
   -- what is counted: §10.3
   pub counts : (net sheet s s′ : List ℕ) (a : CheckAnswer) → CheckDone net sheet s a s′ → number (plainCheck a) ≡ 0
       → Counted (petriNet net) (said net sheet) (own (plainCheck a) 0) (own (plainCheck a) 1) (own (plainCheck a) 2)

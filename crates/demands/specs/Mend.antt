@@ -58,7 +58,7 @@ allMendChecks net sheet Room scratch = once (scratchLimit ≤ length scratch) 21
 pub record EveryMending (net sheet : List ℕ) : Type 0 where
   pub forSheet : ℕ
   pub forList : ℕ
-  pub every : (out list : List ℕ) → EveryCall {Left = List ℕ × List ℕ} scratchLimit plainMend 2 (allMendChecks net sheet ((forSheet ≤ length out) × (forList ≤ length list)))
+  pub every : (out list : List ℕ) → EveryCall {Left = List ℕ × List ℕ} scratchLimit plainMend (allMendChecks net sheet ((forSheet ≤ length out) × (forList ≤ length list)))
       (out, list) (λ s a left s′. MendDone net sheet out list s a (left .0) (left .1) s′)
   pub answered : (c : Mending net sheet) → (mendedSize c ≡ forSheet) × (listSize c ≡ forList)
 

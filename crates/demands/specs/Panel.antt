@@ -71,22 +71,22 @@ pub record PanelDemand : Type 0 where
       → SameOnPanel {Left = List ℕ × List ℕ} (λ s a left s′. PanelMendDone net sheet out list s a (left .0) (left .1) s′)
       (λ s a left s′. MendDone net sheet out list s a (left .0) (left .1) s′)
   -- each does what every call does (§13.1), with 1,024 in place of 8,192: fewer words are refused by 21, and so many words are cleared
-  pub every-check : (net sheet : List ℕ) → EveryCall {Left = Unit} panelLimit plainCheck 3 (panelChecks net sheet []) tt (λ s a left s′. PanelCheckDone net sheet s a s′)
+  pub every-check : (net sheet : List ℕ) → EveryCall {Left = Unit} panelLimit plainCheck (panelChecks net sheet []) tt (λ s a left s′. PanelCheckDone net sheet s a s′)
   pub every-bounds : (net sheet out : List ℕ)
-      → EveryCall panelLimit plainVerdict 0 (panelChecks net sheet (once (petriNet net .places ≤ length out) 22 ∷ [])) out (PanelBoundsDone net sheet out)
+      → EveryCall panelLimit plainVerdict (panelChecks net sheet (once (petriNet net .places ≤ length out) 22 ∷ [])) out (PanelBoundsDone net sheet out)
   pub every-fire : (net sheet : List ℕ) (w : Walker) (t : ℕ)
-      → EveryCall panelLimit plainFire 1 (panelChecks net sheet (walkerChecks (petriNet net) sheet w t)) w (λ s a next s′. PanelFireDone net sheet s w t a next s′)
+      → EveryCall panelLimit plainFire (panelChecks net sheet (walkerChecks (petriNet net) sheet w t)) w (λ s a next s′. PanelFireDone net sheet s w t a next s′)
   pub every-run : (net sheet firings out : List ℕ)
-      → EveryCall panelLimit plainRun 3 (panelChecks net sheet (runChecks (petriNet net) sheet firings ++ (once (petriNet net .places ≤ length out) 22 ∷ []))) out
+      → EveryCall panelLimit plainRun (panelChecks net sheet (runChecks (petriNet net) sheet firings ++ (once (petriNet net .places ≤ length out) 22 ∷ []))) out
       (PanelRunDone net sheet firings out)
   pub every-form : (net sheet : List ℕ) → (needed : ℕ)
-      × ((out : List ℕ) → EveryCall panelLimit plainForm 1 (panelChecks net sheet (once (needed ≤ length out) 22 ∷ [])) out (PanelFormDone net sheet out))
+      × ((out : List ℕ) → EveryCall panelLimit plainForm (panelChecks net sheet (once (needed ≤ length out) 22 ∷ [])) out (PanelFormDone net sheet out))
   pub every-replay : (net sheet log taken put : List ℕ)
-      → EveryCall {Left = List ℕ × List ℕ} panelLimit plainReplay 3
+      → EveryCall {Left = List ℕ × List ℕ} panelLimit plainReplay
       (panelChecks net sheet (replayChecks (petriNet net) sheet log ++ (once ((petriNet net .places ≤ length taken) × (petriNet net .places ≤ length put)) 22 ∷ [])))
       (taken, put) (λ s a left s′. PanelReplayDone net sheet log taken put s a (left .0) (left .1) s′)
   pub every-mend : (net sheet : List ℕ) → (forSheet : ℕ) × (forList : ℕ)
-      × ((out list : List ℕ) → EveryCall {Left = List ℕ × List ℕ} panelLimit plainMend 2 (panelMendChecks net sheet ((forSheet ≤ length out) × (forList ≤ length list)))
+      × ((out list : List ℕ) → EveryCall {Left = List ℕ × List ℕ} panelLimit plainMend (panelMendChecks net sheet ((forSheet ≤ length out) × (forList ≤ length list)))
       (out, list) (λ s a left s′. PanelMendDone net sheet out list s a (left .0) (left .1) s′))
   -- what the panel accepts is what the other check accepts, so that demand 3, which holds of forms made under any limit, is said of the panel's too: §11.9
   pub accepted : (net sheet : List ℕ) → PanelAccepted net sheet ↔ Accepted net sheet

@@ -69,7 +69,7 @@ pub record Stimulus (net sheet : List ℕ) (a t : ℕ) : Type 0 where
 -- it does what every call does, by its checks: scratch, the net, the schedule, 32, 33, and room for the report
 abbrev pub EveryReaction : List ℕ → List ℕ → List ℕ → List ℕ → Type 0
 EveryReaction net sheet durations out =
-    EveryCall scratchLimit plainReaction 1 (allChecks net sheet (reactionChecks (petriNet net) sheet durations ++ (once (pairWords net sheet ≤ length out) 22 ∷ []))) out
+    EveryCall scratchLimit plainReaction (allChecks net sheet (reactionChecks (petriNet net) sheet durations ++ (once (pairWords net sheet ≤ length out) 22 ∷ []))) out
     (ReactionDone net sheet durations out)
 
 pub record ReactionDemand : Type 0 where

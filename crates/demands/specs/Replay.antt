@@ -62,7 +62,7 @@ LeftAlike o₁ o₂ o₁′ o₂′ = (i : ℕ) → (getD o₁′ i 0 ≡ getD o
 -- it does what every call does (§13.1), by its checks; 22 if either buffer has fewer numbers than there are places
 abbrev pub EveryReplay : List ℕ → List ℕ → List ℕ → List ℕ → List ℕ → Type 0
 EveryReplay net sheet log taken put =
-    EveryCall {Left = List ℕ × List ℕ} scratchLimit plainReplay 3
+    EveryCall {Left = List ℕ × List ℕ} scratchLimit plainReplay
     (allChecks net sheet (replayChecks (petriNet net) sheet log ++ (once ((petriNet net .places ≤ length taken) × (petriNet net .places ≤ length put)) 22 ∷ [])))
     (taken, put) (λ s a left s′. ReplayDone net sheet log taken put s a (left .0) (left .1) s′)
 
@@ -82,4 +82,4 @@ pub record ReplayDemand : Type 0 where
   pub runs : (net sheet log taken put s taken′ put′ s′ out t out′ t′ : List ℕ) (a : ReplayAnswer) (b : RunAnswer) (i : ℕ)
       → ReplayDone net sheet log taken put s a taken′ put′ s′ → RunDone net sheet (firings log) out t b out′ t′ → scratchLimit ≤ length s → scratchLimit ≤ length t
       → AllPass (logChecks log) → ((j : ℕ) → j < i → NodeReached (petriNet net) sheet log j)
-      → (plainReplay a ≡ plainRefusal (refusal 20 (Record i)) 3) ↔ (plainRun b ≡ plainRefusal (refusal 20 (Record i)) 3)
+      → (plainReplay a ≡ plainRefusal (refusal 20 (Record i))) ↔ (plainRun b ≡ plainRefusal (refusal 20 (Record i)))

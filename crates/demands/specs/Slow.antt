@@ -66,6 +66,6 @@ pub record SlowDemand : Type 0 where
   pub tables : (net : List ℕ) (s : Spread) → placeCount net ≤ 32 → transitionCount net ≤ 32 → NetSpread net s → TablesRight net s
   pub grid : (net sheet grid : List ℕ) → placeCount net ≤ 32 → transitionCount net ≤ 32 → nodeCount sheet ≤ 128 → GridSpread net sheet grid → GridRight net sheet grid
   -- it does what every call does (§13.1), by the checks of the schedule check
-  pub every : (net sheet : List ℕ) → EveryCall {Left = Unit} scratchLimit plainCheck 3 (allChecks net sheet []) tt (λ s a left s′. SlowDone net sheet s a s′)
+  pub every : (net sheet : List ℕ) → EveryCall {Left = Unit} scratchLimit plainCheck (allChecks net sheet []) tt (λ s a left s′. SlowDone net sheet s a s′)
   -- the schedule check gives the same answer (number, kind, position and counts), whatever words and scratch are lent, and leaves the same in scratch
   pub alike : (net sheet scratch s₁ s₂ : List ℕ) (a b : CheckAnswer) → SlowDone net sheet scratch a s₁ → CheckDone net sheet scratch b s₂ → Same a b s₁ s₂

@@ -57,7 +57,7 @@ allTrimChecks net sheet Room scratch = once (scratchLimit ≤ length scratch) 21
 pub record EveryTrimming (net sheet : List ℕ) : Type 0 where
   pub forSheet : ℕ
   pub forList : ℕ
-  pub every : (out list : List ℕ) → EveryCall {Left = List ℕ × List ℕ} scratchLimit plainTrim 2 (allTrimChecks net sheet ((forSheet ≤ length out) × (forList ≤ length list)))
+  pub every : (out list : List ℕ) → EveryCall {Left = List ℕ × List ℕ} scratchLimit plainTrim (allTrimChecks net sheet ((forSheet ≤ length out) × (forList ≤ length list)))
       (out, list) (λ s a left s′. TrimDone net sheet out list s a (left .0) (left .1) s′)
   pub answered : (c : TrimCall net sheet) → (trimmedSize c ≡ forSheet) × (keptSize c ≡ forList)
 

@@ -8,8 +8,6 @@ use Rattle.table.specs.Table.{keyAt, valueAt}
 use Rattle.refusal.specs.Checks.{once}
 use Rattle.refusal.specs.declared.Verdict.the-variants.{Accepted}
 use Rattle.refusal.proofs.Judges.{Judges, pass-append}
-use Rattle.net.specs.Checks.{netChecks}
-use Rattle.sequential.specs.Checks.{sheetChecks}
 use Rattle.sequential.specs.Petri.{petriNet}
 use Rattle.sequential.specs.Words.{entryCount, entryKey, entryValue, arcKeys, keyLimit}
 use Rattle.sequential.specs.Check.{scheduleReply}
@@ -19,17 +17,17 @@ use Rattle.graph.proofs.Readable.{known}
 use Rattle.judge.proofs.Judged.{accepted-readable}
 use Rattle.lending.specs.Call.{wordsVerdict}
 use Rattle.lending.proofs.Lent.{Room, room-one}
-use Rattle.lending.proofs.Judged.{Lawful, words-judged, words-judged-none}
+use Rattle.lending.proofs.Judged.{words-judged, words-judged-none}
 use Rattle.schedule.proofs.Done.{check-law}
 use Rattle.minimal.specs.Minimal.{minimalForm}
-use Rattle.minimal.specs.Form.{formCore}
+use Rattle.minimal.proofs.Done.{form-law}
 use Rattle.minimal.proofs.Minimal.{form-accepted, form-lists, form-short, forms-equal}
 use Rattle.octets.specs.Words.{allWords}
 use Rattle.octets.specs.Bytes.{bytesOf, bytesOver}
 use Rattle.octets.proofs.Decoding.{words-count}
 use Rattle.octets.proofs.Writing.{bytes-length, byte-there, number-at, words-back}
 use Rattle.firmware.specs.Bytes.{scratchBytes, replyBytes}
-use Rattle.firmware.specs.Calls.{checkBytes, formBytes, sixForm}
+use Rattle.firmware.specs.Calls.{checkBytes, formBytes}
 use Rattle.firmware.specs.Demands.{Whole, decodedChecks, BytesAccepted, AlwaysAccepted, BytesForm, size, made, SameBytes, bytesSaid}
 use Rattle.firmware.proofs.Judged.{bytes-law, every-bytes, zero-passes, passes-zero, zero-written}
 
@@ -65,14 +63,11 @@ module _ (net sheet : List ℕ) (h : scheduleReply net sheet ≡ Accepted) where
 pub room-bytes : (result out : List ℕ) → (length result ≤ length out / 4) ↔ Room (result ∷ []) (allWords out ∷ [])
 room-bytes result out = (λ l. room-one result (allWords out) .0 (omega (arith, words-count out)), λ r. omega (arith, words-count out, r 0))
 
-pub form-six-law : (net sheet : List ℕ) → Lawful (formCore net sheet) sixForm 3 (length (minimalForm net sheet) ∷ 0 ∷ 0 ∷ []) (netChecks net ++ sheetChecks (petriNet net) sheet)
-form-six-law net sheet = record { judged = schedule-judged net sheet; proper = refl; plain-accepted = refl; own-length = refl; plain-refused = λ r. refl }
-
 module _ (net sheet : List ℕ) where
   pub form-judged : (out : List ℕ) → Judges (wordsVerdict (formBytes net sheet) (allWords out ∷ []))
       (once (Whole (length net) (length sheet) 0) 31 ∷ (decodedChecks net sheet ++ (once (length (minimalForm (allWords net) (allWords sheet)) ≤ length out / 4) 22 ∷ [])))
   form-judged out =
-      words-judged (formBytes net sheet) (allWords out ∷ []) (bytes-law (length net) (length sheet) 0 (form-six-law (allWords net) (allWords sheet)) .judged)
+      words-judged (formBytes net sheet) (allWords out ∷ []) (bytes-law (length net) (length sheet) 0 (form-law (allWords net) (allWords sheet)) .judged)
       (λ p. room-bytes (minimalForm (allWords net) (allWords sheet)) out)
 
   pub check-judged : Judges (wordsVerdict (checkBytes net sheet) (allWords [] ∷ [])) (once (Whole (length net) (length sheet) 0) 31 ∷ decodedChecks net sheet)
@@ -99,11 +94,11 @@ module _ (net sheet : List ℕ) (c : BytesForm net sheet) where
 
   passed : Whole (length net) (length sheet) 0 × (scheduleReply (allWords net) (allWords sheet) ≡ Accepted)
   passed =
-      let (l, (s, (w, rest))) = zero-passes (length net) (length sheet) 0 (c .out) (form-six-law (allWords net) (allWords sheet)) (form-judged net sheet (c .out)) refl _ _ _ _ _ (c .done) in
+      let (l, (s, (w, rest))) = zero-passes (length net) (length sheet) 0 (c .out) (form-law (allWords net) (allWords sheet)) (form-judged net sheet (c .out)) refl _ _ _ _ _ (c .done) in
       (w, schedule-judged (allWords net) (allWords sheet) .accepts .1 (pass-append (decodedChecks net sheet) (once (length form ≤ length (c .out) / 4) 22 ∷ []) .0 rest .0))
 
   left : (c .out′ ≡ bytesOver 4 form (c .out)) × (c .reply′ ≡ bytesOver 8 (0 ∷ 0 ∷ 0 ∷ length form ∷ 0 ∷ 0 ∷ []) (c .reply))
-  left = zero-written (length net) (length sheet) 0 (c .out) (form-six-law (allWords net) (allWords sheet)) (form-judged net sheet (c .out)) refl _ _ _ _ _ (c .done)
+  left = zero-written (length net) (length sheet) 0 (c .out) (form-law (allWords net) (allWords sheet)) (form-judged net sheet (c .out)) refl _ _ _ _ _ (c .done)
 
   size-form : size c ≡ length form
   unfolding bytesOver
@@ -158,7 +153,7 @@ pub form-there : (net sheet out scratch reply : List ℕ) → BytesAccepted net 
     → (c : BytesForm net sheet) × (c .out ≡ out) × (c .scratch ≡ scratch) × (c .reply ≡ reply)
 form-there net sheet out scratch reply a ls lp lo =
     let (w, h) = accepted-passes net sheet a in
-    let law = form-six-law (allWords net) (allWords sheet) in
+    let law = form-law (allWords net) (allWords sheet) in
     let (r, out′, s′, p′, d) = every-bytes (length net) (length sheet) 0 out law (form-judged net sheet out) refl .replies scratch reply in
     let room : length (minimalForm (allWords net) (allWords sheet)) ≤ length out / 4 = omega (arith, form-short (allWords net) (allWords sheet) h) in
     let z : r ≡ 0 = passes-zero (length net) (length sheet) 0 out law (form-judged net sheet out) refl _ _ _ _ _ _ d lp (

@@ -47,8 +47,8 @@ module _ (net sheet firings : ℕ) where
   broken-judged = judges-found _ _ broken-tells
 
   -- a core that asks 31 first is lawful where the word call's is
-  pub bytes-law : {Answer : Type 0} {core : Core Answer} {six : Answer → List ℕ} {k : ℕ} {own : List ℕ} {words : List Check} → Lawful core six k own words
-      → Lawful (overBytes (brokenFault net sheet firings) core) six k own (once (Whole net sheet firings) 31 ∷ words)
+  pub bytes-law : {Answer : Type 0} {core : Core Answer} {six : Answer → List ℕ} {own : List ℕ} {words : List Check} → Lawful core six own words
+      → Lawful (overBytes (brokenFault net sheet firings) core) six own (once (Whole net sheet firings) 31 ∷ words)
   bytes-law {words = words} law = record {
     judged = judges-then (brokenFault net sheet firings) _ (once (Whole net sheet firings) 31 ∷ []) words broken-judged (λ p. law .judged);
     proper = law .proper;
@@ -60,7 +60,7 @@ module _ (net sheet firings : ℕ) where
 -- ---- a call done
 
 module _ (net sheet firings : ℕ) (out : List ℕ) {Answer : Type 0} {core : Core Answer} {six : Answer → List ℕ} {own : List ℕ} {words rest : List Check}
-    (law : Lawful core six 3 own words) (j : Judges (wordsVerdict (overBytes (brokenFault net sheet firings) core) (allWords out ∷ [])) (once (Whole net sheet firings) 31 ∷ rest))
+    (law : Lawful core six own words) (j : Judges (wordsVerdict (overBytes (brokenFault net sheet firings) core) (allWords out ∷ [])) (once (Whole net sheet firings) 31 ∷ rest))
     (none31 : without 31 rest ≡ true) where
   abbrev over : Core Answer
   over = overBytes (brokenFault net sheet firings) core
@@ -80,7 +80,7 @@ module _ (net sheet firings : ℕ) (out : List ℕ) {Answer : Type 0} {core : Co
     value l v e = d .enough l .returned ∙ answer-number (bytes-law net sheet firings law) (bytesVerdict over out (length s)) ∙ ap numberOf e
 
     numbers : replyBytes ≤ length p
-        → (plain : List ℕ) × (length plain ≡ 6) × ByChecks (bytesChecks s (Whole net sheet firings) rest) plain 3 × (r ≡ number plain) × (p′ ≡ bytesOver 8 plain p)
+        → (plain : List ℕ) × (length plain ≡ 6) × ByChecks (bytesChecks s (Whole net sheet firings) rest) plain × (r ≡ number plain) × (p′ ≡ bytesOver 8 plain p)
     numbers l = (
       six (bytesAnswer over out (length s)),
       plain-length (bytes-law net sheet firings law) (answered s),

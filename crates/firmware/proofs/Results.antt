@@ -1,25 +1,23 @@
 -- A result that is written as bytes: 22 counts whole words. The minimal form is first written to an array of words that has room for any.
-use Rattle.scan.proofs.Basics.{ℕ, _/_, _≤_, arith, _≡_, refl, sym, ap, _∙_, List, [], _∷_, _++_, length, take, drop, getD, length-append}
+use Rattle.scan.proofs.Basics.{ℕ, _/_, _≤_, arith, _≡_, refl, sym, _∙_, List, [], _∷_, _++_, length, take, drop, length-append}
 use lib.Seq.{take-append-seam}
 use Rattle.scan.specs.Scan.{tabulate}
 use Rattle.scan.specs.Placed.{placed}
 use Rattle.refusal.specs.declared.Refusal.{Refusal}
 use Rattle.refusal.specs.declared.Verdict.{Verdict}
 use Rattle.refusal.specs.declared.Verdict.the-variants.{Accepted, Refused}
-use Rattle.refusal.proofs.Verdicts.{refusal-parts}
 use Rattle.sequential.specs.Check.{scheduleReply}
 use Rattle.lending.specs.Call.{Core, roomFault, outputFault, wordsVerdict, writtenAt}
 use Rattle.lending.proofs.Lent.{room-enough, room-holds}
 use Rattle.minimal.specs.Minimal.{minimalForm}
-use Rattle.minimal.specs.Form.{formCore, FormWritten, plainForm}
+use Rattle.minimal.specs.Form.{formCore, FormWritten}
 use Rattle.minimal.specs.declared.FormAnswer.{FormAnswer}
 use Rattle.minimal.specs.declared.FormAnswer.the-variants as form
 use Rattle.minimal.proofs.Minimal.{form-short}
 use Rattle.octets.specs.Bytes.{bytesOf}
 use Rattle.octets.proofs.Decoding.{words-count}
 use Rattle.octets.proofs.Writing.{bytes-over}
-use Rattle.firmware.specs.Calls.{sixForm}
-use Rattle.firmware.specs.Parts.{Written, Tells}
+use Rattle.firmware.specs.Parts.{Written}
 use Rattle.firmware.proofs.Cut.{refused-written}
 
 -- ---- of a call with one output buffer
@@ -80,19 +78,3 @@ module _ (net sheet words words′ : List ℕ) (a : FormAnswer) where
       go : (v : Verdict) → scheduleReply net sheet ≡ v → Written (formCore net sheet) out (form.Refused r) out
       go Accepted e = let (x, y) = by-room l e d in let z : _≡_ {A = ℕ} 0 1 = cc in absurd (omega arith)
       go (Refused x) e = refused-written e (sym q ∙ by-refusal x e d)
-
--- its four plain numbers and two zeros
-
-abbrev padded : List ℕ → List ℕ
-padded p = getD p 0 0 ∷ getD p 1 0 ∷ getD p 2 0 ∷ getD p 3 0 ∷ 0 ∷ 0 ∷ []
-
-padded-six : (a : FormAnswer) (p : List ℕ) → p ≡ plainForm a → padded p ≡ sixForm a
-padded-six (form.Written n) p e = rw e
-padded-six (form.Refused r) p e = ap padded (e ∙ sym (refusal-parts r 1)) ∙ refusal-parts r 3
-
-module _ (a : FormAnswer) (p : List ℕ) where
-  pub form-told-written : (n : ℕ) → p ≡ plainForm a → a ≡ form.Written n → Tells sixForm a (record { number = 0; plain = padded p })
-  form-told-written n e q = record { number-told = rw q; plain-told = padded-six a p e }
-
-  pub form-told-refused : (r : Refusal) → p ≡ plainForm a → a ≡ form.Refused r → Tells sixForm a (record { number = r .number; plain = padded p })
-  form-told-refused r e q = record { number-told = rw q; plain-told = padded-six a p e }

@@ -34,7 +34,7 @@ words-verdict core net sheet firings out lent w l =
     let whole = broken-judged net sheet firings .accepts .1 (w, tt) in
     call-enough (overBytes (brokenFault net sheet firings) core) (allWords out ∷ []) scratchBytes lent l ∙ rw whole
 
-module _ {Answer : Type 0} {core : Core Answer} {six : Answer → List ℕ} {own : List ℕ} {words : List Check} (net sheet firings : ℕ) (law : Lawful core six 3 own words) where
+module _ {Answer : Type 0} {core : Core Answer} {six : Answer → List ℕ} {own : List ℕ} {words : List Check} (net sheet firings : ℕ) (law : Lawful core six own words) where
   abbrev overWords : Core Answer
   overWords = overBytes (brokenFault net sheet firings) core
 

@@ -1,9 +1,8 @@
 -- The calls over bytes: what each makes of its bytes, and its postcondition.
 use Prim.Native.Nat.{ℕ, _+_}
 use mathlib.Core.Path.{_≡_}
-use mathlib.Core.List.{List, [], _∷_}
+use mathlib.Core.List.{List, []}
 use lib.ListN.{length}
-use Rattle.refusal.specs.Refusal.{plainRefusal}
 use Rattle.graph.specs.Rows.{markingRow}
 use Rattle.judge.specs.Answer.{plainCheck}
 use Rattle.judge.specs.declared.CheckAnswer.{CheckAnswer}
@@ -15,9 +14,8 @@ use Rattle.schedule.specs.declared.Walker.{Walker}
 use Rattle.schedule.specs.declared.RunAnswer.{RunAnswer}
 use Rattle.schedule.specs.declared.FireAnswer.{FireAnswer}
 use Rattle.schedule.specs.declared.FireAnswer.the-variants.{Done, Stopped}
-use Rattle.minimal.specs.Form.{formCore}
+use Rattle.minimal.specs.Form.{formCore, plainForm}
 use Rattle.minimal.specs.declared.FormAnswer.{FormAnswer}
-use Rattle.minimal.specs.declared.FormAnswer.the-variants.{Written, Refused}
 use Rattle.octets.specs.Words.{allWords}
 use Rattle.firmware.specs.Bytes.{scratchBytes, brokenFault, overBytes, bytesAnswer, BytesDone}
 
@@ -42,13 +40,8 @@ BytesRan net sheet firings out scratch reply r out′ scratch′ reply′ = Byte
 abbrev pub formBytes : List ℕ → List ℕ → Core FormAnswer
 formBytes net sheet = overBytes (brokenFault (length net) (length sheet) 0) (formCore (allWords net) (allWords sheet))
 
--- its plain numbers (§10.9), and 0 for the two numbers for which it has no use (§8.4)
-abbrev pub sixForm : FormAnswer → List ℕ
-sixForm (Written n) = 0 ∷ 0 ∷ 0 ∷ n ∷ 0 ∷ 0 ∷ []
-sixForm (Refused r) = plainRefusal r 3
-
 abbrev pub BytesFormed : List ℕ → List ℕ → List ℕ → List ℕ → List ℕ → ℕ → List ℕ → List ℕ → List ℕ → Type 0
-BytesFormed net sheet out scratch reply r out′ scratch′ reply′ = BytesDone (formBytes net sheet) sixForm out scratch reply r out′ scratch′ reply′
+BytesFormed net sheet out scratch reply r out′ scratch′ reply′ = BytesDone (formBytes net sheet) plainForm out scratch reply r out′ scratch′ reply′
 
 -- ---- the single firing: §15.6
 

@@ -22,11 +22,11 @@ use Rattle.schedule.specs.Calls.{checkCore, runCore, FireDone}
 use Rattle.schedule.specs.Plain.{plainRun}
 use Rattle.schedule.specs.declared.FireAnswer.{FireAnswer}
 use Rattle.schedule.specs.declared.Walker.{Walker}
-use Rattle.minimal.specs.Form.{formCore}
+use Rattle.minimal.specs.Form.{formCore, plainForm}
 use Rattle.octets.specs.Words.{allWords}
 use Rattle.octets.specs.Bytes.{bytesOver, numberAt}
 use Rattle.firmware.specs.Bytes.{scratchBytes, replyBytes, BytesDone}
-use Rattle.firmware.specs.Calls.{checkBytes, BytesChecked, runBytes, BytesRan, formBytes, sixForm, BytesFormed, ownWalker, oneNumber, BytesFired}
+use Rattle.firmware.specs.Calls.{checkBytes, BytesChecked, runBytes, BytesRan, formBytes, BytesFormed, ownWalker, oneNumber, BytesFired}
 
 -- ---- what is checked: §7.65
 
@@ -54,7 +54,7 @@ module _ (checks : List ℕ → List Check) (Unbroken : Type 0) (out : List ℕ)
         → Done s₁ p₁ r₁ out₁ s₁′ p₁′ → Done s₂ p₂ r₂ out₂ s₂′ p₂′ → (r₁ ≡ r₂) × (out₁ ≡ out₂)
     -- the reply has the six numbers of an answer by the call's checks, and the first of them is returned
     pub by-numbers : (s p : List ℕ) (r : ℕ) (out′ s′ p′ : List ℕ) → Done s p r out′ s′ p′ → replyBytes ≤ length p
-        → (six : List ℕ) × (length six ≡ 6) × ByChecks (checks s) six 3 × (r ≡ number six) × (p′ ≡ bytesOver 8 six p)
+        → (six : List ℕ) × (length six ≡ 6) × ByChecks (checks s) six × (r ≡ number six) × (p′ ≡ bytesOver 8 six p)
     -- 21 exactly if reply or scratch is too short; 31 exactly if neither is and some input has a broken word
     pub small : (s p : List ℕ) (r : ℕ) (out′ s′ p′ : List ℕ) → Done s p r out′ s′ p′ → (r ≡ 21) ↔ ((length p < replyBytes) ⊎ (length s < scratchBytes))
     pub broken : (s p : List ℕ) (r : ℕ) (out′ s′ p′ : List ℕ) → Done s p r out′ s′ p′
@@ -175,10 +175,10 @@ pub record BytesDemand : Type 0 where
   pub check-as-words : (net sheet : List ℕ) → AsWords (checkBytes net sheet) (checkCore (allWords net) (allWords sheet)) plainCheck (Whole (length net) (length sheet) 0)
   pub run-as-words : (net sheet firings : List ℕ)
       → AsWords (runBytes net sheet firings) (runCore (allWords net) (allWords sheet) (allWords firings)) plainRun (Whole (length net) (length sheet) (length firings))
-  pub form-as-words : (net sheet : List ℕ) → AsWords (formBytes net sheet) (formCore (allWords net) (allWords sheet)) sixForm (Whole (length net) (length sheet) 0)
+  pub form-as-words : (net sheet : List ℕ) → AsWords (formBytes net sheet) (formCore (allWords net) (allWords sheet)) plainForm (Whole (length net) (length sheet) 0)
   -- nothing depends on what the buffers held
   pub run-unread : (net sheet firings : List ℕ) → Unread (runBytes net sheet firings) plainRun
-  pub form-unread : (net sheet : List ℕ) → Unread (formBytes net sheet) sixForm
+  pub form-unread : (net sheet : List ℕ) → Unread (formBytes net sheet) plainForm
   -- the single firing: what holds of every call, what its number means, and that it does what the word call does
   pub every-fire : (net sheet : List ℕ) (n t : ℕ) → EveryFiring net sheet n t
   pub fire-as-words : (net sheet : List ℕ) (n t : ℕ) → FiresAsWords net sheet n t

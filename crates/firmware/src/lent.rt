@@ -22,7 +22,7 @@ pub(crate) const FIRING_REFUSED: u32 = 2147483648;
 // An answer as six plain numbers. `number` is the first of them as 32 bits, which the call returns.
 pub(crate) struct Six {
     pub number: u32,
-    pub plain: [usize; 6],
+    pub plain: [u64; 6],
 }
 
 // Refusal 21, then 31 for any of the inputs: §7.65.

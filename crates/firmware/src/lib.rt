@@ -11,8 +11,9 @@ ghost use mathlib.Core.Path.{_≡_};
 ghost use mathlib.Core.List.{[]};
 ghost use Rattle.judge.specs.Answer.{plainCheck};
 ghost use Rattle.schedule.specs.Plain.{plainRun};
+ghost use Rattle.minimal.specs.Form.{plainForm};
 ghost use Rattle.firmware.specs.Bytes.{bytesAnswer};
-ghost use Rattle.firmware.specs.Calls.{checkBytes, BytesChecked, runBytes, BytesRan, formBytes, sixForm, BytesFormed, oneNumber, fireBytes, BytesFired};
+ghost use Rattle.firmware.specs.Calls.{checkBytes, BytesChecked, runBytes, BytesRan, formBytes, BytesFormed, oneNumber, fireBytes, BytesFired};
 ghost use Rattle.firmware.specs.Parts.{Tells, Served};
 use self::lent::Six;
 use judge::CheckAnswer;
@@ -113,12 +114,10 @@ pub extern "C" fn wulthrein_run(
 
 // ---- the minimal form
 
-// It has one number of its own: the other two are 0 (§8.4).
 fn six_of_form(answer: FormAnswer) -> Six
-    ensures { λ r. ⌜ Tells sixForm answer r ⌝ }
+    ensures { λ r. ⌜ Tells plainForm answer r ⌝ }
 {
-    let p = answer.plain();
-    let plain = [p[0], p[1], p[2], p[3], 0, 0];
+    let plain = answer.plain();
     match answer {
         FormAnswer::Written(_) => Six { number: 0, plain },
         FormAnswer::Refused(r) => Six {
@@ -129,7 +128,7 @@ fn six_of_form(answer: FormAnswer) -> Six
 }
 
 fn form_six(net: &[u8], sheet: &[u8], out: &mut [u8], lent: usize) -> Six
-    ensures { λ r. ⌜ Served (formBytes (now (net .entry)) (now (sheet .entry))) sixForm lent (now (out .entry)) r (now (out .exit)) ⌝ }
+    ensures { λ r. ⌜ Served (formBytes (now (net .entry)) (now (sheet .entry))) plainForm lent (now (out .entry)) r (now (out .exit)) ⌝ }
 {
     let found = lent::early_fault(lent, net.len(), sheet.len(), 0);
     if let Verdict::Refused(r) = found {

@@ -25,7 +25,7 @@ checkAnswer (Refused r) numbers = Failed r
 -- number, kind, position, nodes, arcs, await nodes (§8.1); the last three are 0 if refused (§8.3)
 abbrev pub plainCheck : CheckAnswer → List ℕ
 plainCheck (Passed c) = 0 ∷ 0 ∷ 0 ∷ c .nodes ∷ c .arcs ∷ c .awaits ∷ []
-plainCheck (Failed r) = plainRefusal r 3
+plainCheck (Failed r) = plainRefusal r
 
 -- ---- what the three public functions are built on: the verdict, and marks at the await nodes of an accepted schedule
 

@@ -30,11 +30,11 @@ done-one {limit = limit} {core = core} {outs = outs} e c d = (
 
 -- ---- every call
 
-module _ {Answer : Type 0} {core : Core Answer} {plain : Answer → List ℕ} {k : ℕ} {own : List ℕ} {words : List Check} (law : Lawful core plain k own words) where
+module _ {Answer : Type 0} {core : Core Answer} {plain : Answer → List ℕ} {own : List ℕ} {words : List Check} (law : Lawful core plain own words) where
   -- what a call may change is its output buffers, as a list in some form that it keeps
   every-call : {Left : Type 0} (limit : ℕ) (buffers : Left → List (List ℕ)) (before : Left) (rest : List Check) → Judges (wordsVerdict core (buffers before)) rest
       → ((l m : Left) → buffers l ≡ buffers m → l ≡ m) → ((v : Verdict) → (left : Left) × (outsAfter v (core .results) (buffers before) ≡ buffers left))
-      → EveryCall limit plain k (λ s. callChecks limit s rest) before (λ s a left s′. CallDone limit core (buffers before) s a (buffers left) s′)
+      → EveryCall limit plain (λ s. callChecks limit s rest) before (λ s a left s′. CallDone limit core (buffers before) s a (buffers left) s′)
   every-call limit buffers before rest j same keeps = record {
     replies = λ s. let (left, e) = keeps (callVerdict limit core (buffers before) (length s)) in
         (_, left, _, record { reply = refl; written = sym e; scratch-after = refl });
@@ -45,7 +45,7 @@ module _ {Answer : Type 0} {core : Core Answer} {plain : Answer → List ℕ} {k
   }
 
   pub every-call-none : {limit : ℕ} → core .results ≡ []
-      → EveryCall {Left = Unit} limit plain k (λ s. callChecks limit s words) tt (λ s a left s′. CallDone limit core [] s a [] s′)
+      → EveryCall {Left = Unit} limit plain (λ s. callChecks limit s words) tt (λ s a left s′. CallDone limit core [] s a [] s′)
   unfolding tabulate
   every-call-none {limit} q = every-call limit (λ u. []) tt words (words-judged-none core [] (law .judged) q) (λ l m e. refl) (λ v. (tt, keeps v))
     where
@@ -54,7 +54,7 @@ module _ {Answer : Type 0} {core : Core Answer} {plain : Answer → List ℕ} {k
       keeps (Refused r) = refl
 
   pub every-call-one : {limit : ℕ} {result out : List ℕ} {Fits : Type 0} → core .results ≡ result ∷ [] → (AllPass words → Fits ↔ (length result ≤ length out))
-      → EveryCall limit plain k (λ s. callChecks limit s (words ++ (once Fits 22 ∷ []))) out (λ s a out′ s′. CallDone limit core (out ∷ []) s a (out′ ∷ []) s′)
+      → EveryCall limit plain (λ s. callChecks limit s (words ++ (once Fits 22 ∷ []))) out (λ s a out′ s′. CallDone limit core (out ∷ []) s a (out′ ∷ []) s′)
   unfolding tabulate
   every-call-one {limit} {result} {out} {Fits} q fits =
       every-call limit (λ (x : List ℕ). x ∷ []) out (words ++ (once Fits 22 ∷ []))
@@ -66,7 +66,7 @@ module _ {Answer : Type 0} {core : Core Answer} {plain : Answer → List ℕ} {k
 
   pub every-call-two : {limit : ℕ} {result₁ result₂ out₁ out₂ : List ℕ} {Fits : Type 0} → core .results ≡ result₁ ∷ result₂ ∷ []
       → (AllPass words → Fits ↔ ((length result₁ ≤ length out₁) × (length result₂ ≤ length out₂)))
-      → EveryCall {Left = List ℕ × List ℕ} limit plain k (λ s. callChecks limit s (words ++ (once Fits 22 ∷ []))) (out₁, out₂)
+      → EveryCall {Left = List ℕ × List ℕ} limit plain (λ s. callChecks limit s (words ++ (once Fits 22 ∷ []))) (out₁, out₂)
       (λ s a outs′ s′. CallDone limit core (out₁ ∷ out₂ ∷ []) s a (outs′ .0 ∷ outs′ .1 ∷ []) s′)
   unfolding tabulate
   every-call-two {limit} {result₁} {result₂} {out₁} {out₂} {Fits} q fits =
@@ -81,9 +81,9 @@ module _ {Answer : Type 0} {core : Core Answer} {plain : Answer → List ℕ} {k
       keeps (Refused r) = ((_, _), refl)
 
 -- a call that hands back a value beside its answer, and for a refusal the one that it was given
-pub every-call-value : {Answer Value : Type 0} {core : Core (Answer × Value)} {plain : Answer → List ℕ} {k : ℕ} {own : List ℕ} {words : List Check} {limit : ℕ} {before : Value}
-    → Lawful core (λ a. plain (a .0)) k own words → core .results ≡ [] → ((r : Refusal) → core .refused r .1 ≡ before)
-    → EveryCall limit plain k (λ s. callChecks limit s words) before (λ s a value s′. CallDone limit core [] s (a, value) [] s′)
+pub every-call-value : {Answer Value : Type 0} {core : Core (Answer × Value)} {plain : Answer → List ℕ} {own : List ℕ} {words : List Check} {limit : ℕ} {before : Value}
+    → Lawful core (λ a. plain (a .0)) own words → core .results ≡ [] → ((r : Refusal) → core .refused r .1 ≡ before)
+    → EveryCall limit plain (λ s. callChecks limit s words) before (λ s a value s′. CallDone limit core [] s (a, value) [] s′)
 every-call-value {Answer} {Value} {limit = limit} law q back =
     let every = every-call-none law {limit = limit} q in
     record {
@@ -108,8 +108,8 @@ verdicts-alike core limit outs₁ outs₂ s₁ s₂ a h =
     = judges-same _ _ _ (output-judged _ outs₁ _ Iff·rfl) (output-judged _ outs₂ _ (λ r i. h i .0 (r i), λ r i. h i .1 (r i))) in
     rw (scratch, output)
 
-pub independent : {Answer : Type 0} {core : Core Answer} {plain : Answer → List ℕ} {k : ℕ} {own : List ℕ} {words : List Check} (limit : ℕ)
-    → Lawful core plain k own words → BuffersUnread core limit plain
+pub independent : {Answer : Type 0} {core : Core Answer} {plain : Answer → List ℕ} {own : List ℕ} {words : List Check} (limit : ℕ)
+    → Lawful core plain own words → BuffersUnread core limit plain
 independent {core = core} limit law outs₁ outs₂ outs₁′ outs₂′ s₁ s₂ s₁′ s₂′ a₁ a₂ a h c d =
     let same : a₁ ≡ a₂ = c .reply ∙ ap (answerOf core) (verdicts-alike core limit outs₁ outs₂ s₁ s₂ a h) ∙ sym (d .reply) in
     (same, λ z i. front i outs₁ outs₁′ (done-zero law c z .written i) ∙ sym (front i outs₂ outs₂′ (done-zero law d (rw same at z) .written i)))

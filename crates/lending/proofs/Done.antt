@@ -1,5 +1,5 @@
 -- What a call that is done says of its answer, its output buffers and its scratch, whatever its words are.
-use Rattle.scan.proofs.Basics.{ℕ, zero, suc, _+_, _-_, _≤_, _<_, arith, _≡_, refl, sym, ap, _∙_, _↔_, true, ltb, List, [], _∷_, length, getD, take, replicate, length-append, length-replicate}
+use Rattle.scan.proofs.Basics.{ℕ, zero, suc, _+_, _-_, _≤_, _<_, arith, _≡_, refl, sym, ap, _∙_, _↔_, true, ltb, List, [], _∷_, length, getD, take, length-append}
 use mathlib.Core.Logic.{Iff·rfl}
 use lib.ListN.{length-drop, List·getD-eq-default}
 use lib.Seq.{take-append-seam, getD-append-add, getD-drop}
@@ -29,35 +29,36 @@ number-zero [] e = refl
 number-zero (x ∷ plain) e = cc
 
 -- from a verdict that follows them, and what the numbers are for it
-told-by : (v : Verdict) (checks : List Check) (plain : List ℕ) (k : ℕ) → Judges v checks → (v ≡ Accepted → take 3 plain ≡ 0 ∷ 0 ∷ 0 ∷ [])
-    → ((r : Refusal) → v ≡ Refused r → (plain ≡ plainRefusal r k) × (1 ≤ r .number)) → ByChecks checks plain k
-told-by Accepted checks plain k j z t = record {
+told-by : (v : Verdict) (checks : List Check) (plain : List ℕ) → Judges v checks → (v ≡ Accepted → take 3 plain ≡ 0 ∷ 0 ∷ 0 ∷ [])
+    → ((r : Refusal) → v ≡ Refused r → (plain ≡ plainRefusal r) × (1 ≤ r .number)) → ByChecks checks plain
+told-by Accepted checks plain j z t = record {
   zero = (λ e. j .accepts .0 refl, λ p. number-zero plain (z refl));
   nothing = λ e. z refl;
   named = λ n. absurd (n (number-zero plain (z refl)));
   this = λ r f. accepted-refused Accepted r refl (j .refuses r .1 f);
 }
-told-by (Refused r) checks plain k j z t =
+told-by (Refused r) checks plain j z t =
     let (q, l) = t r refl in
     let e : number plain ≡ r .number = ap number q in
     record {
       zero = (λ w. absurd (omega arith), λ p. accepted-refused (Refused r) r (j .accepts .1 p) refl);
       nothing = λ w. absurd (omega arith);
       named = λ n. (r, j .refuses r .0 refl, q);
-      this = λ s f. let same : r ≡ s = cc (j .refuses s .1 f) in q ∙ ap (λ (x : Refusal). plainRefusal x k) same;
+      this = λ s f. let same : r ≡ s = cc (j .refuses s .1 f) in q ∙ ap plainRefusal same;
     }
 
 -- a verdict alone, as of a call that borrows nothing
-pub verdict-by-checks : (v : Verdict) (checks : List Check) → Judges v checks → properly checks ≡ true → ByChecks checks (plainVerdict v) 0
+pub verdict-by-checks : (v : Verdict) (checks : List Check) → Judges v checks → properly checks ≡ true → ByChecks checks (plainVerdict v)
 verdict-by-checks v checks j p =
-    told-by v checks (plainVerdict v) 0 j (λ e. ap (λ (w : Verdict). take 3 (plainVerdict w)) e) (λ r e. (ap plainVerdict e, fails-number checks r p (j .refuses r .0 e) .0))
+    told-by v checks (plainVerdict v) j (λ e. ap (λ (w : Verdict). take 3 (plainVerdict w)) e) (λ r e. (ap plainVerdict e, fails-number checks r p (j .refuses r .0 e) .0))
 
 -- ---- plain numbers
 
-zeros-at : (n i : ℕ) → _≡_ {A = ℕ} (getD (replicate n 0) i 0) 0
-zeros-at zero i = refl
-zeros-at (suc n) zero = refl
-zeros-at (suc n) (suc i) = zeros-at n i
+zeros-at : (i : ℕ) → _≡_ {A = ℕ} (getD (0 ∷ 0 ∷ 0 ∷ []) i 0) 0
+zeros-at zero = refl
+zeros-at (suc zero) = refl
+zeros-at (suc (suc zero)) = refl
+zeros-at (suc (suc (suc i))) = refl
 
 -- a position is told in two numbers
 position-told : (at : Position) → (kind : ℕ) × (index : ℕ) × (plainPosition at ≡ kind ∷ index ∷ [])
@@ -70,11 +71,11 @@ position-told (Record i) = (4, i, refl)
 past-three : (a b c : ℕ) (l : List ℕ) (i : ℕ) → own (a ∷ b ∷ c ∷ l) i ≡ getD l i 0
 past-three a b c l i = getD-append-add (a ∷ b ∷ c ∷ []) l i 0
 
-told-own : (r : Refusal) (k i : ℕ) → own (plainRefusal r k) i ≡ 0
-told-own r k i = let (kind, index, e) = position-told (r .at) in rw e (past-three (r .number) kind index (replicate k 0) i ∙ zeros-at k i)
+told-own : (r : Refusal) (i : ℕ) → own (plainRefusal r) i ≡ 0
+told-own r i = let (kind, index, e) = position-told (r .at) in rw e (past-three (r .number) kind index (0 ∷ 0 ∷ 0 ∷ []) i ∙ zeros-at i)
 
-told-length : (r : Refusal) (k : ℕ) → length (plainRefusal r k) ≡ 3 + k
-told-length r k = let (kind, index, e) = position-told (r .at) in rw (e, length-replicate) (omega arith)
+told-length : (r : Refusal) → length (plainRefusal r) ≡ 6
+told-length r = let (kind, index, e) = position-told (r .at) in rw e refl
 
 -- ---- output buffers
 
@@ -122,7 +123,7 @@ pub record Kept {Answer : Type 0} (core : Core Answer) (outs : List (List ℕ)) 
   pub reply : answer ≡ core .refused by
   pub written : outs′ ≡ outs
 
-module _ {Answer : Type 0} {core : Core Answer} {plain : Answer → List ℕ} {k : ℕ} {ownNumbers : List ℕ} {words : List Check} (law : Lawful core plain k ownNumbers words)
+module _ {Answer : Type 0} {core : Core Answer} {plain : Answer → List ℕ} {ownNumbers : List ℕ} {words : List Check} (law : Lawful core plain ownNumbers words)
     {limit : ℕ} {outs outs′ : List (List ℕ)} {scratch scratch′ : List ℕ} {answer : Answer} (d : CallDone limit core outs scratch answer outs′ scratch′) where
   abbrev verdict : Verdict
   verdict = callVerdict limit core outs (length scratch)
@@ -130,9 +131,9 @@ module _ {Answer : Type 0} {core : Core Answer} {plain : Answer → List ℕ} {k
   done-number : number (plain answer) ≡ numberOf verdict
   done-number = ap (λ (a : Answer). number (plain a)) (d .reply) ∙ answer-number law verdict
 
-  pub by-checks : {rest : List Check} → Judges (wordsVerdict core outs) rest → ByChecks (callChecks limit scratch rest) (plain answer) k
+  pub by-checks : {rest : List Check} → Judges (wordsVerdict core outs) rest → ByChecks (callChecks limit scratch rest) (plain answer)
   by-checks {rest} j =
-      told-by verdict (callChecks limit scratch rest) (plain answer) k (call-judged core outs limit scratch j)
+      told-by verdict (callChecks limit scratch rest) (plain answer) (call-judged core outs limit scratch j)
       (λ e. ap (λ (p : List ℕ). take 3 p) (ap plain (d .reply ∙ ap (answerOf core) e) ∙ law .plain-accepted))
       (λ r e. (ap plain (d .reply ∙ ap (answerOf core) e) ∙ law .plain-refused r, refusal-number law limit outs scratch r e .0))
 
@@ -174,12 +175,12 @@ module _ {Answer : Type 0} {core : Core Answer} {plain : Answer → List ℕ} {k
   pub own-refused : (number (plain answer) ≡ 0 → ⊥) → (i : ℕ) → own (plain answer) i ≡ 0
   own-refused n i =
       let a = done-refused n in
-      ap (λ (p : List ℕ). own p i) (ap plain (a .reply) ∙ law .plain-refused (a .by)) ∙ told-own (a .by) k i
+      ap (λ (p : List ℕ). own p i) (ap plain (a .reply) ∙ law .plain-refused (a .by)) ∙ told-own (a .by) i
 
-  pub plain-length : length (plain answer) ≡ 3 + k
+  pub plain-length : length (plain answer) ≡ 6
   plain-length =
       cases (λ z a. ap (λ (p : List ℕ). length p) (ap plain (a .reply) ∙ law .plain-accepted) ∙ omega (arith, law .own-length))
-      (λ n a. ap (λ (p : List ℕ). length p) (ap plain (a .reply) ∙ law .plain-refused (a .by)) ∙ told-length (a .by) k)
+      (λ n a. ap (λ (p : List ℕ). length p) (ap plain (a .reply) ∙ law .plain-refused (a .by)) ∙ told-length (a .by))
 
   -- ---- its scratch
 

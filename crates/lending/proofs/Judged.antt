@@ -74,15 +74,15 @@ module _ {Answer : Type 0} (core : Core Answer) (outs : List (List ℕ)) where
 
 -- ---- what a crate shows of its call
 
--- its verdict follows the checks of its words, which are numbered neither 0 nor 21; and its answers as plain numbers, k of them its own
-pub record Lawful {Answer : Type 0} (core : Core Answer) (plain : Answer → List ℕ) (k : ℕ) (own : List ℕ) (words : List Check) : Type 0 where
+-- its verdict follows the checks of its words, which are numbered neither 0 nor 21; and its answers as plain numbers
+pub record Lawful {Answer : Type 0} (core : Core Answer) (plain : Answer → List ℕ) (own : List ℕ) (words : List Check) : Type 0 where
   pub judged : Judges (core .verdict) words
   pub proper : properly words ≡ true
   pub plain-accepted : plain (core .accepted) ≡ 0 ∷ 0 ∷ 0 ∷ own
-  pub own-length : length own ≡ k
-  pub plain-refused : (r : Refusal) → plain (core .refused r) ≡ plainRefusal r k
+  pub own-length : length own ≡ 3
+  pub plain-refused : (r : Refusal) → plain (core .refused r) ≡ plainRefusal r
 
-module _ {Answer : Type 0} {core : Core Answer} {plain : Answer → List ℕ} {k : ℕ} {own : List ℕ} {words : List Check} (law : Lawful core plain k own words) where
+module _ {Answer : Type 0} {core : Core Answer} {plain : Answer → List ℕ} {own : List ℕ} {words : List Check} (law : Lawful core plain own words) where
   pub answer-number : (v : Verdict) → number (plain (answerOf core v)) ≡ numberOf v
   answer-number Accepted = ap number (law .plain-accepted)
   answer-number (Refused r) = ap number (law .plain-refused r)

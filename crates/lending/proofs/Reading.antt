@@ -17,7 +17,7 @@ of-words {core = core} {outs = outs} d =
     record { reply = d .reply ∙ rw e refl; written = d .written ∙ rw e refl }
 
 -- and 21 is then never the answer
-by-words : {checks : List Check} {plain : List ℕ} {k : ℕ} → ByChecks (callChecks 0 [] checks) plain k → ByChecks checks plain k
+by-words : {checks : List Check} {plain : List ℕ} → ByChecks (callChecks 0 [] checks) plain → ByChecks checks plain
 by-words b = record {
   zero = (λ z. b .zero .0 z .1, λ p. b .zero .1 (omega arith, p));
   nothing = b .nothing;
@@ -25,9 +25,9 @@ by-words b = record {
   this = λ r f. b .this r (inr (omega arith, f));
 }
 
-module _ {Answer Left : Type 0} {plain : Answer → List ℕ} {k : ℕ} {rest : List Check} {before : Left} {Call : List ℕ → Answer → Left → List ℕ → Type 0} {Words : Answer → Left → Type 0}
+module _ {Answer Left : Type 0} {plain : Answer → List ℕ} {rest : List Check} {before : Left} {Call : List ℕ → Answer → Left → List ℕ → Type 0} {Words : Answer → Left → Type 0}
     (to : (a : Answer) (left : Left) → Words a left → Call [] a left []) (from : (a : Answer) (left : Left) (s′ : List ℕ) → Call [] a left s′ → Words a left) where
-  pub reading : EveryCall 0 plain k (λ s. callChecks 0 s rest) before Call → EveryReading plain k rest before Words
+  pub reading : EveryCall 0 plain (λ s. callChecks 0 s rest) before Call → EveryReading plain rest before Words
   reading e = record {
     replies = let (a, left, s′, d) = e .replies [] in (a, left, from a left s′ d);
     one = λ a b left right c d. e .one [] [] [] [] a b left right refl (to a left c) (to b right d);
@@ -36,12 +36,12 @@ module _ {Answer Left : Type 0} {plain : Answer → List ℕ} {k : ℕ} {rest : 
   }
 
 -- with one output buffer, and with two
-module _ {Answer : Type 0} {core : Core Answer} {plain : Answer → List ℕ} {k : ℕ} {rest : List Check} where
-  pub reads-one : {out : List ℕ} → EveryCall 0 plain k (λ s. callChecks 0 s rest) out (λ s a left s′. CallDone 0 core (out ∷ []) s a (left ∷ []) s′)
-      → EveryReading plain k rest out (λ a left. WordsDone core (out ∷ []) a (left ∷ []))
+module _ {Answer : Type 0} {core : Core Answer} {plain : Answer → List ℕ} {rest : List Check} where
+  pub reads-one : {out : List ℕ} → EveryCall 0 plain (λ s. callChecks 0 s rest) out (λ s a left s′. CallDone 0 core (out ∷ []) s a (left ∷ []) s′)
+      → EveryReading plain rest out (λ a left. WordsDone core (out ∷ []) a (left ∷ []))
   reads-one e = reading (λ a left d. no-scratch d) (λ a left s′ d. of-words d) e
 
   pub reads-two : {one two : List ℕ}
-      → EveryCall {Left = List ℕ × List ℕ} 0 plain k (λ s. callChecks 0 s rest) (one, two) (λ s a left s′. CallDone 0 core (one ∷ two ∷ []) s a (left .0 ∷ left .1 ∷ []) s′)
-      → EveryReading {Left = List ℕ × List ℕ} plain k rest (one, two) (λ a left. WordsDone core (one ∷ two ∷ []) a (left .0 ∷ left .1 ∷ []))
+      → EveryCall {Left = List ℕ × List ℕ} 0 plain (λ s. callChecks 0 s rest) (one, two) (λ s a left s′. CallDone 0 core (one ∷ two ∷ []) s a (left .0 ∷ left .1 ∷ []) s′)
+      → EveryReading {Left = List ℕ × List ℕ} plain rest (one, two) (λ a left. WordsDone core (one ∷ two ∷ []) a (left .0 ∷ left .1 ∷ []))
   reads-two e = reading (λ a left d. no-scratch d) (λ a left s′ d. of-words d) e

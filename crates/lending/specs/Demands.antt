@@ -22,13 +22,13 @@ own plain i = getD plain (3 + i) 0
 abbrev pub callChecks : ℕ → List ℕ → List Check → List Check
 callChecks limit scratch rest = once (limit ≤ length scratch) 21 ∷ rest
 
--- an answer with k own numbers: it is 0 exactly if all checks pass; else it is the first check that fails (§7.54), and these k numbers are 0 (§8.3)
-pub record ByChecks (checks : List Check) (plain : List ℕ) (k : ℕ) : Type 0 where
+-- an answer: its number is 0 exactly if all checks pass; else it names the first check that fails (§7.54), and the numbers of the call's own are 0 (§8.3)
+pub record ByChecks (checks : List Check) (plain : List ℕ) : Type 0 where
   pub zero : (number plain ≡ 0) ↔ AllPass checks
   -- 0 goes with the kind that counts nothing and the index 0: §7.51
   pub nothing : number plain ≡ 0 → take 3 plain ≡ 0 ∷ 0 ∷ 0 ∷ []
-  pub named : (number plain ≡ 0 → ⊥) → (r : Refusal) × FirstFails checks r × (plain ≡ plainRefusal r k)
-  pub this : (r : Refusal) → FirstFails checks r → plain ≡ plainRefusal r k
+  pub named : (number plain ≡ 0 → ⊥) → (r : Refusal) × FirstFails checks r × (plain ≡ plainRefusal r)
+  pub this : (r : Refusal) → FirstFails checks r → plain ≡ plainRefusal r
 
 -- ---- what a call leaves
 
@@ -38,9 +38,9 @@ pub record ScratchLeft (limit number : ℕ) (scratch scratch′ : List ℕ) : Ty
   pub kept : number ≡ 21 → scratch′ ≡ scratch
   pub cleared : (number ≡ 21 → ⊥) → scratch′ ≡ replicate limit 0 ++ drop limit scratch
 
--- A call is given by its limit of scratch; its answer as plain numbers, k of them its own; its checks, for given scratch; the state before the call of what it
+-- A call is given by its limit of scratch; its answer as plain numbers; its checks, for given scratch; the state before the call of what it
 -- may change; and its postcondition, on the scratch before, the answer, what it may change and the scratch after.
-module _ {Answer Left : Type 0} (limit : ℕ) (plain : Answer → List ℕ) (k : ℕ) (checks : List ℕ → List Check) (before : Left) (Done : List ℕ → Answer → Left → List ℕ → Type 0) where
+module _ {Answer Left : Type 0} (limit : ℕ) (plain : Answer → List ℕ) (checks : List ℕ → List Check) (before : Left) (Done : List ℕ → Answer → Left → List ℕ → Type 0) where
   -- what demand 1 asks of it: §13.1
   pub record EveryCall : Type 0 where
     -- there is a reply, whatever is lent
@@ -48,22 +48,22 @@ module _ {Answer Left : Type 0} (limit : ℕ) (plain : Answer → List ℕ) (k :
     -- there is only one reply, whatever earlier calls left in scratch
     pub one : (s t s′ t′ : List ℕ) (a b : Answer) (left right : Left) → length s ≡ length t → Done s a left s′ → Done t b right t′ → (a ≡ b) × (left ≡ right)
     -- it answers by its checks
-    pub by-numbers : (s s′ : List ℕ) (a : Answer) (left : Left) → Done s a left s′ → ByChecks (checks s) (plain a) k
+    pub by-numbers : (s s′ : List ℕ) (a : Answer) (left : Left) → Done s a left s′ → ByChecks (checks s) (plain a)
     -- a refusal changes nothing but scratch: §9.5
     pub keeps : (s s′ : List ℕ) (a : Answer) (left : Left) → Done s a left s′ → (number (plain a) ≡ 0 → ⊥) → left ≡ before
     -- what is left in scratch: §9.2, §9.3
     pub scratch : (s s′ : List ℕ) (a : Answer) (left : Left) → Done s a left s′ → ScratchLeft limit (number (plain a)) s s′
 
--- A function that borrows no scratch is given by its answer as plain numbers, k of them its own; its checks; the state before of what it may change; and its
+-- A function that borrows no scratch is given by its answer as plain numbers; its checks; the state before of what it may change; and its
 -- postcondition, on the answer and on what it may change.
-module _ {Answer Left : Type 0} (plain : Answer → List ℕ) (k : ℕ) (checks : List Check) (before : Left) (Done : Answer → Left → Type 0) where
+module _ {Answer Left : Type 0} (plain : Answer → List ℕ) (checks : List Check) (before : Left) (Done : Answer → Left → Type 0) where
   -- what `EveryCall` asks of a call, scratch apart
   pub record EveryReading : Type 0 where
     -- there is a reply, and only one
     pub replies : (a : Answer) × (left : Left) × Done a left
     pub one : (a b : Answer) (left right : Left) → Done a left → Done b right → (a ≡ b) × (left ≡ right)
     -- it answers by its checks
-    pub by-numbers : (a : Answer) (left : Left) → Done a left → ByChecks checks (plain a) k
+    pub by-numbers : (a : Answer) (left : Left) → Done a left → ByChecks checks (plain a)
     -- a refusal changes nothing: §9.5
     pub keeps : (a : Answer) (left : Left) → Done a left → (number (plain a) ≡ 0 → ⊥) → left ≡ before
 

@@ -35,11 +35,11 @@ pub enum Index {
 
 impl Index {
     // Its plain number.
-    pub fn plain(self) -> usize
+    pub fn plain(self) -> u64
         ensures { λ r. ⌜ r ≡ plainIndex self ⌝ }
     {
         match self {
-            Index::Known(i) => i as usize + 1,
+            Index::Known(i) => i as u64 + 1,
             Index::Missing => 0,
         }
     }

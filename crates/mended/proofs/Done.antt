@@ -24,7 +24,7 @@ use Rattle.mended.proofs.Mended.{ArcsPass}
 use Rattle.mended.proofs.Exact.{mended, mended-passes, fit↔, mend-judged}
 use Rattle.mended.proofs.Changes.{changes-short, mended-lists}
 
-pub mend-law : (net sheet : List ℕ) → Lawful (mendCore net sheet) plainMend 2 (lengths net sheet .sheet ∷ lengths net sheet .list ∷ []) (netChecks net ++ mendChecks (petriNet net) sheet)
+pub mend-law : (net sheet : List ℕ) → Lawful (mendCore net sheet) plainMend (lengths net sheet .sheet ∷ lengths net sheet .list ∷ 0 ∷ []) (netChecks net ++ mendChecks (petriNet net) sheet)
 mend-law net sheet = record {
   judged = mend-judged net sheet;
   proper = refl;

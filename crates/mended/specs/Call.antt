@@ -37,5 +37,5 @@ MendDone = MendWithinDone scratchLimit
 
 -- number, kind, position, both lengths (§8.1), which are 0 if refused (§8.3)
 abbrev pub plainMend : MendAnswer → List ℕ
-plainMend (Written l) = 0 ∷ 0 ∷ 0 ∷ l .sheet ∷ l .list ∷ []
-plainMend (Refused r) = plainRefusal r 2
+plainMend (Written l) = 0 ∷ 0 ∷ 0 ∷ l .sheet ∷ l .list ∷ 0 ∷ []
+plainMend (Refused r) = plainRefusal r

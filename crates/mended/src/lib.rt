@@ -17,15 +17,21 @@ pub enum MendAnswer {
 
 impl MendAnswer {
     // Its plain numbers: §8.1.
-    pub fn plain(self) -> [usize; 5]
+    pub fn plain(self) -> [u64; 6]
         ensures { λ r. ⌜ r ≡ plainMend self ⌝ }
     {
         match self {
-            MendAnswer::Written(lengths) => [0usize, 0, 0, lengths.sheet, lengths.list],
-            MendAnswer::Refused(r) => {
-                let at = r.at;
-                [r.number as usize, at.kind() as usize, at.index(), 0, 0]
+            MendAnswer::Written(lengths) => {
+                [
+                    0u64,
+                    0,
+                    0,
+                    lengths.sheet as u64,
+                    lengths.list as u64,
+                    0,
+                ]
             }
+            MendAnswer::Refused(r) => r.plain(),
         }
     }
 }

@@ -17,7 +17,7 @@ use Rattle.minimal.specs.Minimal.{minimalForm}
 use Rattle.minimal.specs.Form.{formCore, plainForm, FormOf, FormWritten}
 use Rattle.minimal.specs.declared.FormAnswer.{FormAnswer}
 
-pub form-law : (net sheet : List ℕ) → Lawful (formCore net sheet) plainForm 1 (length (minimalForm net sheet) ∷ []) (netChecks net ++ sheetChecks (petriNet net) sheet)
+pub form-law : (net sheet : List ℕ) → Lawful (formCore net sheet) plainForm (length (minimalForm net sheet) ∷ 0 ∷ 0 ∷ []) (netChecks net ++ sheetChecks (petriNet net) sheet)
 form-law net sheet = record { judged = schedule-judged net sheet; proper = refl; plain-accepted = refl; own-length = refl; plain-refused = λ r. refl }
 
 module _ (net sheet : List ℕ) (h : scheduleReply net sheet ≡ Accepted) where

@@ -44,5 +44,5 @@ FormDone = FormWithinDone scratchLimit
 
 -- number, kind, position, the length (§8.1), which is 0 if refused (§8.3)
 abbrev pub plainForm : FormAnswer → List ℕ
-plainForm (Written n) = 0 ∷ 0 ∷ 0 ∷ n ∷ []
-plainForm (Refused r) = plainRefusal r 1
+plainForm (Written n) = 0 ∷ 0 ∷ 0 ∷ n ∷ 0 ∷ 0 ∷ []
+plainForm (Refused r) = plainRefusal r

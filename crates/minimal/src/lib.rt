@@ -11,15 +11,12 @@ pub enum FormAnswer {
 
 impl FormAnswer {
     // Its plain numbers: §8.1.
-    pub fn plain(self) -> [usize; 4]
+    pub fn plain(self) -> [u64; 6]
         ensures { λ r. ⌜ r ≡ plainForm self ⌝ }
     {
         match self {
-            FormAnswer::Written(n) => [0usize, 0, 0, n],
-            FormAnswer::Refused(r) => {
-                let at = r.at;
-                [r.number as usize, at.kind() as usize, at.index(), 0]
-            }
+            FormAnswer::Written(n) => [0u64, 0, 0, n as u64, 0, 0],
+            FormAnswer::Refused(r) => r.plain(),
         }
     }
 }

@@ -78,17 +78,17 @@ pub fn decode(bytes: &[u8], out: &mut [u32]) -> Reading
 // ---- numbers as bytes: §15.2
 
 // Byte j of a number.
-fn byte_of(x: usize, j: usize) -> u8
+fn byte_of(x: u64, j: usize) -> u8
     requires { ⌜ j < 8 ⌝ }
     ensures { λ r. ⌜ r ≡ byteOf x j ⌝ }
 {
     ((x >> (8 * j)) % 256) as u8
 }
 
-fn wide(x: u32) -> usize
+fn wide(x: u32) -> u64
     ensures { λ r. ⌜ r ≡ x ⌝ }
 {
-    x as usize
+    x as u64
 }
 
 fn lesser(a: usize, b: usize) -> usize
@@ -101,7 +101,7 @@ fn lesser(a: usize, b: usize) -> usize
 }
 
 // Byte j of a number, put at an index; past the buffer's end it is dropped.
-fn write_byte(x: usize, j: usize, out: &mut [u8], at: usize)
+fn write_byte(x: u64, j: usize, out: &mut [u8], at: usize)
     requires { ⌜ j < 8 ⌝ }
     ensures { λ _. ⌜ now (out .exit) ≡ set (now (out .entry)) at (byteOf x j) ⌝ }
 {
@@ -111,7 +111,7 @@ fn write_byte(x: usize, j: usize, out: &mut [u8], at: usize)
 }
 
 // The four bytes of a word, put at an index; those past the buffer's end are dropped. Where all four have room the compiler makes them one store.
-fn write_word(x: usize, out: &mut [u8], at: usize)
+fn write_word(x: u64, out: &mut [u8], at: usize)
     ensures { λ _. ⌜ now (out .exit) ≡ wordPut (now (out .entry)) at x ⌝ }
 {
     if out.len() <= at {
@@ -142,7 +142,7 @@ pub fn write_words(words: &[u32], out: &mut [u8])
 }
 
 // Writes six numbers over the front of a buffer, eight bytes each; bytes past the buffer's end are dropped.
-pub fn write_six(numbers: [usize; 6], out: &mut [u8])
+pub fn write_six(numbers: [u64; 6], out: &mut [u8])
     ensures { λ _. ⌜ now (out .exit) ≡ placed (now (out .entry)) 0 (bytesOf 8 numbers) ⌝ }
 {
     let end = lesser(48, out.len());

@@ -45,7 +45,7 @@ module _ (net sheet words : List ℕ) where
       judges-then _ _ (netChecks net ++ sheetChecks (petriNet net) sheet) _ (schedule-judged net sheet)
       (λ p. judges-found _ _ (reaction-tells (petriNet net) sheet words (closed net sheet (schedule-judged net sheet .accepts .1 p))))
 
-  pub reaction-law : call.Lawful (reactionCore net sheet words) plainReaction 1 (length (reportWords net sheet words) ∷ [])
+  pub reaction-law : call.Lawful (reactionCore net sheet words) plainReaction (length (reportWords net sheet words) ∷ 0 ∷ 0 ∷ [])
       ((netChecks net ++ sheetChecks (petriNet net) sheet) ++ reactionChecks (petriNet net) sheet words)
   reaction-law = record {
     judged = reaction-judged;

@@ -65,5 +65,5 @@ ReactionDone net sheet durations out scratch r out′ scratch′ = CallDone scra
 
 -- number, kind, position, length (§8.1), which is 0 if refused (§8.3)
 abbrev pub plainReaction : ReactionAnswer → List ℕ
-plainReaction (Written length) = 0 ∷ 0 ∷ 0 ∷ length ∷ []
-plainReaction (Refused r) = plainRefusal r 1
+plainReaction (Written length) = 0 ∷ 0 ∷ 0 ∷ length ∷ 0 ∷ 0 ∷ []
+plainReaction (Refused r) = plainRefusal r

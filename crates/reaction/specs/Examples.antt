@@ -19,7 +19,7 @@ abbrev pub row : List ℕ → List ℕ → List ℕ → List ℕ → List ℕ �
 row net sheet words answer report = record { net = net; sheet = sheet; words = words; answer = answer; report = report }
 
 abbrev pub timed : List ℕ → List ℕ → List ℕ → List ℕ → Row
-timed net sheet words report = row net sheet words (0 ∷ 0 ∷ 0 ∷ length report ∷ []) report
+timed net sheet words report = row net sheet words (0 ∷ 0 ∷ 0 ∷ length report ∷ 0 ∷ 0 ∷ []) report
 
 abbrev pub refused : List ℕ → List ℕ → List ℕ → List ℕ → Row
 refused net sheet words answer = row net sheet words answer []
@@ -50,19 +50,19 @@ table =
     timed netC (3 ∷ 6 ∷ 0 ∷ 5 ∷ 6 ∷ 11 ∷ 14 ∷ 17 ∷ 1 ∷ 0 ∷ 2 ∷ 0 ∷ 1 ∷ 1 ∷ []) (4 ∷ 1 ∷ 10 ∷ 2 ∷ 3 ∷ 1 ∷ 10 ∷ 20 ∷ 30 ∷ []) (6 ∷ 51 ∷ []) ∷
     -- the limits
     timed netA sheetA (2 ∷ 0 ∷ 1000000 ∷ 1000000 ∷ 1000000 ∷ []) (1000000 ∷ 2000000 ∷ []) ∷
-    refused netA sheetA (2 ∷ 0 ∷ 0 ∷ 0 ∷ 1000001 ∷ []) (32 ∷ 1 ∷ 1 ∷ 0 ∷ []) ∷
-    refused netA sheetA (2 ∷ 5 ∷ 8 ∷ 4 ∷ 7 ∷ []) (32 ∷ 1 ∷ 0 ∷ 0 ∷ []) ∷
-    refused netA sheetA (2 ∷ 5 ∷ 7 ∷ 10 ∷ []) (32 ∷ 0 ∷ 0 ∷ 0 ∷ []) ∷
-    refused netA sheetA (1 ∷ 5 ∷ 7 ∷ 10 ∷ 20 ∷ []) (32 ∷ 0 ∷ 0 ∷ 0 ∷ []) ∷
-    refused netA sheetA [] (32 ∷ 0 ∷ 0 ∷ 0 ∷ []) ∷
+    refused netA sheetA (2 ∷ 0 ∷ 0 ∷ 0 ∷ 1000001 ∷ []) (32 ∷ 1 ∷ 1 ∷ 0 ∷ 0 ∷ 0 ∷ []) ∷
+    refused netA sheetA (2 ∷ 5 ∷ 8 ∷ 4 ∷ 7 ∷ []) (32 ∷ 1 ∷ 0 ∷ 0 ∷ 0 ∷ 0 ∷ []) ∷
+    refused netA sheetA (2 ∷ 5 ∷ 7 ∷ 10 ∷ []) (32 ∷ 0 ∷ 0 ∷ 0 ∷ 0 ∷ 0 ∷ []) ∷
+    refused netA sheetA (1 ∷ 5 ∷ 7 ∷ 10 ∷ 20 ∷ []) (32 ∷ 0 ∷ 0 ∷ 0 ∷ 0 ∷ 0 ∷ []) ∷
+    refused netA sheetA [] (32 ∷ 0 ∷ 0 ∷ 0 ∷ 0 ∷ 0 ∷ []) ∷
     -- the sheet first, then the durations, then the loop
-    refused netA (1 ∷ 0 ∷ []) [] (11 ∷ 3 ∷ 0 ∷ 0 ∷ []) ∷
-    refused netB (2 ∷ 4 ∷ 0 ∷ 4 ∷ 5 ∷ 7 ∷ 1 ∷ 0 ∷ 1 ∷ 1 ∷ []) [] (32 ∷ 0 ∷ 0 ∷ 0 ∷ []) ∷
-    refused netB (2 ∷ 4 ∷ 0 ∷ 4 ∷ 5 ∷ 7 ∷ 1 ∷ 0 ∷ 1 ∷ 1 ∷ []) (3 ∷ 0 ∷ 0 ∷ 0 ∷ 0 ∷ 0 ∷ 0 ∷ []) (33 ∷ 3 ∷ 1 ∷ 0 ∷ []) ∷
+    refused netA (1 ∷ 0 ∷ []) [] (11 ∷ 3 ∷ 0 ∷ 0 ∷ 0 ∷ 0 ∷ []) ∷
+    refused netB (2 ∷ 4 ∷ 0 ∷ 4 ∷ 5 ∷ 7 ∷ 1 ∷ 0 ∷ 1 ∷ 1 ∷ []) [] (32 ∷ 0 ∷ 0 ∷ 0 ∷ 0 ∷ 0 ∷ []) ∷
+    refused netB (2 ∷ 4 ∷ 0 ∷ 4 ∷ 5 ∷ 7 ∷ 1 ∷ 0 ∷ 1 ∷ 1 ∷ []) (3 ∷ 0 ∷ 0 ∷ 0 ∷ 0 ∷ 0 ∷ 0 ∷ []) (33 ∷ 3 ∷ 1 ∷ 0 ∷ 0 ∷ 0 ∷ []) ∷
     -- node 1 leads to the loop at node 2 and is on none
-    refused netB (3 ∷ 7 ∷ 0 ∷ 4 ∷ 5 ∷ 7 ∷ 8 ∷ 10 ∷ 11 ∷ 1 ∷ 0 ∷ 2 ∷ 0 ∷ 2 ∷ 1 ∷ 1 ∷ []) (3 ∷ 0 ∷ 0 ∷ 0 ∷ 0 ∷ 0 ∷ 0 ∷ []) (33 ∷ 3 ∷ 2 ∷ 0 ∷ []) ∷
+    refused netB (3 ∷ 7 ∷ 0 ∷ 4 ∷ 5 ∷ 7 ∷ 8 ∷ 10 ∷ 11 ∷ 1 ∷ 0 ∷ 2 ∷ 0 ∷ 2 ∷ 1 ∷ 1 ∷ []) (3 ∷ 0 ∷ 0 ∷ 0 ∷ 0 ∷ 0 ∷ 0 ∷ []) (33 ∷ 3 ∷ 2 ∷ 0 ∷ 0 ∷ 0 ∷ []) ∷
     -- nodes 1 and 2 lead to each other
-    refused netB (3 ∷ 7 ∷ 0 ∷ 4 ∷ 5 ∷ 7 ∷ 8 ∷ 10 ∷ 11 ∷ 2 ∷ 0 ∷ 2 ∷ 0 ∷ 1 ∷ 1 ∷ 1 ∷ []) (3 ∷ 0 ∷ 0 ∷ 0 ∷ 0 ∷ 0 ∷ 0 ∷ []) (33 ∷ 3 ∷ 1 ∷ 0 ∷ []) ∷ []
+    refused netB (3 ∷ 7 ∷ 0 ∷ 4 ∷ 5 ∷ 7 ∷ 8 ∷ 10 ∷ 11 ∷ 2 ∷ 0 ∷ 2 ∷ 0 ∷ 1 ∷ 1 ∷ 1 ∷ []) (3 ∷ 0 ∷ 0 ∷ 0 ∷ 0 ∷ 0 ∷ 0 ∷ []) (33 ∷ 3 ∷ 1 ∷ 0 ∷ 0 ∷ 0 ∷ []) ∷ []
 
 -- ---- what the definitions give
 

@@ -11,15 +11,12 @@ pub enum ReactionAnswer {
 
 impl ReactionAnswer {
     // Its plain numbers: §8.1.
-    pub fn plain(self) -> [usize; 4]
+    pub fn plain(self) -> [u64; 6]
         ensures { λ r. ⌜ r ≡ plainReaction self ⌝ }
     {
         match self {
-            ReactionAnswer::Written(length) => [0usize, 0, 0, length],
-            ReactionAnswer::Refused(r) => {
-                let at = r.at;
-                [r.number as usize, at.kind() as usize, at.index(), 0]
-            }
+            ReactionAnswer::Written(length) => [0u64, 0, 0, length as u64, 0, 0],
+            ReactionAnswer::Refused(r) => r.plain(),
         }
     }
 }

@@ -1,8 +1,8 @@
 -- Verdicts: a finding that refuses, and one check after the other.
-use Rattle.scan.proofs.Basics.{ℕ, _<_, arith, _≡_, refl, sym, ap, _∙_, _⊎_, inl, inr, Option, none, some, [], _∷_, _++_, replicate}
+use Rattle.scan.proofs.Basics.{ℕ, _<_, arith, _≡_, refl, sym, ap, _∙_, _⊎_, inl, inr, Option, none, some, [], _∷_, _++_}
 use Rattle.scan.specs.Scan.{orElse, first}
 use Rattle.scan.proofs.First.{first-hit, orElse-hit, orElse-next}
-use Rattle.refusal.specs.Refusal.{plainPosition, plainRefusal, plainVerdict, numberOf, positionOf, kindOf, indexOf}
+use Rattle.refusal.specs.Refusal.{plainPosition, plainRefusal, kindOf, indexOf}
 use Rattle.refusal.specs.Verdict.{verdictOf, andThen}
 use Rattle.refusal.specs.declared.Position.{Position}
 use Rattle.refusal.specs.declared.Position.the-variants.{Nothing, Entry, Place, Node, Record}
@@ -56,16 +56,12 @@ then-cases (Refused x) w r h = inl h
 
 -- ---- plain numbers by their parts
 
-pub refusal-parts : (r : Refusal) (k : ℕ) → r .number ∷ kindOf (r .at) ∷ indexOf (r .at) ∷ replicate k 0 ≡ plainRefusal r k
-refusal-parts r k = go (r .at)
+pub refusal-parts : (r : Refusal) → r .number ∷ kindOf (r .at) ∷ indexOf (r .at) ∷ 0 ∷ 0 ∷ 0 ∷ [] ≡ plainRefusal r
+refusal-parts r = go (r .at)
   where
-    go : (p : Position) → r .number ∷ kindOf p ∷ indexOf p ∷ replicate k 0 ≡ r .number ∷ (plainPosition p ++ replicate k 0)
+    go : (p : Position) → r .number ∷ kindOf p ∷ indexOf p ∷ 0 ∷ 0 ∷ 0 ∷ [] ≡ r .number ∷ (plainPosition p ++ (0 ∷ 0 ∷ 0 ∷ []))
     go Nothing = refl
     go (Entry i) = refl
     go (Place i) = refl
     go (Node i) = refl
     go (Record i) = refl
-
-pub plain-parts : (v : Verdict) → numberOf v ∷ kindOf (positionOf v) ∷ indexOf (positionOf v) ∷ [] ≡ plainVerdict v
-plain-parts Accepted = refl
-plain-parts (Refused r) = refusal-parts r 0

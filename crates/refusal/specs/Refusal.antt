@@ -1,7 +1,7 @@
 -- A refusal (§7.51): its number, and what its position counts; what a check answers; and both as plain numbers.
 use Prim.Native.Nat.{ℕ}
 use mathlib.Core.List.{List, [], _∷_, _++_}
-use lib.ListN.{getD, replicate}
+use lib.ListN.{getD}
 use Rattle.refusal.specs.declared.Position.{Position}
 use Rattle.refusal.specs.declared.Position.the-variants.{Nothing, Entry, Place, Node, Record}
 use Rattle.refusal.specs.declared.Refusal.{Refusal}
@@ -11,7 +11,7 @@ use Rattle.refusal.specs.declared.Verdict.the-variants.{Accepted, Refuse
 abbrev pub refusal : ℕ → Position → Refusal
 refusal number position = record { number = number; at = position }
 
--- ---- plain numbers: §8.1, case by case (§13.9)
+-- ---- plain numbers, case by case (§13.9): six for every answer, three of which are the call's own (§8.1)
 
 -- the kind of a position (§8.2), and its index, 0 if it counts nothing (§7.52)
 abbrev pub plainPosition : Position → List ℕ
@@ -21,14 +21,14 @@ plainPosition (Place i) = 2 ∷ i ∷ []
 plainPosition (Node i) = 3 ∷ i ∷ []
 plainPosition (Record i) = 4 ∷ i ∷ []
 
--- a refusal of a call with the given number of own numbers, all of which are 0: §8.3
-abbrev pub plainRefusal : Refusal → ℕ → List ℕ
-plainRefusal r own = r .number ∷ (plainPosition (r .at) ++ replicate own 0)
+-- a refusal: every number of the call's own is 0 (§8.3)
+abbrev pub plainRefusal : Refusal → List ℕ
+plainRefusal r = r .number ∷ (plainPosition (r .at) ++ (0 ∷ 0 ∷ 0 ∷ []))
 
--- a verdict of a call without own numbers
+-- the answer of a call without own numbers: they are 0 (§8.4)
 abbrev pub plainVerdict : Verdict → List ℕ
-plainVerdict Accepted = 0 ∷ 0 ∷ 0 ∷ []
-plainVerdict (Refused r) = plainRefusal r 0
+plainVerdict Accepted = 0 ∷ 0 ∷ 0 ∷ 0 ∷ 0 ∷ 0 ∷ []
+plainVerdict (Refused r) = plainRefusal r
 
 -- ---- its parts
 

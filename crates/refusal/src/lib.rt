@@ -1,6 +1,6 @@
 // Refusals (§7.51), each with a number and a position; what a check answers; and both as plain numbers.
 ghost use mathlib.Core.Path.{_≡_};
-ghost use Rattle.refusal.specs.Refusal.{refusal, numberOf, positionOf, kindOf, indexOf, plainVerdict};
+ghost use Rattle.refusal.specs.Refusal.{refusal, numberOf, positionOf, kindOf, indexOf, plainRefusal, plainVerdict};
 
 // What a refusal's position counts, from 0: §7.52, and §7.53 for which number counts what.
 pub enum Position {
@@ -119,6 +119,21 @@ impl Refusal {
     pub const START_OVER_CAPACITY: u32 = 26; // §7.26, overfull start
 
     pub const OVER_CAPACITY: u32 = 27; // §7.27, over capacity
+
+    // The plain numbers of a refused answer: §8.1, §8.3.
+    pub fn plain(self) -> [u64; 6]
+        ensures { λ r. ⌜ r ≡ plainRefusal self ⌝ }
+    {
+        let at = self.at;
+        [
+            self.number as u64,
+            at.kind() as u64,
+            at.index() as u64,
+            0,
+            0,
+            0,
+        ]
+    }
 }
 
 // What a check without numbers of its own answers.
@@ -148,12 +163,14 @@ impl Verdict {
         }
     }
 
-    // The plain numbers of a call that has none of its own: §8.1.
-    pub fn plain(self) -> [usize; 3]
+    // The plain numbers of a call that has none of its own: §8.1, §8.4.
+    pub fn plain(self) -> [u64; 6]
         ensures { λ r. ⌜ r ≡ plainVerdict self ⌝ }
     {
-        let at = self.at();
-        [self.number() as usize, at.kind() as usize, at.index()]
+        match self {
+            Verdict::Accepted => [0u64, 0, 0, 0, 0, 0],
+            Verdict::Refused(r) => r.plain(),
+        }
     }
 }
 

@@ -77,7 +77,7 @@ module _ (net sheet log taken put : List ℕ) (ok : replayVerdict net sheet log 
 
 -- ---- what the call shows of its core
 
-pub replay-law : (net sheet log : List ℕ) → Lawful (replayCore net sheet log) plainReplay 3
+pub replay-law : (net sheet log : List ℕ) → Lawful (replayCore net sheet log) plainReplay
     (totalsOf (petriNet net) log .taken ∷ totalsOf (petriNet net) log .put ∷ plainIndex (lastEntry (petriNet net) sheet (firings log)) ∷ [])
     ((netChecks net ++ sheetChecks (petriNet net) sheet) ++ replayChecks (petriNet net) sheet log)
 unfolding replayVerdict

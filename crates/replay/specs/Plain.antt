@@ -9,4 +9,4 @@ use Rattle.replay.specs.declared.ReplayAnswer.the-variants.{Done, Stoppe
 -- number, kind, position, the totals taken and put (§10.11), the entry (§10.13); the last three are 0 if refused (§8.3)
 abbrev pub plainReplay : ReplayAnswer → List ℕ
 plainReplay (Done d) = 0 ∷ 0 ∷ 0 ∷ d .totals .taken ∷ d .totals .put ∷ plainIndex (d .entry) ∷ []
-plainReplay (Stopped r) = plainRefusal r 3
+plainReplay (Stopped r) = plainRefusal r

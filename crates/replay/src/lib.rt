@@ -41,19 +41,9 @@ impl ReplayAnswer {
             ReplayAnswer::Done(outcome) => {
                 let totals = outcome.totals;
                 let entry = outcome.entry;
-                [0u64, 0, 0, totals.taken, totals.put, entry.plain() as u64]
+                [0u64, 0, 0, totals.taken, totals.put, entry.plain()]
             }
-            ReplayAnswer::Stopped(r) => {
-                let at = r.at;
-                [
-                    r.number as u64,
-                    at.kind() as u64,
-                    at.index() as u64,
-                    0,
-                    0,
-                    0,
-                ]
-            }
+            ReplayAnswer::Stopped(r) => r.plain(),
         }
     }
 }

@@ -47,17 +47,17 @@ module _ (net sheet : List ℕ) where
   then-own : {found : Option Refusal} {own : List Check} → Tells found own → Judges (andThen (scheduleReply net sheet) (verdictOf found)) (checks ++ own)
   then-own h = judges-then _ _ checks _ (schedule-judged net sheet) (λ p. judges-found _ _ h)
 
-  pub check-law : Lawful (checkCore net sheet) plainCheck 3 (countsOf net sheet .nodes ∷ countsOf net sheet .arcs ∷ countsOf net sheet .awaits ∷ []) checks
+  pub check-law : Lawful (checkCore net sheet) plainCheck (countsOf net sheet .nodes ∷ countsOf net sheet .arcs ∷ countsOf net sheet .awaits ∷ []) checks
   check-law = record { judged = schedule-judged net sheet; proper = refl; plain-accepted = refl; own-length = refl; plain-refused = λ r. refl }
 
-  pub bounds-law : Lawful (boundsCore net sheet) plainVerdict 0 [] checks
+  pub bounds-law : Lawful (boundsCore net sheet) plainVerdict (0 ∷ 0 ∷ 0 ∷ []) checks
   bounds-law = record { judged = schedule-judged net sheet; proper = refl; plain-accepted = refl; own-length = refl; plain-refused = λ r. refl }
 
-  pub fire-law : (w : Walker) (t : ℕ) → Lawful (fireCore net sheet w t) (λ a. plainFire (a .0)) 1 (plainIndex (Known (entryFired (petriNet net) sheet w t)) ∷ [])
+  pub fire-law : (w : Walker) (t : ℕ) → Lawful (fireCore net sheet w t) (λ a. plainFire (a .0)) (plainIndex (Known (entryFired (petriNet net) sheet w t)) ∷ 0 ∷ 0 ∷ [])
       (checks ++ walkerChecks (petriNet net) sheet w t)
   fire-law w t = record { judged = then-own (step-tells (petriNet net) sheet w t); proper = refl; plain-accepted = refl; own-length = refl; plain-refused = λ r. refl }
 
-  pub run-law : (firings : List ℕ) → Lawful (runCore net sheet firings) plainRun 3
+  pub run-law : (firings : List ℕ) → Lawful (runCore net sheet firings) plainRun
       (length firings ∷ nodeAfter (petriNet net) sheet firings (length firings) ∷ plainIndex (lastEntry (petriNet net) sheet firings) ∷ [])
       (checks ++ runChecks (petriNet net) sheet firings)
   run-law firings = record { judged = then-own (run-tells (petriNet net) sheet firings); proper = refl; plain-accepted = refl; own-length = refl; plain-refused = λ r. refl }

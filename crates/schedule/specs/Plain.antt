@@ -11,10 +11,10 @@ use Rattle.schedule.specs.declared.RunAnswer.the-variants.{Done, Stopped
 
 -- number, kind, position, the entry (§10.13), which is missing if refused (§8.3)
 abbrev pub plainFire : FireAnswer → List ℕ
-plainFire (fire.Done e) = 0 ∷ 0 ∷ 0 ∷ plainIndex (Known e) ∷ []
-plainFire (fire.Stopped r) = plainRefusal r 1
+plainFire (fire.Done e) = 0 ∷ 0 ∷ 0 ∷ plainIndex (Known e) ∷ 0 ∷ 0 ∷ []
+plainFire (fire.Stopped r) = plainRefusal r
 
 -- number, kind, position, how many were fired, the node at the end (§10.8), the entry (§10.13); the last three are 0 if refused (§8.3)
 abbrev pub plainRun : RunAnswer → List ℕ
 plainRun (Done d) = 0 ∷ 0 ∷ 0 ∷ d .fired ∷ d .node ∷ plainIndex (d .entry) ∷ []
-plainRun (Stopped r) = plainRefusal r 3
+plainRun (Stopped r) = plainRefusal r

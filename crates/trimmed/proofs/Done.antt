@@ -17,7 +17,7 @@ words-judged net sheet =
     judges-then (netReply net) _ (netChecks net) (wordChecks (petriNet net) sheet) (net-judged net)
     (λ p. judges-found _ (wordChecks (petriNet net) sheet) (words-tell (petriNet net) sheet))
 
-pub trim-law : (net sheet : List ℕ) → Lawful (trimCore net sheet) plainTrim 2 (lengths net sheet .sheet ∷ lengths net sheet .list ∷ []) (netChecks net ++ wordChecks (petriNet net) sheet)
+pub trim-law : (net sheet : List ℕ) → Lawful (trimCore net sheet) plainTrim (lengths net sheet .sheet ∷ lengths net sheet .list ∷ 0 ∷ []) (netChecks net ++ wordChecks (petriNet net) sheet)
 trim-law net sheet = record {
   judged = words-judged net sheet;
   proper = refl;

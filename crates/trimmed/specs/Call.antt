@@ -34,5 +34,5 @@ TrimDone net sheet out list scratch r out′ list′ scratch′ =
 
 -- number, kind, position, both lengths (§8.1), which are 0 if refused (§8.3)
 abbrev pub plainTrim : TrimAnswer → List ℕ
-plainTrim (Written l) = 0 ∷ 0 ∷ 0 ∷ l .sheet ∷ l .list ∷ []
-plainTrim (Refused r) = plainRefusal r 2
+plainTrim (Written l) = 0 ∷ 0 ∷ 0 ∷ l .sheet ∷ l .list ∷ 0 ∷ []
+plainTrim (Refused r) = plainRefusal r

@@ -29,24 +29,24 @@ two = 2 ∷ 3 ∷ 0 ∷ 3 ∷ 5 ∷ 1 ∷ 0 ∷ 1 ∷ []
 abbrev pub table : List Row
 table =
     -- an accepted schedule comes back, with the list 0, 1
-    row netA two (0 ∷ 0 ∷ 0 ∷ 8 ∷ 2 ∷ []) two (0 ∷ 1 ∷ [])
+    row netA two (0 ∷ 0 ∷ 0 ∷ 8 ∷ 2 ∷ 0 ∷ []) two (0 ∷ 1 ∷ [])
     -- refused only by 16, at node 1, which leads to node 2: accepted without node 1
-    ∷ row netA (3 ∷ 4 ∷ 0 ∷ 2 ∷ 5 ∷ 8 ∷ 2 ∷ 2 ∷ 0 ∷ 1 ∷ []) (0 ∷ 0 ∷ 0 ∷ 8 ∷ 2 ∷ []) two (0 ∷ 2 ∷ [])
+    ∷ row netA (3 ∷ 4 ∷ 0 ∷ 2 ∷ 5 ∷ 8 ∷ 2 ∷ 2 ∷ 0 ∷ 1 ∷ []) (0 ∷ 0 ∷ 0 ∷ 8 ∷ 2 ∷ 0 ∷ []) two (0 ∷ 2 ∷ [])
     -- the same with a wrong count at node 1
-    ∷ row netA (3 ∷ 5 ∷ 0 ∷ 2 ∷ 5 ∷ 7 ∷ 8 ∷ 2 ∷ 2 ∷ 0 ∷ 4 ∷ 1 ∷ []) (0 ∷ 0 ∷ 0 ∷ 8 ∷ 2 ∷ []) two (0 ∷ 2 ∷ [])
+    ∷ row netA (3 ∷ 5 ∷ 0 ∷ 2 ∷ 5 ∷ 7 ∷ 8 ∷ 2 ∷ 2 ∷ 0 ∷ 4 ∷ 1 ∷ []) (0 ∷ 0 ∷ 0 ∷ 8 ∷ 2 ∷ 0 ∷ []) two (0 ∷ 2 ∷ [])
     -- a cycle that is not reached, and node 3, to which only the cycle leads
-    ∷ row netA (4 ∷ 4 ∷ 0 ∷ 2 ∷ 3 ∷ 4 ∷ 0 ∷ 2 ∷ 3 ∷ 1 ∷ []) (0 ∷ 0 ∷ 0 ∷ 4 ∷ 1 ∷ []) (1 ∷ 1 ∷ 0 ∷ 0 ∷ []) (0 ∷ [])
+    ∷ row netA (4 ∷ 4 ∷ 0 ∷ 2 ∷ 3 ∷ 4 ∷ 0 ∷ 2 ∷ 3 ∷ 1 ∷ []) (0 ∷ 0 ∷ 0 ∷ 4 ∷ 1 ∷ 0 ∷ []) (1 ∷ 1 ∷ 0 ∷ 0 ∷ []) (0 ∷ [])
     -- a search meets 0, 3, 1, but the old order is kept: 0, 1, 3. Node 2 is dropped
-    ∷ row netA (4 ∷ 2 ∷ 0 ∷ 6 ∷ 3 ∷ 1 ∷ []) (0 ∷ 0 ∷ 0 ∷ 6 ∷ 3 ∷ []) (3 ∷ 2 ∷ 0 ∷ 4 ∷ 2 ∷ 1 ∷ []) (0 ∷ 1 ∷ 3 ∷ [])
+    ∷ row netA (4 ∷ 2 ∷ 0 ∷ 6 ∷ 3 ∷ 1 ∷ []) (0 ∷ 0 ∷ 0 ∷ 6 ∷ 3 ∷ 0 ∷ []) (3 ∷ 2 ∷ 0 ∷ 4 ∷ 2 ∷ 1 ∷ []) (0 ∷ 1 ∷ 3 ∷ [])
     -- a search meets 0, 2, 1, but the numbers stay
-    ∷ row netA (3 ∷ 2 ∷ 0 ∷ 4 ∷ 2 ∷ 1 ∷ []) (0 ∷ 0 ∷ 0 ∷ 6 ∷ 3 ∷ []) (3 ∷ 2 ∷ 0 ∷ 4 ∷ 2 ∷ 1 ∷ []) (0 ∷ 1 ∷ 2 ∷ [])
+    ∷ row netA (3 ∷ 2 ∷ 0 ∷ 4 ∷ 2 ∷ 1 ∷ []) (0 ∷ 0 ∷ 0 ∷ 6 ∷ 3 ∷ 0 ∷ []) (3 ∷ 2 ∷ 0 ∷ 4 ∷ 2 ∷ 1 ∷ []) (0 ∷ 1 ∷ 2 ∷ [])
     -- stale counts are carried over; no arc at the root
-    ∷ row netA (2 ∷ 2 ∷ 4 ∷ 5 ∷ 7 ∷ 9 ∷ []) (0 ∷ 0 ∷ 0 ∷ 4 ∷ 1 ∷ []) (1 ∷ 1 ∷ 2 ∷ 7 ∷ []) (0 ∷ [])
+    ∷ row netA (2 ∷ 2 ∷ 4 ∷ 5 ∷ 7 ∷ 9 ∷ []) (0 ∷ 0 ∷ 0 ∷ 4 ∷ 1 ∷ 0 ∷ []) (1 ∷ 1 ∷ 2 ∷ 7 ∷ []) (0 ∷ [])
     -- 9 at an arc, 9 at a count, 8, 6
-    ∷ row netA (2 ∷ 3 ∷ 0 ∷ 3 ∷ 5 ∷ 2 ∷ 0 ∷ 1 ∷ []) (9 ∷ 1 ∷ 0 ∷ 0 ∷ 0 ∷ []) [] []
-    ∷ row netA (2 ∷ 3 ∷ 0 ∷ 3 ∷ 5 ∷ 1 ∷ 0 ∷ 0 ∷ []) (9 ∷ 1 ∷ 2 ∷ 0 ∷ 0 ∷ []) [] []
-    ∷ row netA (2 ∷ 3 ∷ 0 ∷ 3 ∷ 6 ∷ 1 ∷ 0 ∷ 1 ∷ []) (8 ∷ 1 ∷ 2 ∷ 0 ∷ 0 ∷ []) [] []
-    ∷ row netA (2 ∷ []) (6 ∷ 0 ∷ 0 ∷ 0 ∷ 0 ∷ []) [] []
+    ∷ row netA (2 ∷ 3 ∷ 0 ∷ 3 ∷ 5 ∷ 2 ∷ 0 ∷ 1 ∷ []) (9 ∷ 1 ∷ 0 ∷ 0 ∷ 0 ∷ 0 ∷ []) [] []
+    ∷ row netA (2 ∷ 3 ∷ 0 ∷ 3 ∷ 5 ∷ 1 ∷ 0 ∷ 0 ∷ []) (9 ∷ 1 ∷ 2 ∷ 0 ∷ 0 ∷ 0 ∷ []) [] []
+    ∷ row netA (2 ∷ 3 ∷ 0 ∷ 3 ∷ 6 ∷ 1 ∷ 0 ∷ 1 ∷ []) (8 ∷ 1 ∷ 2 ∷ 0 ∷ 0 ∷ 0 ∷ []) [] []
+    ∷ row netA (2 ∷ []) (6 ∷ 0 ∷ 0 ∷ 0 ∷ 0 ∷ 0 ∷ []) [] []
     ∷ []
 
 -- ---- what the definitions give

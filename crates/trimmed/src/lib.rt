@@ -17,15 +17,21 @@ pub enum TrimAnswer {
 
 impl TrimAnswer {
     // Its plain numbers: §8.1.
-    pub fn plain(self) -> [usize; 5]
+    pub fn plain(self) -> [u64; 6]
         ensures { λ r. ⌜ r ≡ plainTrim self ⌝ }
     {
         match self {
-            TrimAnswer::Written(lengths) => [0usize, 0, 0, lengths.sheet, lengths.list],
-            TrimAnswer::Refused(r) => {
-                let at = r.at;
-                [r.number as usize, at.kind() as usize, at.index(), 0, 0]
+            TrimAnswer::Written(lengths) => {
+                [
+                    0u64,
+                    0,
+                    0,
+                    lengths.sheet as u64,
+                    lengths.list as u64,
+                    0,
+                ]
             }
+            TrimAnswer::Refused(r) => r.plain(),
         }
     }
 }

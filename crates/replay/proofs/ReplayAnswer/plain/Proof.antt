@@ -1,21 +1,15 @@
 -- `replay::ReplayAnswer::plain` meets its contract.
-use Rattle.scan.proofs.Basics.{sym, ap, _∙_}
+use Rattle.scan.proofs.Basics.{sym, ap}
 use borrow.Author.Needs.{needs}
-use Rattle.refusal.proofs.Verdicts.{refusal-parts}
 use Rattle.replay.specs.Plain.{plainReplay}
 use Rattle.replay.proofs.ReplayAnswer.plain.Statement.{statement}
 use Rattle.replay.proofs.ReplayAnswer.plain.Tie as tie
 
 returns : tie.Need-returns
-returns c = rw (c .plain .ensures) (sym (ap plainReplay (c .before .before .before .self .given .1)))
+returns c = rw (c .plain .ensures) (sym (ap plainReplay (c .before .before .self .given .1)))
 
 returns-2 : tie.Need-returns-2
-returns-2 c =
-    let s = c .before .before .before .before .self2 in
-    rw (c .index .ensures, c .before .kind .ensures) (refusal-parts (s .given .0 .0) 3 ∙ sym (ap plainReplay (s .given .1)))
+returns-2 c = rw (c .plain2 .ensures) (sym (ap plainReplay (c .before .before .self2 .given .1)))
 
 pub plain-spec : {M : Type 1} → statement M
-plain-spec =
-    tie.close
-    (tie.spec (λ c. search needs) (λ c κs. search needs) (λ c. search needs) (λ c. search needs) (λ c κs. search needs) (λ c. search needs)
-    (λ c κs. search needs) returns returns-2)
+plain-spec = tie.close (tie.spec (λ c. search needs) (λ c κs. search needs) (λ c. search needs) (λ c κs. search needs) returns returns-2)
