@@ -28,25 +28,22 @@ cast-t17 c = omega arith
 
 returns : tie.Need-returns Inv-loop μ-loop
 returns c =
-    let v = c .before .before in
-    let l = v .before .before .before in
-    let s = l .before .before .before .before .before .before .pre in
-    let k = v .before .before .loop-test .taken in
+    let at-task-verdict = c .before .before in
+    let at-test = at-task-verdict .before .before in
+    let s = at-test .before .before .before .before .before .before .before .pre in
+    let k = at-test .loop-test .taken in
     record {
       passes = λ e. accepted-refused _ _ e (c .enum-told .given .1);
-      fails = λ r e. record { below = k; before = l .loop .inv .1; there = turn-fails _ _ _ _ _ _ s k (search needs) (v .task-verdict .ensures) r e };
+      fails = λ r e. record { below = k; before = at-test .before .loop .inv .1; there = turn-fails _ _ _ _ _ _ s k (search needs) (at-task-verdict .task-verdict .ensures) r e };
     }
 
 loop-again : tie.Need-loop-again Inv-loop μ-loop
 loop-again c =
-    let v = c .before .before in
-    let l = v .before .before .before in
-    (omega arith, below-more _ _ (l .loop .inv .1) (search (turn-passes, needs)))
+    (omega arith, below-more _ _ (c .before .before .before .before .before .loop .inv .1) (search (turn-passes, needs)))
 
 returns-2 : tie.Need-returns-2 Inv-loop μ-loop
 returns-2 c =
-    let l = c .before in
-    record { passes = λ e j k. l .loop .inv .1 j (omega arith); fails = λ r e. accepted-refused Accepted r refl e }
+    record { passes = λ e j k. c .before .loop .inv .1 j (omega arith); fails = λ r e. accepted-refused Accepted r refl e }
 
 pub sheets-told-spec : {M : Type 1} → statement M
 sheets-told-spec =
