@@ -1,39 +1,47 @@
 -- `plainly::answered` meets its contract.
 use Rattle.scan.proofs.Basics.{arith, refl, sym, _∙_}
+use Rattle.graph.specs.Readable.{Readable}
 use Rattle.graph.proofs.Readable.{reply-readable}
 use Rattle.plainly.proofs.Whole.{fit, spread-answer, refused-answer, accepted-answer}
 use borrow.Author.Needs.{needs}
 use Rattle.plainly.proofs.answered.Statement.{statement}
 use Rattle.plainly.proofs.answered.Tie as tie
 
+abbrev after-spread-sheet : tie.After-judged-arg → tie.After-spread-sheet
+after-spread-sheet c = c .before .before .before
+
 returns : tie.Need-returns
 returns c = (search (refused-answer, needs), record { same-length = refl; past = λ k l. refl })
 
+-- the words were accepted
+readable : (c : tie.After-enum-told) → let a = c .before .before .before .before .before .before .args in Readable (a .net .now) (a .sheet .now)
+readable c = reply-readable _ _ (sym (search needs) ∙ c .enum-told .given .1)
+
 shared-slice-read-spread-net : tie.Need-shared-slice-read-spread-net
-shared-slice-read-spread-net c = let r = reply-readable _ _ (sym (c .before .before .before .check .ensures) ∙ c .before .enum-told .given .1) in omega arith
+shared-slice-read-spread-net c = let r = readable (c .before) in omega arith
 
 cast-spread-net : tie.Need-cast-spread-net
-cast-spread-net c = let r = reply-readable _ _ (sym (c .before .before .before .check .ensures) ∙ c .before .enum-told .given .1) in omega arith
+cast-spread-net c = let r = readable (c .before) in omega arith
 
 spread-net-requires : tie.Need-spread-net-requires
-spread-net-requires c κs = reply-readable _ _ (sym (c .before .before .before .check .ensures) ∙ c .before .enum-told .given .1) .arcs .accepted
+spread-net-requires c κs = readable (c .before) .arcs .accepted
 
 spread-sheet-requires : tie.Need-spread-sheet-requires
-spread-sheet-requires c κs = (reply-readable _ _ (sym (c .before .before .before .before .before .check .ensures) ∙ c .before .before .before .enum-told .given .1), search needs)
+spread-sheet-requires c κs = (readable (c .before .before .before), search needs)
 
 judged-requires : tie.Need-judged-requires
 judged-requires c κs =
-    let at-spread-net = c .before .before .before .before .before in
-    let r = reply-readable _ _ (sym (at-spread-net .before .before .before .before .check .ensures)
-    ∙ at-spread-net .before .before .enum-told .given .1) in
+    let at-spread-net = after-spread-sheet c .before .before in
+    let r = readable (at-spread-net .before .before) in
     let (tables, nodes) = at-spread-net .spread-net .ensures in
     search (fit, needs)
 
 returns-2 : tie.Need-returns-2
 returns-2 c =
-    let at-spread-sheet = c .before .before .before .before in
-    let at-told = at-spread-sheet .before .before .before .before in
-    let (tables, nodes) = at-spread-sheet .before .before .spread-net .ensures in
+    let at-spread-sheet = after-spread-sheet (c .before) in
+    let at-spread-net = at-spread-sheet .before .before in
+    let at-told = at-spread-net .before .before in
+    let (tables, nodes) = at-spread-net .spread-net .ensures in
     let e = at-told .before .before .check .ensures in
     let a = at-told .enum-told .given .1 in
     let grid = at-spread-sheet .spread-sheet .ensures in

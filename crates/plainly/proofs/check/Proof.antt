@@ -16,10 +16,12 @@ answered-requires c κs = scratch-holds 8192 _ (sym (c .before .before .before .
 
 returns-2 : tie.Need-returns-2
 returns-2 c =
-    let at-answered = c .before .before .before .before .before .before in
+    let at-clear-front = c .before .before in
+    let at-answered = at-clear-front .before .before .before .before in
+    let at-enum-told = at-answered .before .before in
     let (answer, front) = at-answered .answered .ensures in
-    served (sym (at-answered .before .before .before .before .scratch-fault .ensures)
-    ∙ at-answered .before .before .enum-told .given .1) (slow-words _ _ _ answer) ((c .before .before .clear-front .ensures) ∙ cleared-same 8192 _ _ front)
+    served (sym (at-enum-told .before .before .scratch-fault .ensures)
+    ∙ at-enum-told .enum-told .given .1) (slow-words _ _ _ answer) ((at-clear-front .clear-front .ensures) ∙ cleared-same 8192 _ _ front)
 
 pub check-spec : {M : Type 1} → statement M
 check-spec =

@@ -27,7 +27,10 @@ unfolding hasArc
 loop-again c = (omega arith, any-more _ _ (search needs) (search (le-ltb, needs)))
 
 returns-2 : tie.Need-returns-2 Inv-loop μ-loop
-returns-2 c = let e : c .before .loop .t ≡ c .before .before .args .transitions = omega arith in sym (least-none _ _ (rw e at (c .before .loop .inv .1)))
+returns-2 c =
+    let at-loop = c .before in
+    let e : at-loop .loop .t ≡ at-loop .before .args .transitions = omega arith in
+    sym (least-none _ _ (rw e at (at-loop .loop .inv .1)))
 
 pub first-offered-spec : {M : Type 1} → statement M
 first-offered-spec =

@@ -31,7 +31,10 @@ loop-again c = (omega arith, all-more _ _ (search needs) (rw (← c .before .is-
 
 returns-2 : tie.Need-returns-2 Inv-loop μ-loop
 unfolding cellsAwait
-returns-2 c = let e : c .before .loop .t ≡ c .before .before .before .before .args .transitions = omega arith in sym (rw e at (c .before .loop .inv .1))
+returns-2 c =
+    let at-loop = c .before in
+    let e : at-loop .loop .t ≡ at-loop .before .before .before .args .transitions = omega arith in
+    sym (rw e at (at-loop .loop .inv .1))
 
 pub is-await-spec : {M : Type 1} → statement M
 is-await-spec =

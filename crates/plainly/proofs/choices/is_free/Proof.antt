@@ -28,7 +28,10 @@ loop-again : tie.Need-loop-again Inv-loop μ-loop
 loop-again c = (omega arith, all-more _ _ (search needs) (sym (c .before .draws-alike .ensures) ∙ not-false _ (search needs)))
 
 returns-2 : tie.Need-returns-2 Inv-loop μ-loop
-returns-2 c = let e : c .before .loop .u ≡ c .before .before .before .args .transitions = omega arith in sym (rw e at (c .before .loop .inv .1))
+returns-2 c =
+    let at-loop = c .before in
+    let e : at-loop .loop .u ≡ at-loop .before .before .args .transitions = omega arith in
+    sym (rw e at (at-loop .loop .inv .1))
 
 pub is-free-spec : {M : Type 1} → statement M
 is-free-spec =

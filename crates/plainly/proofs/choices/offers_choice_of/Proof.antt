@@ -31,8 +31,9 @@ same-choice-requires c κs = (
 returns : tie.Need-returns Inv-loop μ-loop
 unfolding cellsChoice choiceCell hasArc
 returns c =
-    sym (rw (← c .before .before .before .before .before .is-free .ensures)
-    (all-fails _ _ _ (c .before .before .before .loop-test .taken)
+    let at-test = c .before .before .before in
+    sym (rw (← at-test .before .before .is-free .ensures)
+    (all-fails _ _ _ (at-test .loop-test .taken)
     (rw (← c .before .same-choice .ensures) (not-true _ (c .if1 .taken)))))
 
 loop-again : tie.Need-loop-again Inv-loop μ-loop
@@ -42,8 +43,9 @@ loop-again c = (omega arith, all-more _ _ (search needs) (rw (← c .before .sam
 returns-2 : tie.Need-returns-2 Inv-loop μ-loop
 unfolding cellsChoice
 returns-2 c =
-    let e : c .before .loop .u ≡ c .before .before .before .before .before .args .transitions = omega arith in
-    sym (rw (← c .before .before .is-free .ensures) (rw e at (c .before .loop .inv .1)))
+    let at-loop = c .before in
+    let e : at-loop .loop .u ≡ at-loop .before .before .before .before .args .transitions = omega arith in
+    sym (rw (← at-loop .before .is-free .ensures) (rw e at (at-loop .loop .inv .1)))
 
 pub offers-choice-of-spec : {M : Type 1} → statement M
 offers-choice-of-spec =

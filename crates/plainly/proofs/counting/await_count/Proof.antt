@@ -16,6 +16,9 @@ Inv-loop grid s awaits₀ n₀ awaits n = (n ≤ s .nodes) × (awaits ≡ count 
 abbrev μ-loop : tie.MeasureT-loop
 μ-loop grid s awaits₀ n₀ awaits n = s .nodes - n
 
+abbrev head : tie.After-is-await-arg2 Inv-loop μ-loop → tie.At-loop Inv-loop μ-loop
+head c = c .before .before .before .before
+
 loop-holds : tie.Need-loop-holds Inv-loop μ-loop
 unfolding count
 loop-holds c = (omega arith, refl, search needs)
@@ -25,15 +28,14 @@ is-await-requires c κs = (search (at-row, needs), search (taking, needs))
 
 add-awaits : tie.Need-add-awaits Inv-loop μ-loop
 add-awaits c =
-    let at-loop = c .before .before .before .before .before .before in
+    let at-loop = head (c .before .before) in
     let a = at-loop .before .before .args in
     let (x, y, z) = at-loop .loop .inv in
     omega (arith, bit-le (c .before .is-await .result), count-le (isAwait (netOf (a .t1)) (graphOf (a .t1) (a .grid .now))) (at-loop .loop .n))
 
 loop-again : tie.Need-loop-again Inv-loop μ-loop
 loop-again c =
-    let at-test = c .before .before .before .before .before in
-    let (x, y, z) = at-test .before .loop .inv in (
+    let (x, y, z) = head (c .before .before) .loop .inv in (
       omega arith,
       rw (
         count-more _ _,
@@ -47,8 +49,9 @@ loop-again c =
 returns : tie.Need-returns Inv-loop μ-loop
 unfolding awaitTotal graphOf
 returns c =
-    let (x, y, z) = c .before .loop .inv in
-    let e : c .before .loop .n ≡ c .before .before .before .args .t1 .nodes = omega arith in
+    let at-loop = c .before in
+    let (x, y, z) = at-loop .loop .inv in
+    let e : at-loop .loop .n ≡ at-loop .before .before .args .t1 .nodes = omega arith in
     rw e at y
 
 pub await-count-spec : {M : Type 1} → statement M

@@ -5,6 +5,12 @@ use borrow.Author.Needs.{needs}
 use Rattle.plainly.proofs.spreading.count_cell.Statement.{statement}
 use Rattle.plainly.proofs.spreading.count_cell.Tie as tie
 
+abbrev after-places : tie.After-transitions → tie.After-places
+after-places c = c .before .before .before .before .before
+
+abbrev entry : tie.After-places → tie.Start
+entry c = c .before .before .before
+
 returns : tie.Need-returns
 returns c = search (count-no-node, needs)
 
@@ -16,8 +22,8 @@ mul-first c = rw (c .transitions .ensures) (omega arith)
 
 mul-value-of : tie.Need-mul-value-of
 mul-value-of c =
-    let at-places = c .before .before .before .before .before in
-    let a = at-places .before .before .before .args in
+    let at-places = after-places c in
+    let a = entry at-places .args in
     omega (
       arith,
       rows-small (a .n) (at-places .places .result) (omega arith) (omega arith),
@@ -25,9 +31,10 @@ mul-value-of c =
 
 add-value-of : tie.Need-add-value-of
 add-value-of c =
-    let at-places = c .before .before .before .before .before in
-    let a = at-places .before .before .before .args in
-    let z = at-places .before .before .before .pre .arcs .sizes in
+    let at-places = after-places c in
+    let start = entry at-places in
+    let a = start .args in
+    let z = start .pre .arcs .sizes in
     omega (
       arith,
       rows-small (a .n) (at-places .places .result) (omega arith) (omega arith),
@@ -36,9 +43,10 @@ add-value-of c =
 
 add-value-of-2 : tie.Need-add-value-of-2
 add-value-of-2 c =
-    let at-places = c .before .before .before .before .before in
-    let a = at-places .before .before .before .args in
-    let z = at-places .before .before .before .pre .arcs .sizes in
+    let at-places = after-places c in
+    let start = entry at-places in
+    let a = start .args in
+    let z = start .pre .arcs .sizes in
     omega (
       arith,
       rows-small (a .n) (at-places .places .result) (omega arith) (omega arith),
@@ -50,11 +58,11 @@ value-of-requires c κs = (search (keyed, needs), omega arith)
 
 returns-3 : tie.Need-returns-3
 returns-3 c =
-    let at-if2 = c .before .before .before in
-    let e = c .before .transitions .ensures in
-    let f = at-if2 .before .before .before .places .ensures in
+    let at-transitions = c .before in
+    let e = at-transitions .transitions .ensures in
+    let f = after-places at-transitions .places .ensures in
     (rw (e, f) at (c .value-of .ensures)) ∙ count-value (search needs) _ _
-    (search needs) (rw f at (at-if2 .if2 .left))
+    (search needs) (rw f at (at-transitions .before .before .if2 .left))
 
 pub count-cell-spec : {M : Type 1} → statement M
 count-cell-spec =

@@ -27,9 +27,10 @@ slice-write-grid c = let (x, y, z, u, w) = c .before .before .loop .inv in omega
 
 loop-again : tie.Need-loop-again Inv-loop μ-loop
 loop-again c =
-    let (x, y, z, u, w) = c .before .before .loop .inv in
-    let grid = c .before .before .loop .grid in
-    let k = c .before .before .loop .k in (
+    let at-loop = c .before .before in
+    let (x, y, z, u, w) = at-loop .loop .inv in
+    let grid = at-loop .loop .grid in
+    let k = at-loop .loop .k in (
       omega arith,
       simp length-set y,
       z,

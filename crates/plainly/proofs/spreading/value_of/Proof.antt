@@ -6,7 +6,9 @@ use Rattle.plainly.proofs.spreading.value_of.Statement.{statement}
 use Rattle.plainly.proofs.spreading.value_of.Tie as tie
 
 add-result : tie.Need-add-result
-add-result c = omega (arith, value-small _ (search needs) _ (c .before .before .before .before .find .ensures) _ (c .before .before .i .given .1))
+add-result c =
+    let at-i = c .before .before in
+    omega (arith, value-small _ (search needs) _ (at-i .before .before .find .ensures) _ (at-i .i .given .1))
 
 returns : tie.Need-returns
 returns c = search (value-found, needs)
