@@ -11,7 +11,7 @@ use Rattle.reaction.specs.Call.{sheetGraph, reportWords}
 use Rattle.react.specs.Rows.{IsNode}
 use Rattle.react.specs.Times.{durationOf, timeOf, Ready, TimesOf}
 use Rattle.react.specs.Report.{Writable}
-use Rattle.react.proofs.ArcRows.{few-nodes}
+use Rattle.react.proofs.ArcRows.{few-nodes, rows, start-most, end-most}
 use Rattle.react.proofs.StopMarks.{await-at, busy-at}
 use Rattle.react.proofs.Recursion.{sum-most}
 use Rattle.react.proofs.RowPairs.{strung-none, strung-hit, strung-miss, pairs, row, skip, row-busy, pair-some, rowsOf}
@@ -24,6 +24,14 @@ pub record RowWriting (net sheet words starts best worst : List ℕ) (n : ℕ) (
   pub upto : ℕ
   pub walks : Walks net sheet starts n first transitions i upto
   pub written : Appended out₀ at (strung (pairs net sheet words n) upto) next out
+
+-- where the row begins and ends, as the code reads it
+module _ {net sheet words starts best worst : List ℕ} {n : ℕ} (v : Writable net sheet words starts best worst n) where
+  pub row-begins : getD starts n 0 ≤ 4096
+  row-begins = start-most (rows (v .mapped)) (v .node)
+
+  pub row-ends : getD starts (n + 1) 0 ≤ 4096
+  row-ends = end-most (rows (v .mapped)) (v .node)
 
 pub row-start : {net sheet words starts best worst : List ℕ} {n : ℕ} {out : List ℕ} {at first transitions : ℕ} → Writable net sheet words starts best worst n
     → first ≡ arcsStart net n → transitions ≡ transitionCount net → RowWriting net sheet words starts best worst n out at first transitions out at (getD starts n 0)

@@ -5,7 +5,7 @@ use Rattle.sequential.specs.Words.{entryKey, entryValue}
 use Rattle.graph.specs.Rows.{arcsStart}
 use Rattle.reaction.specs.Call.{sheetGraph}
 use Rattle.react.specs.Rows.{IsNode, ArcOf, HasEntry, Mapped}
-use Rattle.react.proofs.ArcRows.{whole, key-low, key-high, arc-at, rows, first-key, has-entry, Walked, walk-start, walk-end, walk-reach, walk-gap, walk-more}
+use Rattle.react.proofs.ArcRows.{whole, key-low, key-high, arc-at, rows, end-most, first-key, has-entry, Walked, walk-start, walk-end, walk-reach, walk-gap, walk-more}
 
 pub record Walks (net sheet starts : List ℕ) (n first transitions i upto : ℕ) : Type 0 where
   pub mapped : Mapped net sheet starts
@@ -13,6 +13,10 @@ pub record Walks (net sheet starts : List ℕ) (n first transitions i upto : ℕ
   pub first-is : first ≡ n * transitionCount net
   pub size : transitions ≡ transitionCount net
   pub walked : Walked net sheet starts n i upto
+
+-- where the row ends, as the code reads it
+pub walks-end : {net sheet starts : List ℕ} {n first transitions i upto : ℕ} → Walks net sheet starts n first transitions i upto → getD starts (n + 1) 0 ≤ 4096
+walks-end w = end-most (rows (w .mapped)) (w .node)
 
 pub walks-start : {net sheet starts : List ℕ} {n first transitions : ℕ} → Mapped net sheet starts → IsNode sheet n → first ≡ arcsStart net n → transitions ≡ transitionCount net
     → Walks net sheet starts n first transitions (getD starts n 0) 0

@@ -10,9 +10,11 @@ returns c = refused-scratch (sym (c .before .before .before .scratch-fault .ensu
 
 returns-2 : tie.Need-returns-2
 returns-2 c =
-    let at-reaction-into = c .before .before .before .before .before .before in
-    served (sym (at-reaction-into .before .before .before .before .scratch-fault .ensures) ∙
-    at-reaction-into .before .before .enum-told .given .1) (at-reaction-into .reaction-into .ensures) (c .before .before .clear-front .ensures)
+    let at-clear-front = c .before .before in
+    let at-reaction-into = at-clear-front .before .before .before .before in
+    let at-enum-told = at-reaction-into .before .before in
+    served (sym (at-enum-told .before .before .scratch-fault .ensures) ∙
+    at-enum-told .enum-told .given .1) (at-reaction-into .reaction-into .ensures) (at-clear-front .clear-front .ensures)
 
 pub reactions-spec : {M : Type 1} → statement M
 reactions-spec =

@@ -5,10 +5,22 @@ use borrow.Author.Needs.{needs}
 use Rattle.react.proofs.reported.Statement.{statement}
 use Rattle.react.proofs.reported.Tie as tie
 
+abbrev entry : tie.After-nodes → tie.Start
+entry c = c .before .before .before .before .before .before
+
+abbrev after-nodes : tie.After-awaits2 → tie.After-nodes
+after-nodes c = c .before .before .before
+
+abbrev after-enum-told : tie.After-enum-told2 → tie.After-enum-told
+after-enum-told c = c .before .before .before .before .before .before
+
+abbrev after-enum-told2 : tie.After-write-arg → tie.After-enum-told2
+after-enum-told2 c = c .before .before .before
+
 loops-fault-requires : tie.Need-loops-fault-requires
 loops-fault-requires c κs =
-    let at-nodes = c .before .before .before in
-    rows (judged _ _ _ (at-nodes .before .before .before .before .before .before .pre) (at-nodes .before .starts .ensures) (at-nodes .nodes .ensures)
+    let at-nodes = after-nodes c in
+    rows (judged _ _ _ (entry at-nodes .pre) (at-nodes .before .starts .ensures) (at-nodes .nodes .ensures)
     .mapped)
 
 returns : tie.Need-returns
@@ -22,20 +34,23 @@ returns-2 c = search (too-short, needs)
 
 write-requires : tie.Need-write-requires
 write-requires c κs =
-    let at-told = c .before .before .before .before .before .before .before .before .before in
-    let at-nodes = at-told .before .before .before .before .before .before in
-    ready _ _ _ (at-nodes .before .before .before .before .before .before .pre) (at-nodes .before .starts .ensures) (at-nodes .nodes .ensures)
-    (at-told .before .before .loops-fault .ensures) (at-told .enum-told .given .1)
+    let at-told = after-enum-told (after-enum-told2 c) in
+    let at-loops-fault = at-told .before .before in
+    let at-nodes = after-nodes (at-loops-fault .before) in
+    ready _ _ _ (entry at-nodes .pre) (at-nodes .before .starts .ensures) (at-nodes .nodes .ensures)
+    (at-loops-fault .loops-fault .ensures) (at-told .enum-told .given .1)
 
 returns-3 : tie.Need-returns-3
 returns-3 c =
-    let at-told = c .before .before .before .before .before .before in
-    let b = at-told .before .before in
-    let at-told-2 = b .before .before .before .before in
-    let at-nodes = at-told-2 .before .before .before .before .before .before in
-    report-written _ _ _ (at-nodes .before .before .before .before .before .before .pre) (at-nodes .before .starts .ensures)
-    (at-nodes .nodes .ensures) (at-told-2 .before .before .loops-fault .ensures) (at-told-2 .enum-told .given .1) (b .before .size .ensures) _
-    (b .output-fault .ensures) (at-told .enum-told2 .given .1) (c .before .before .write .ensures)
+    let at-write = c .before .before in
+    let at-told = after-enum-told2 (at-write .before) in
+    let at-output-fault = at-told .before .before in
+    let at-told-2 = after-enum-told at-told in
+    let at-loops-fault = at-told-2 .before .before in
+    let at-nodes = after-nodes (at-loops-fault .before) in
+    report-written _ _ _ (entry at-nodes .pre) (at-nodes .before .starts .ensures)
+    (at-nodes .nodes .ensures) (at-loops-fault .loops-fault .ensures) (at-told-2 .enum-told .given .1) (at-output-fault .before .size .ensures) _
+    (at-output-fault .output-fault .ensures) (at-told .enum-told2 .given .1) (at-write .write .ensures)
 
 pub reported-spec : {M : Type 1} → statement M
 reported-spec =

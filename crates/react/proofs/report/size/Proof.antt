@@ -13,6 +13,12 @@ Inv-loop sheet starts awaits nodes size₀ n₀ size n = Sizing sheet starts awa
 abbrev μ-loop : tie.MeasureT-loop
 μ-loop sheet starts awaits nodes size₀ n₀ size n = nodes - n
 
+abbrev entry : tie.In-loop Inv-loop μ-loop → tie.Start Inv-loop μ-loop
+entry c = c .before .before .before
+
+abbrev turn : tie.After-arcs2 Inv-loop μ-loop → tie.In-loop Inv-loop μ-loop
+turn c = c .before .before
+
 add-arcs : tie.Need-add-arcs Inv-loop μ-loop
 add-arcs c = omega arith
 
@@ -23,7 +29,9 @@ element-copy-out-arcs : tie.Need-element-copy-out-arcs Inv-loop μ-loop
 element-copy-out-arcs c = omega arith
 
 cast-arcs : tie.Need-cast-arcs Inv-loop μ-loop
-cast-arcs c = omega (arith, end-most (c .before .before .before .before .pre) (size-node (c .before .before .loop .inv) (c .before .loop-test .taken)))
+cast-arcs c =
+    let at-test = c .before in
+    omega (arith, end-most (entry at-test .pre) (size-node (at-test .before .loop .inv) (at-test .loop-test .taken)))
 
 mul-arcs-2 : tie.Need-mul-arcs-2 Inv-loop μ-loop
 mul-arcs-2 c = omega arith
@@ -33,13 +41,13 @@ element-copy-out-arcs-2 c = omega arith
 
 cast-arcs-2 : tie.Need-cast-arcs-2 Inv-loop μ-loop
 cast-arcs-2 c =
-    let at-test = c .before .before in
-    omega (arith, start-most (at-test .before .before .before .pre) (size-node (at-test .before .loop .inv) (at-test .loop-test .taken)))
+    let at-test = turn c in
+    omega (arith, start-most (entry at-test .pre) (size-node (at-test .before .loop .inv) (at-test .loop-test .taken)))
 
 sub-arcs : tie.Need-sub-arcs Inv-loop μ-loop
 sub-arcs c =
-    let at-test = c .before .before in
-    omega (arith, at-test .before .before .before .pre .rises _ (size-node (at-test .before .loop .inv) (at-test .loop-test .taken)))
+    let at-test = turn c in
+    omega (arith, entry at-test .pre .rises _ (size-node (at-test .before .loop .inv) (at-test .loop-test .taken)))
 
 element-copy-out-waits : tie.Need-element-copy-out-waits Inv-loop μ-loop
 element-copy-out-waits c = omega arith
@@ -49,17 +57,17 @@ add-n c = omega arith
 
 mul-size : tie.Need-mul-size Inv-loop μ-loop
 mul-size c =
-    let at-test = c .before .before .before .before in
+    let at-test = turn (c .before .before) in
     omega (
       arith,
-      end-most (at-test .before .before .before .pre) (size-node (at-test .before .loop .inv)
+      end-most (entry at-test .pre) (size-node (at-test .before .loop .inv)
           (at-test .loop-test .taken)),
     )
 
 add-size : tie.Need-add-size Inv-loop μ-loop
 add-size c =
-    let at-test = c .before .before .before .before in
-    let p = at-test .before .before .before .pre in
+    let at-test = turn (c .before .before) in
+    let p = entry at-test .pre in
     let g = at-test .before .loop .inv in
     let l = size-node g (at-test .loop-test .taken) in
     omega (arith, end-most p l, node-low p l)

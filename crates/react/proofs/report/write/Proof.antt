@@ -22,7 +22,8 @@ loop-holds c = search (write-start, needs)
 write-row-requires : tie.Need-write-row-requires Inv-loop μ-loop
 write-row-requires c κs =
     let at-if1 = c .before .before .before in
-    writable (at-if1 .before .before .before .loop .inv) (at-if1 .before .before .loop-test .taken) (at-if1 .if1 .taken)
+    let at-test = at-if1 .before .before in
+    writable (at-test .before .loop .inv) (at-test .loop-test .taken) (at-if1 .if1 .taken)
 
 loop-again : tie.Need-loop-again Inv-loop μ-loop
 loop-again c = search (writes-row, needs)

@@ -5,7 +5,9 @@ use Rattle.react.proofs.report.write_pair.Statement.{statement}
 use Rattle.react.proofs.report.write_pair.Tie as tie
 
 returns : tie.Need-returns
-returns c = appended-more (c .before .before .before .before .before .before .put .ensures) (c .before .before .put2 .ensures)
+returns c =
+    let at-put2 = c .before .before in
+    appended-more (at-put2 .before .before .before .before .put .ensures) (at-put2 .put2 .ensures)
 
 pub write-pair-spec : {M : Type 1} → statement M
 write-pair-spec =

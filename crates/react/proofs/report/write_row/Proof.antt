@@ -1,8 +1,8 @@
 -- `react::report::write_row` meets its contract: the pairs of the arcs before the counter are written.
-use Rattle.scan.proofs.Basics.{_-_, arith}
+use Rattle.scan.proofs.Basics.{_-_, _<_, arith}
 use Rattle.encoding.proofs.Rows.{appended-length}
-use Rattle.react.proofs.ArcRows.{few-nodes, rows, start-most, end-most}
-use Rattle.react.proofs.Reporting.{RowWriting, row-start, row-end, row-shape, row-low, early-fits, late-fits, row-more}
+use Rattle.react.proofs.ArcRows.{few-nodes}
+use Rattle.react.proofs.Reporting.{RowWriting, row-start, row-end, row-shape, row-low, early-fits, late-fits, row-more, row-begins, row-ends}
 use borrow.Author.Needs.{needs}
 use Rattle.react.proofs.report.write_row.Statement.{statement}
 use Rattle.react.proofs.report.write_row.Tie as tie
@@ -15,6 +15,12 @@ Inv-loop net sheet words starts best worst n out₀ at first transitions end nex
 abbrev μ-loop : tie.MeasureT-loop
 μ-loop net sheet words starts best worst n out₀ at first transitions end next₀ i₀ out next i = end - i
 
+abbrev turn : tie.After-leads-to Inv-loop μ-loop → tie.In-loop Inv-loop μ-loop
+turn c = c .before .before
+
+abbrev after-leads-to : tie.After-early Inv-loop μ-loop → tie.After-leads-to Inv-loop μ-loop
+after-leads-to c = c .before .before
+
 add-end : tie.Need-add-end Inv-loop μ-loop
 add-end c = omega (arith, few-nodes)
 
@@ -25,9 +31,7 @@ element-copy-out-end : tie.Need-element-copy-out-end Inv-loop μ-loop
 element-copy-out-end c = omega (arith, few-nodes)
 
 cast-end : tie.Need-cast-end Inv-loop μ-loop
-cast-end c =
-    let p = c .before .before .before .before .before .before .before .pre in
-    omega (arith, end-most (rows (p .mapped)) (p .node))
+cast-end c = omega (arith, row-ends)
 
 mul-i : tie.Need-mul-i Inv-loop μ-loop
 mul-i c = omega (arith, few-nodes)
@@ -36,9 +40,7 @@ element-copy-out-i : tie.Need-element-copy-out-i Inv-loop μ-loop
 element-copy-out-i c = omega (arith, few-nodes)
 
 cast-i : tie.Need-cast-i Inv-loop μ-loop
-cast-i c =
-    let p = c .before .before .before .before .before .before .before .before .pre in
-    omega (arith, start-most (rows (p .mapped)) (p .node))
+cast-i c = omega (arith, row-begins)
 
 loop-holds : tie.Need-loop-holds Inv-loop μ-loop
 loop-holds c = search (row-start, needs)
@@ -47,20 +49,18 @@ duration-requires : tie.Need-duration-requires Inv-loop μ-loop
 duration-requires c κs = (search (row-shape, needs), search (within, needs))
 
 mul-early : tie.Need-mul-early Inv-loop μ-loop
-mul-early c =
-    let at-transition = c .before .before in
-    let leads = c .before .leads-to .ensures in
-    omega (arith, row-low (at-transition .before .before .loop .inv) (at-transition .before .loop-test .taken) (at-transition .transition .ensures) leads)
+mul-early c = let low : c .before .leads-to .result < 128 = search (row-low, needs) in omega arith
 
 element-copy-out-early : tie.Need-element-copy-out-early Inv-loop μ-loop
 element-copy-out-early c = search (row-low, needs)
 
 add-early : tie.Need-add-early Inv-loop μ-loop
 add-early c =
-    let at-leads-to = c .before .before in
+    let at-leads-to = after-leads-to c in
+    let at-test = turn at-leads-to in
     omega (
       arith,
-      early-fits (at-leads-to .before .before .before .loop .inv) (at-leads-to .before .before .loop-test .taken) (at-leads-to .before
+      early-fits (at-test .before .loop .inv) (at-test .loop-test .taken) (at-leads-to .before
           .transition .ensures) (at-leads-to .leads-to .ensures) (c .before .duration .ensures),
     )
 
@@ -68,32 +68,24 @@ duration-requires-2 : tie.Need-duration-requires-2 Inv-loop μ-loop
 duration-requires-2 c κs = (search (row-shape, needs), search (within, needs))
 
 mul-late : tie.Need-mul-late Inv-loop μ-loop
-mul-late c =
-    let at-leads-to = c .before .before .before in
-    omega (
-      arith,
-      row-low (at-leads-to .before .before .before .loop .inv) (at-leads-to .before .before .loop-test .taken)
-          (at-leads-to .before .transition .ensures) (at-leads-to .leads-to .ensures),
-    )
+mul-late c = let low : c .before .before .before .leads-to .result < 128 = search (row-low, needs) in omega arith
 
 element-copy-out-late : tie.Need-element-copy-out-late Inv-loop μ-loop
 element-copy-out-late c = search (row-low, needs)
 
 add-late : tie.Need-add-late Inv-loop μ-loop
 add-late c =
-    let at-leads-to = c .before .before .before .before in
+    let at-leads-to = after-leads-to (c .before .before) in
+    let at-test = turn at-leads-to in
     omega (
       arith,
-      late-fits (at-leads-to .before .before .before .loop .inv)
-          (at-leads-to .before .before .loop-test .taken) (at-leads-to .before .transition .ensures)
+      late-fits (at-test .before .loop .inv)
+          (at-test .loop-test .taken) (at-leads-to .before .transition .ensures)
           (at-leads-to .leads-to .ensures) (c .before .duration2 .ensures),
     )
 
 add-i : tie.Need-add-i Inv-loop μ-loop
-add-i c =
-    let at-test = c .before .before .before .before .before .before .before .before .before .before in
-    let p = at-test .before .before .before .before .before .before .before .before .before .before .pre in
-    omega (arith, end-most (rows (p .mapped)) (p .node))
+add-i c = omega (arith, row-ends)
 
 loop-less : tie.Need-loop-less Inv-loop μ-loop
 loop-less c = omega arith

@@ -7,7 +7,9 @@ use Rattle.react.proofs.rows.leads_to.Statement.{statement}
 use Rattle.react.proofs.rows.leads_to.Tie as tie
 
 cast-result-2 : tie.Need-cast-result-2
-cast-result-2 c = omega (arith, c .shared-slice-known2 .given (2 + getD (c .before .before .args .sheet .now) 1 0 + c .before .before .args .i))
+cast-result-2 c =
+    let start = c .before .before in
+    omega (arith, c .shared-slice-known2 .given (2 + getD (start .args .sheet .now) 1 0 + start .args .i))
 
 returns : tie.Need-returns
 unfolding entryValue valueAt

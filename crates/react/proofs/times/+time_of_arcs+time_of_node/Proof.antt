@@ -22,7 +22,7 @@ use Rattle.react.proofs.durations.duration.Reads as duration-reads
 use Rattle.react.proofs.times.pick.Reads as pick-reads
 use Rattle.react.proofs.times.+time_of_arcs+time_of_node.{statement}
 use Rattle.react.proofs.times.+time_of_arcs+time_of_node.Tie.{close}
-use Rattle.react.proofs.RowWalks.{entry-there, first-low, within}
+use Rattle.react.proofs.RowWalks.{walks-end, entry-there, first-low, within}
 
 abbrev μ-time-of-arcs : Measures 6 time-of-arcs-kinds.ps ℕ
 μ-time-of-arcs κs a = 2 * unvisited (a .1 .1 .1 .1 .1 .1 .0 .now) + 1
@@ -61,6 +61,10 @@ time-of-arcs-Inv-loop net sheet words starts awaits latest memo₀ n first trans
 abbrev time-of-arcs-μ-loop : time-of-arcs-lts.MeasureT-loop
 time-of-arcs-μ-loop net sheet words starts awaits latest memo₀ n first transitions end time₀ i₀ memo time i = end - i
 
+abbrev node-entry : (t : ℕ) → time-of-node-lts.After-kept (time-of-arcs-below t, time-of-arcs.Post) (time-of-node-at t) time-of-node.Post
+    → time-of-node-lts.Start (time-of-arcs-below t, time-of-arcs.Post) (time-of-node-at t) time-of-node.Post
+node-entry t c = c .before .before .before .before .before .before
+
 pub +time-of-arcs+time-of-node-spec : {M : Type 1} → statement M
 +time-of-arcs+time-of-node-spec =
     close μ-time-of-arcs μ-time-of-node (λ t. time-of-arcs-lts.spec (
@@ -85,14 +89,9 @@ pub +time-of-arcs+time-of-node-spec : {M : Type 1} → statement M
     (λ c κs. search needs) (λ c κs. search needs) (λ c. search
     needs)
     (λ c. omega (arith, few)) (λ c. omega (arith, few)) (λ c. omega (arith, few))
-    (λ c. let p = c .before .before .before .before .before .before .pre in omega (
-      arith,
-      end-most (rows (p .1 .0 .judged .mapped)) (p
-          .1 .1 .node),
-    )) (λ c κs. search needs)
+    (λ c. let p = c .before .before .before .before .before .before .pre in omega (arith, end-most (rows (p .1 .0 .judged .mapped)) (p .1 .1 .node))) (λ c κs. search needs)
     (λ c. omega (arith, few)) (λ c. omega (arith, few))
-    (λ c. let p =
-    c .before .before .before .before .before .before .before .before .pre in omega (arith, start-most (rows (p .1 .0 .judged .mapped)) (p .1 .1 .node)))
+    (λ c. let p = c .before .before .before .before .before .before .before .before .pre in omega (arith, start-most (rows (p .1 .0 .judged .mapped)) (p .1 .1 .node)))
     (λ c. search (goes-start, needs))
     (λ c κs. let g = c .before .loop .inv in let k = c .loop-test .taken in (
       entry-there (g .walks) k,
@@ -100,37 +99,30 @@ pub +time-of-arcs+time-of-node-spec : {M : Type 1} → statement M
     ))
     (λ c κs. search (entry-there, needs))
     (λ c κs. let at-loop = c .before .before .before .before in let g = at-loop .loop .inv in
-    let h : 2 * unvisited (at-loop .loop .memo) < t = omega (arith, goes-fewer g) in (
+    let h : 2 * unvisited (at-loop .loop .memo) < t = omega (arith, goes-fewer g) in
+    let at-leads-to = c .before in let at-transition = at-leads-to .before in let at-test = at-transition .before in (
       h,
-      (
-        g .ready,
-        enters g
-            (c .before .before .before .loop-test .taken) (c .before .before .transition .ensures) (c .before .leads-to .ensures),
-      ),
+      (g .ready, enters g (at-test .loop-test .taken) (at-transition .transition .ensures) (at-leads-to .leads-to .ensures)),
     ))
     (λ c κs. (search (shape, needs), search (within, needs)))
-    (λ c. let at-leads-to = c .before .before .before in omega (
+    (λ c. let at-leads-to = c .before .before .before in let at-transition = at-leads-to .before in let at-test = at-transition .before in omega (
       arith,
-      sum-fits (at-leads-to .before .before .before .loop .inv) (at-leads-to .before .before .loop-test .taken) (at-leads-to .before .transition .ensures)
+      sum-fits (at-test .before .loop .inv) (at-test .loop-test .taken) (at-transition .transition .ensures)
           (at-leads-to .leads-to .ensures) (c .before .time-of-node .ensures) (c .duration .ensures),
-    )) (λ c κs. search needs) (λ c. let p =
-    c .before .before .before .before .before .before .before .before .before .before .before .before .before .before .before .before .pre in
-    omega (arith, end-most (rows (p .1 .0 .judged .mapped)) (p .1 .1 .node))) (λ c. omega arith)
+    )) (λ c κs. search needs) (λ c. omega (arith, walks-end)) (λ c. omega arith)
     (λ c. search (goes-arc, needs))
     (λ c. search (goes-end, needs))) λ t. time-of-node-lts.spec (time-of-arcs-below t, time-of-arcs.Post) (time-of-node-at t) time-of-node.Post (λ c. omega (arith, few))
     (λ c. search (worked-await, needs))
-    (λ c. omega (arith, few)) (λ c. omega (arith, few)) (λ c. let p = c .before .before .before .before .before .before .before .pre
-    in omega (arith, kept-value (p .1 .0) (p .1 .1) (c .if2 .taken)))
+    (λ c. omega (arith, few)) (λ c. omega (arith, few)) (λ c. let p = node-entry t (c .before) .pre in omega (arith, kept-value (p .1 .0) (p .1 .1) (c .if2 .taken)))
     (λ c. search (worked-kept, needs))
     (λ c. omega (arith, few)) (λ c. omega (arith, few))
-    (λ c κs. let start = c .before .before .before .before .before .before .before .before in let p = start .pre .1 in let z = c .before .if2 .left in
+    (λ c κs. let at-if2 = c .before in let start = node-entry t (at-if2 .before) in let p = start .pre .1 in let z = at-if2 .if2 .left in
     let h : 2 * unvisited (set (start .args .memo .now) (start .args .n) 1) + 1 < t = omega (arith, begin-falls (p .0) (p .1) (omega (arith, z))) in (
       h,
       (
         p .0,
         begins (p .0) (p .1) (omega (arith, z)) (omega arith),
       ),
-    )) (λ c. let p =
-    c .before .before .before .before .before .before .before .before .before .pre in omega (arith, worked-fits (p .1 .0) (c .time-of-arcs .ensures) (p .1 .1 .node))) (λ c.
-    omega (arith, few)) (λ c. omega (arith, few))
+    )) (λ c. let p = node-entry t (c .before .before .before) .pre in omega (arith, worked-fits (p .1 .0) (c .time-of-arcs .ensures) (p .1 .1 .node)))
+    (λ c. omega (arith, few)) (λ c. omega (arith, few))
     (λ c. search (closes, needs))

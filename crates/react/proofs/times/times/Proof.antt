@@ -25,5 +25,5 @@ times-spec =
     tie.close
     (tie.spec Inv-loop μ-loop (λ c. omega (arith, readable (c .before .before .before .before .pre .judged .mapped) .sizes .long))
     (λ c. omega (arith, few-nodes)) (λ c. search (filling-start, needs)) (λ c κs. search (fill-enters, needs))
-    (λ c. omega (arith, fill-low (c .before .before .before .loop .inv) (c .before .before .loop-test .taken))) (λ c. search (fill-low, needs))
-    (λ c. omega (arith, fill-low (c .before .before .before .loop .inv) (c .before .before .loop-test .taken))) (λ c. omega arith) loop-again returns)
+    (λ c. let at-test = c .before .before in omega (arith, fill-low (at-test .before .loop .inv) (at-test .loop-test .taken))) (λ c. search (fill-low, needs))
+    (λ c. let at-test = c .before .before in omega (arith, fill-low (at-test .before .loop .inv) (at-test .loop-test .taken))) (λ c. omega arith) loop-again returns)
