@@ -9,25 +9,27 @@ use Rattle.replay.proofs.checked.Statement.{statement}
 use Rattle.replay.proofs.checked.Tie as tie
 
 returns : tie.Need-returns
-returns c = sheet-refused _ _ _ (c .before .before .verdict .ensures) (c .enum-told .given .1)
+returns c = search (sheet-refused, needs)
 
 returns-2 : tie.Need-returns-2
 returns-2 c =
-    log-refused _ _ _ (sym (c .before .before .before .before .before .verdict .ensures) ∙ c .before .before .before .enum-told2 .given .1)
+    let at-enum-told2 : tie.After-enum-told2 = search in
+    log-refused _ _ _ (sym (at-enum-told2 .before .before .verdict .ensures) ∙ at-enum-told2 .enum-told2 .given .1)
     (c .before .before .log-fault .ensures) (c .enum-told3 .given .1)
 
 followed-requires : tie.Need-followed-requires
 followed-requires c κs =
-    let f = c .before .before in (
-      accepted-readable _ _ (sym (f .before .before .before .verdict .ensures) ∙ f .before .enum-told2 .given .1) .arcs,
-      log-holds _ (answer-none _ (sym (f .log-fault .ensures) ∙ c .enum-told4 .given .1)),
+    let at-enum-told2 : tie.After-enum-told2 = search in (
+      accepted-readable _ _ (sym (at-enum-told2 .before .before .verdict .ensures) ∙ at-enum-told2 .enum-told2 .given .1) .arcs,
+      log-holds _ (answer-none _ (sym (c .before .before .log-fault .ensures) ∙ c .enum-told4 .given .1)),
     )
 
 returns-3 : tie.Need-returns-3
 returns-3 c =
-    let f = c .before .before .before in
-    firings-judged _ _ _ (sym (f .before .before .before .verdict .ensures) ∙ f .before .enum-told2 .given .1)
-    (answer-none _ (sym (f .log-fault .ensures) ∙ c .before .enum-told4 .given .1)) (c .followed .ensures)
+    let at-log-fault : tie.After-log-fault = search in
+    let at-verdict : tie.After-verdict = search in
+    firings-judged _ _ _ (sym (at-verdict .verdict .ensures) ∙ at-log-fault .before .enum-told2 .given .1)
+    (answer-none _ (sym (at-log-fault .log-fault .ensures) ∙ c .before .enum-told4 .given .1)) (c .followed .ensures)
 
 pub checked-spec : {M : Type 1} → statement M
 checked-spec =

@@ -6,12 +6,15 @@ use Rattle.replay.proofs.replay_within.Statement.{statement}
 use Rattle.replay.proofs.replay_within.Tie as tie
 
 returns : tie.Need-returns
-returns c = refused-scratch (sym (c .before .before .before .scratch-fault .ensures) ∙ c .before .found .given .1) refl
+returns c =
+    let at-scratch-fault : tie.After-scratch-fault = search in
+    refused-scratch (sym (at-scratch-fault .scratch-fault .ensures) ∙ c .before .found .given .1) refl
 
 returns-2 : tie.Need-returns-2
 returns-2 c =
-    let b = c .before .before .before .before .before .before .before .before .before .before .before in
-    served (sym (b .before .before .scratch-fault .ensures) ∙ b .enum-told .given .1) (c .before .before .before .before .before .before .before .before .replay-into .ensures)
+    let at-replay-into : tie.After-replay-into = search in
+    let at-enum-told : tie.After-enum-told = search in
+    served (sym (at-enum-told .before .before .scratch-fault .ensures) ∙ at-enum-told .enum-told .given .1) (at-replay-into .replay-into .ensures)
     (c .before .before .clear-front .ensures)
 
 pub replay-within-spec : {M : Type 1} → statement M

@@ -20,56 +20,49 @@ unfolding firingCount
 cast-n c = omega arith
 
 loop-holds : tie.Need-loop-holds Inv-loop μ-loop
-loop-holds c =
-    let k = c .before .before in
-    let (r, h) = k .before .before .before .before .before .before .pre in (
-      sets-out r h,
-      record { readable = r; keys-are = k .first-keys .ensures; starts-are = c .arc-starts .ensures; all = k .before .transitions .ensures; at-node = r .sizes .some-node },
-      unranked,
-    )
+loop-holds c = search (sets-out, unranked, needs)
 
 arc-requires : tie.Need-arc-requires Inv-loop μ-loop
-arc-requires c κs = let (a, w, k) = c .before .before .before .before .before .before .loop .inv in (w, k)
+arc-requires c κs = search needs
 
 returns : tie.Need-returns Inv-loop μ-loop
 returns c =
-    let d = c .before .before .before in
-    let l = d .before .before .before .before .before .before in
-    not-offered (l .before .loop .inv .0) (l .loop-test .taken) (sym (d .arc .ensures .0) ∙ c .before .enum-told .given .1) (c .refuse .ensures)
+    let at-arc : tie.After-arc Inv-loop μ-loop = search in
+    let in-loop : tie.In-loop Inv-loop μ-loop = search in
+    not-offered (in-loop .before .loop .inv .0) (in-loop .loop-test .taken) (sym (at-arc .arc .ensures .0) ∙ c .before .enum-told .given .1) (c .refuse .ensures)
 
 arc-target-requires : tie.Need-arc-target-requires Inv-loop μ-loop
 arc-target-requires c κs =
-    let d = c .before .before .before in
-    entry-there (d .before .before .before .before .before .before .before .loop .inv .1) _ (sym (d .arc .ensures .0) ∙ c .before .e .given .1)
+    let at-arc : tie.After-arc Inv-loop μ-loop = search in
+    let at-loop : tie.At-loop Inv-loop μ-loop = search in
+    entry-there (at-loop .loop .inv .1) _ (sym (at-arc .arc .ensures .0) ∙ c .before .e .given .1)
 
 returns-2 : tie.Need-returns-2 Inv-loop μ-loop
 returns-2 c =
-    let v = c .before .before in
-    let d = v .before .before .before .before in
-    let l = d .before .before .before .before .before .before in
-    other-node (l .before .loop .inv .0) (l .loop-test .taken) (sym (d .arc .ensures .0) ∙ v .before .before .e .given .1) (v .arc-target .ensures)
+    let at-e : tie.After-e Inv-loop μ-loop = search in
+    let in-loop : tie.In-loop Inv-loop μ-loop = search in
+    other-node (in-loop .before .loop .inv .0) (in-loop .loop-test .taken) (sym (at-e .before .before .arc .ensures .0) ∙ at-e .e .given .1) (c .before .before .arc-target .ensures)
     (c .before .if1 .taken) (c .refuse2 .ensures)
 
 cast-entry : tie.Need-cast-t31 Inv-loop μ-loop
 cast-entry c =
-    let v = c .before in
-    let d = v .before .before .before .before in
-    let l = d .before .before .before .before .before .before in
-    let k = fits (l .before .loop .inv .0) (l .loop-test .taken) (sym (d .arc .ensures .0) ∙ v .before .before .e .given .1) (v .arc-target .ensures) in
+    let at-e : tie.After-e Inv-loop μ-loop = search in
+    let in-loop : tie.In-loop Inv-loop μ-loop = search in
+    let k = fits (in-loop .before .loop .inv .0) (in-loop .loop-test .taken) (sym (at-e .before .before .arc .ensures .0) ∙ at-e .e .given .1) (c .before .arc-target .ensures) in
     omega arith
 
 loop-again : tie.Need-loop-again Inv-loop μ-loop
 loop-again c =
-    let v = c .before in
-    let d = v .before .before .before .before in
-    let l = d .before .before .before .before .before .before in
-    let (a, w, k) = l .before .loop .inv in
-    let h = sym (d .arc .ensures .0) ∙ v .before .before .e .given .1 in
-    let m = c .if1 .left ∙ v .arc-target .ensures in
-    (goes-on a (l .loop-test .taken) h m refl, looks-on w _ h m, d .arc .ensures .1)
+    let at-e : tie.After-e Inv-loop μ-loop = search in
+    let at-arc : tie.After-arc Inv-loop μ-loop = search in
+    let in-loop : tie.In-loop Inv-loop μ-loop = search in
+    let (a, w, k) = in-loop .before .loop .inv in
+    let h = sym (at-arc .arc .ensures .0) ∙ at-e .e .given .1 in
+    let m = c .if1 .left ∙ c .before .arc-target .ensures in
+    (goes-on a (in-loop .loop-test .taken) h m refl, looks-on w _ h m, at-arc .arc .ensures .1)
 
 returns-3 : tie.Need-returns-3 Inv-loop μ-loop
-returns-3 c = arrives (c .before .loop .inv .0) (omega arith)
+returns-3 c = search (arrives, needs)
 
 pub followed-spec : {M : Type 1} → statement M
 followed-spec =

@@ -1,5 +1,5 @@
 -- `replay::look_up::arc_starts` meets its contract: the nodes before the counter have their starts.
-use Rattle.scan.proofs.Basics.{ℕ, _-_, _≤_, _<_, arith, _≡_, refl, _∙_, length, getD, length-set}
+use Rattle.scan.proofs.Basics.{ℕ, _-_, _≤_, _<_, arith, _≡_, _∙_, length, getD, length-set}
 use borrow.Author.Needs.{needs}
 use Rattle.scan.proofs.Tabulate.{stored-more}
 use Rattle.table.specs.Bisection.{lowerBound}
@@ -17,27 +17,33 @@ abbrev μ-loop : tie.MeasureT-loop
 μ-loop net sheet keys nodes entries starts₀ n₀ starts n = nodes - n
 
 shared-slice-read-nodes : tie.Need-shared-slice-read-nodes Inv-loop μ-loop
-shared-slice-read-nodes c = let s = c .before .before .before .pre .0 .sizes in omega arith
+shared-slice-read-nodes c = omega arith
 
 shared-slice-read-entries : tie.Need-shared-slice-read-entries Inv-loop μ-loop
-shared-slice-read-entries c = let s = c .before .before .before .before .pre .0 .sizes in omega arith
+shared-slice-read-entries c = omega arith
 
 loop-holds : tie.Need-loop-holds Inv-loop μ-loop
-loop-holds c = (refl, omega arith, c .before .before .before .before .pre .0 .sizes .few-nodes, λ j l. absurd (omega arith))
+loop-holds c = search needs
 
 cast-lower-bound-2 : tie.Need-cast-lower-bound-2 Inv-loop μ-loop
 cast-lower-bound-2 c =
-    let (r, k) = c .before .before .before .before .before .before .before .pre in
+    let start : tie.Start Inv-loop μ-loop = search in
+    let (r, k) = start .pre in
     omega (arith, first-low r k (c .before .before .loop .n) (omega arith))
 
 cast-starts : tie.Need-cast-starts Inv-loop μ-loop
-cast-starts c = let z = bound-low (c .before .before .before .before .before .before .before .before .pre .0) _ (c .lower-bound .ensures) in omega arith
+cast-starts c =
+    let start : tie.Start Inv-loop μ-loop = search in
+    let z = bound-low (start .pre .0) _ (c .lower-bound .ensures) in
+    omega arith
 
 loop-again : tie.Need-loop-again Inv-loop μ-loop
 loop-again c =
-    let d = c .before .before .before .loop in
+    let at-loop : tie.At-loop Inv-loop μ-loop = search in
+    let start : tie.Start Inv-loop μ-loop = search in
+    let d = at-loop .loop in
     let (a, b, e, f) = d .inv in
-    let (r, k) = c .before .before .before .before .before .before .before .before .pre in
+    let (r, k) = start .pre in
     let l : d .n < length (d .starts) = omega arith in
     (simp length-set a, omega arith, e, stored-more _ (d .starts) _ _ f l (c .lower-bound .ensures ∙ rw (k .key (d .n) (omega arith))))
 

@@ -1,5 +1,5 @@
 -- `replay::look_up::first_keys` meets its contract: the nodes before the counter have their keys.
-use Rattle.scan.proofs.Basics.{ℕ, _-_, _≤_, _<_, arith, _≡_, refl, length, getD, length-set}
+use Rattle.scan.proofs.Basics.{ℕ, _-_, _≤_, _<_, arith, _≡_, length, getD, length-set}
 use borrow.Author.Needs.{needs}
 use Rattle.scan.proofs.Tabulate.{stored-more}
 use Rattle.graph.specs.Rows.{arcsStart}
@@ -16,16 +16,17 @@ shared-slice-read-nodes : tie.Need-shared-slice-read-nodes Inv-loop μ-loop
 shared-slice-read-nodes c = omega arith
 
 loop-holds : tie.Need-loop-holds Inv-loop μ-loop
-loop-holds c = (refl, omega arith, c .before .before .before .pre .sizes .few-nodes, λ j l. absurd (omega arith))
+loop-holds c = search needs
 
 cast-keys : tie.Need-cast-keys Inv-loop μ-loop
 cast-keys c = omega arith
 
 loop-again : tie.Need-loop-again Inv-loop μ-loop
 loop-again c =
-    let (a, b, d, f) = c .before .before .loop .inv in
-    let l : c .before .before .loop .n < length (c .before .before .loop .keys) = omega arith in
-    (simp length-set a, omega arith, d, stored-more _ (c .before .before .loop .keys) _ _ f l (c .arcs-start .ensures .0))
+    let at-loop : tie.At-loop Inv-loop μ-loop = search in
+    let (a, b, d, f) = at-loop .loop .inv in
+    let l : at-loop .loop .n < length (at-loop .loop .keys) = omega arith in
+    (simp length-set a, omega arith, d, stored-more _ (at-loop .loop .keys) _ _ f l (c .arcs-start .ensures .0))
 
 returns : tie.Need-returns Inv-loop μ-loop
 returns c = let (a, b, d, f) = c .before .loop .inv in record { key = λ n l. f n (omega arith) }

@@ -21,13 +21,16 @@ few : (c : tie.After-wide2 Inv-loop μ-loop) → c .before .wide .result * c .wi
 few c = let t : c .before .wide .result ≤ 4096 = omega arith in mul-le-mul t (c .wide2 .ensures .1)
 
 add-next : tie.Need-add-next Inv-loop μ-loop
-add-next c = omega (arith, few c, c .before .before .before .before .pre .1 (c .before .before .before .loop .p) (omega arith))
+add-next c =
+    let at-loop : tie.At-loop Inv-loop μ-loop = search in
+    omega (arith, few c, at-loop .before .pre .1 (at-loop .loop .p) (omega arith))
 
 loop-again : tie.Need-loop-again Inv-loop μ-loop
 unfolding added
 loop-again c =
-    let a = c .before .before .before .before .args in
-    let w = c .before .before .before .loop in (
+    let at-loop : tie.At-loop Inv-loop μ-loop = search in
+    let a = at-loop .before .args in
+    let w = at-loop .loop in (
       omega arith,
       simp length-set (w .inv .1),
       stored-more (added (a .t1) (a .t2) (a .times)) (w .next) (w .p) _ (w .inv .2) (omega arith) (rw (c .before .wide .ensures .0, c .wide2 .ensures .0)),

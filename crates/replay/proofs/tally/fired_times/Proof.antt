@@ -17,13 +17,13 @@ unfolding firingCount
 cast-n c = omega arith
 
 loop-holds : tie.Need-loop-holds Inv-loop μ-loop
-loop-holds c = counts-none (c .before .pre .0) (c .before .pre .1)
+loop-holds c = search (counts-none, needs)
 
 loop-again : tie.Need-loop-again Inv-loop μ-loop
 loop-again c = search (counts-more, needs)
 
 returns : tie.Need-returns Inv-loop μ-loop
-returns c = counts-all (c .before .loop .inv) (omega arith)
+returns c = search (counts-all, needs)
 
 pub fired-times-spec : {M : Type 1} → statement M
 fired-times-spec =

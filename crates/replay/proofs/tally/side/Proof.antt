@@ -6,8 +6,9 @@ use Rattle.replay.proofs.tally.side.Tie as tie
 
 total-requires : tie.Need-total-requires
 total-requires c κs =
-    let s = c .before .before .before .before .before .before .before .before in
-    side-fits (s .args .putting) (s .pre .0) (c .before .before .before .before .before .places .ensures) (c .before .before .before .before .weigh .ensures)
+    let at-weigh : tie.After-weigh = search in
+    let start : tie.Start = search in
+    side-fits (start .args .putting) (start .pre .0) (at-weigh .before .places .ensures) (at-weigh .weigh .ensures)
 
 returns : tie.Need-returns
 returns c = search (side-done, needs)

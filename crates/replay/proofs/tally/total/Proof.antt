@@ -20,9 +20,10 @@ loop-holds c = (omega arith, refl)
 
 add-all : tie.Need-add-all Inv-loop μ-loop
 add-all c =
+    let start : tie.Start Inv-loop μ-loop = search in
     let w = c .before .loop in
-    let most = c .before .before .pre .1 in
-    let s = sum-most (at (c .before .before .args .t1)) 1125899906842624 (w .p) (λ i k. most i (omega arith)) in
+    let most = start .pre .1 in
+    let s = sum-most (at (start .args .t1)) 1125899906842624 (w .p) (λ i k. most i (omega arith)) in
     omega (arith, most (w .p) (omega arith))
 
 loop-again : tie.Need-loop-again Inv-loop μ-loop

@@ -8,17 +8,16 @@ use Rattle.replay.proofs.tally.totals_into.Tie as tie
 
 fired-times-requires : tie.Need-fired-times-requires
 fired-times-requires c κs =
-    let p = c .before .before .before .before .pre .0 in
+    let start : tie.Start = search in
+    let p = start .pre .0 in
     let s = sizes _ (p .accepted) in
     (p .holds, λ i l. omega (arith, p .low i l))
 
 side-requires : tie.Need-side-requires
-side-requires c κs =
-    let (p, r) = c .before .before .before .before .before .before .pre in
-    (weighable p (c .before .fired-times .ensures), r .taken-room)
+side-requires c κs = search (weighable, needs)
 
 side-requires-2 : tie.Need-side-requires-2
-side-requires-2 c κs = let (p, r) = c .before .before .before .before .before .before .before .before .before .before .pre in (search (weighable, needs), r .put-room)
+side-requires-2 c κs = search (weighable, needs)
 
 returns : tie.Need-returns
 returns c = search (both-totals, needs)

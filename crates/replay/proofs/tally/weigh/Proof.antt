@@ -12,16 +12,18 @@ abbrev μ-loop : tie.MeasureT-loop
 μ-loop net putting parikh transitions sums₀ t₀ sums t = transitions - t
 
 loop-holds : tie.Need-loop-holds Inv-loop μ-loop
-loop-holds c = weighs-none (c .before .before .pre) (c .transitions .ensures)
+loop-holds c = search (weighs-none, needs)
 
 add-row-requires : tie.Need-add-row-requires Inv-loop μ-loop
 add-row-requires c κs = weighs-fit (c .before .before .loop .inv) (c .before .loop-test .taken)
 
 loop-again : tie.Need-loop-again Inv-loop μ-loop
-loop-again c = weighs-more (c .before .before .before .loop .inv) (c .before .before .loop-test .taken) (c .before .row-of .ensures) (c .add-row .ensures)
+loop-again c =
+    let at-loop : tie.At-loop Inv-loop μ-loop = search in
+    weighs-more (at-loop .loop .inv) (c .before .before .loop-test .taken) (c .before .row-of .ensures) (c .add-row .ensures)
 
 returns : tie.Need-returns Inv-loop μ-loop
-returns c = weighs-all (c .before .loop .inv) (omega arith)
+returns c = search (weighs-all, needs)
 
 pub weigh-spec : {M : Type 1} → statement M
 weigh-spec =

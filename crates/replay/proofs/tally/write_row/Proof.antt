@@ -17,19 +17,22 @@ loop-holds c = (omega arith, omega arith, search needs, placed-none _ _, refl)
 
 returns : tie.Need-returns Inv-loop μ-loop
 returns c =
-    let e : c .before .before .loop .i ≡ c .before .before .before .args .n = omega arith in
-    rw (← e) (c .before .before .loop .inv .3)
+    let at-loop : tie.At-loop Inv-loop μ-loop = search in
+    let e : at-loop .loop .i ≡ at-loop .before .args .n = omega arith in
+    rw (← e) (at-loop .loop .inv .3)
 
 returns-2 : tie.Need-returns-2 Inv-loop μ-loop
 returns-2 c =
-    let a = c .before .before .before .before .args in
-    let w = c .before .before .before .loop in
+    let at-loop : tie.At-loop Inv-loop μ-loop = search in
+    let a = at-loop .before .args in
+    let w = at-loop .loop in
     w .inv .3 ∙ row-full (a .t1) (a .out .now) (w .i) (a .n) (omega arith) (omega arith) (omega arith)
 
 loop-again : tie.Need-loop-again Inv-loop μ-loop
 loop-again c =
-    let a = c .before .before .before .before .args in
-    let w = c .before .before .before .loop in (
+    let at-loop : tie.At-loop Inv-loop μ-loop = search in
+    let a = at-loop .before .args in
+    let w = at-loop .loop in (
       omega arith,
       omega arith,
       w .inv .2,
