@@ -8,7 +8,9 @@ use Rattle.mend.proofs.mend_into.Statement.{statement}
 use Rattle.mend.proofs.mend_into.Tie as tie
 
 returns : tie.Need-returns
-returns c = refused-words (sym (c .before .before .before .measured .ensures .reply) ∙ c .before .found .given .1) refl
+returns c =
+    let at-measured : tie.After-measured = search in
+    refused-words (sym (at-measured .measured .ensures .reply) ∙ c .before .found .given .1) refl
 
 -- nothing is refused before the buffers are measured
 ready : (c : tie.After-enum-told) → let s = c .before .before .before .before .before .before .before .args in
@@ -22,10 +24,16 @@ returns-3 : tie.Need-returns-3
 returns-3 c = search (list-short, needs)
 
 write-sheet-requires : tie.Need-write-sheet-requires
-write-sheet-requires c κs = let k = ready (c .before .before .before .before .before .before .before .before) in (k .mendable, k .entries-are)
+write-sheet-requires c κs =
+    let measured-told : tie.After-enum-told = search in
+    let k = ready measured-told in
+    (k .mendable, k .entries-are)
 
 write-list-requires : tie.Need-write-list-requires
-write-list-requires c κs = let k = ready (c .before .before .before .before .before .before .before .before .before .before .before .before) in (k .mendable, k .changes-are)
+write-list-requires c κs =
+    let measured-told : tie.After-enum-told = search in
+    let k = ready measured-told in
+    (k .mendable, k .changes-are)
 
 returns-4 : tie.Need-returns-4
 returns-4 c = search (both-written, needs)

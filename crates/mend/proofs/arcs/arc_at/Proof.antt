@@ -6,10 +6,18 @@ use Rattle.mend.proofs.arcs.arc_at.Statement.{statement}
 use Rattle.mend.proofs.arcs.arc_at.Tie as tie
 
 cast-node : tie.Need-cast-t9
-cast-node c = let (r, a) = c .before .before .before .before .before .pre in let k = arc-read r a (c .before .before .transitions .ensures) in omega arith
+cast-node c =
+    let start : tie.Start = search in
+    let (r, a) = start .pre in
+    let k = arc-read r a (c .before .before .transitions .ensures) in
+    omega arith
 
 cast-transition : tie.Need-cast-t10
-cast-transition c = let (r, a) = c .before .before .before .before .before .pre in let k = arc-read r a (c .before .before .transitions .ensures) in omega arith
+cast-transition c =
+    let start : tie.Start = search in
+    let (r, a) = start .pre in
+    let k = arc-read r a (c .before .before .transitions .ensures) in
+    omega arith
 
 returns : tie.Need-returns
 returns c = search (arc-read, needs)

@@ -14,8 +14,9 @@ use Rattle.mend.proofs.measure.measured.Tie as tie
 
 returns : tie.Need-returns
 returns c =
+    let at-checked : tie.After-checked = search in
     let e = c .before .enum-told .given .1 in
-    refused-measured (c .refused .ensures ∙ before-refused _ _ (c .before .before .before .checked .ensures) e) (c .refused .ensures ∙ e)
+    refused-measured (c .refused .ensures ∙ before-refused _ _ (at-checked .checked .ensures) e) (c .refused .ensures ∙ e)
 
 -- what is asked before the counts refuses nothing
 passed : (c : tie.After-enum-told2) → let s = c .before .before .before .before .before .args in arcsVerdict (s .net .now) (s .sheet .now) ≡ Accepted
@@ -25,16 +26,18 @@ search-requires : tie.Need-search-requires
 search-requires c κs = (before-readable _ _ (passed c), before-reached _ _ (passed c))
 
 returns-2 : tie.Need-returns-2
-returns-2 c = place-measured _ _ (passed (c .before .before .before .before)) (c .before .before .all-fit .ensures .wrong (not-true _ (c .before .if1 .taken))) (c .no-counts .ensures)
+returns-2 c =
+    let checked-told : tie.After-enum-told2 = search in
+    place-measured _ _ (passed checked-told) (c .before .before .all-fit .ensures .wrong (not-true _ (c .before .if1 .taken))) (c .no-counts .ensures)
 
 -- every place fits
 mendable : (c : tie.After-arc-count) → let s = c .before .before .before .before .before .before .before .before .before .before .args in
     Mendable (s .net .now) (s .sheet .now) (c .before .before .before .before .search .result .parent)
 mendable c =
-    let fits = c .before .before .before in
-    let F = fits .before .search .ensures in
+    let at-all-fit : tie.After-all-fit = search in
+    let F = at-all-fit .before .search .ensures in
     record {
-      fitting = record { readable = F .readable; fit = fits .all-fit .ensures .right (not-false _ (c .before .before .if1 .left)) };
+      fitting = record { readable = F .readable; fit = at-all-fit .all-fit .ensures .right (not-false _ (c .before .before .if1 .left)) };
       tree = record { order = _; size = _; found = F };
     }
 
@@ -47,12 +50,16 @@ add-entries : tie.Need-add-entries
 add-entries c = omega (arith, are c, entries-most _ _ (mendable (c .before) .fitting .readable))
 
 returns-3 : tie.Need-returns-3
-returns-3 c = entries-measured _ _ (passed (c .before .before .before .before .before .before .before .before)) (omega (arith, are (c .before .before))) (c .no-counts2 .ensures)
+returns-3 c =
+    let checked-told : tie.After-enum-told2 = search in
+    entries-measured _ _ (passed checked-told) (omega (arith, are (c .before .before))) (c .no-counts2 .ensures)
 
 returns-4 : tie.Need-returns-4
 returns-4 c =
-    all-measured _ _ (passed (c .before .before .before .before .before .before .before .before)) (record {
-      mendable = mendable (c .before .before .before);
+    let at-arc-count : tie.After-arc-count = search in
+    let checked-told : tie.After-enum-told2 = search in
+    all-measured _ _ (passed checked-told) (record {
+      mendable = mendable at-arc-count;
       entries-are = are (c .before .before);
       few-entries = omega arith;
       changes-are = c .counted2 .ensures;

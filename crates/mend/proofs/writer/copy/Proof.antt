@@ -26,7 +26,11 @@ same-length : tie.Need-same-length Inv-loop μ-loop
 same-length c = search (appended-length, needs)
 
 returns : tie.Need-returns Inv-loop μ-loop
-returns c = let w = c .before .loop in let e : w .i ≡ c .before .before .before .before .args .n = omega arith in rw e at (w .inv .1)
+returns c =
+    let start : tie.Start Inv-loop μ-loop = search in
+    let w = c .before .loop in
+    let e : w .i ≡ start .args .n = omega arith in
+    rw e at (w .inv .1)
 
 pub copy-spec : {M : Type 1} → statement M
 copy-spec =

@@ -28,8 +28,9 @@ add-entries c = let (w, e) = loop-again c in omega (arith, part-few _ _ _ CountK
 
 returns : tie.Need-returns Inv-loop μ-loop
 returns c =
+    let start : tie.Start Inv-loop μ-loop = search in
     let (w, e) = c .before .loop .inv in
-    let q : c .before .loop .n ≡ nodeCount (c .before .before .before .before .before .before .args .sheet .now) = omega arith in
+    let q : c .before .loop .n ≡ nodeCount (start .args .sheet .now) = omega arith in
     rw q at e
 
 pub counted-spec : {M : Type 1} → statement M

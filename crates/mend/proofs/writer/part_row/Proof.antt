@@ -8,24 +8,32 @@ use Rattle.mend.proofs.writer.part_row.Tie as tie
 
 cast-t13 : tie.Need-cast-t13
 cast-t13 c =
-    let a = c .before .before .before .before .before .before .args in
+    let start : tie.Start = search in
+    let a = start .args in
     omega (arith, counts-start-low (a .net .now) (getD (a .sheet .now) 0 0) (a .n))
 
 changed-cells-requires : tie.Need-changed-cells-requires
-changed-cells-requires c κs = let (f, k) = c .before .before .before .before .before .before .pre in λ p l. rw (k .is-row) (row-few f _ p (k .low) l)
+changed-cells-requires c κs =
+    let start : tie.Start = search in
+    let (f, k) = start .pre in
+    λ p l. rw (k .is-row) (row-few f _ p (k .low) l)
 
 cast-t14 : tie.Need-cast-t14
 cast-t14 c =
-    let a = c .before .before .before .before .before .before .before .args in
+    let start : tie.Start = search in
+    let a = start .args in
     omega (arith, counts-start-low (a .net .now) 0 (a .n))
 
 returns : tie.Need-returns
-returns c = rw (c .before .before .enum-told .given .1, c .counts-start .ensures, c .before .before .before .before .before .before .pre .1 .is-row) refl
+returns c =
+    let start : tie.Start = search in
+    rw (c .before .before .enum-told .given .1, c .counts-start .ensures, start .pre .1 .is-row) refl
 
 returns-2 : tie.Need-returns-2
 returns-2 c =
-    let b = c .before .before .before in
-    rw (b .enum-told2 .given .1, c .before .before .counts-start2 .ensures, c .changed-cells .ensures, c .before .marking .ensures, b .before .before .before .before .pre .1 .is-row) refl
+    let part-told : tie.After-enum-told2 = search in
+    let start : tie.Start = search in
+    rw (part-told .enum-told2 .given .1, c .before .before .counts-start2 .ensures, c .changed-cells .ensures, c .before .marking .ensures, start .pre .1 .is-row) refl
 
 pub part-row-spec : {M : Type 1} → statement M
 part-row-spec =

@@ -13,9 +13,10 @@ copy-requires c κs = omega (arith, arcs-within)
 returns : tie.Need-returns
 unfolding halfOf
 returns c =
-    let b = c .before .before .before .before .before .before in
-    rw (← arc-count-right _ _ (b .before .before .before .before .before .before .pre .0 .fitting .readable), ← b .before .before .arc-count .ensures)
-    (appended-more (b .copy .ensures) (c .before .before .write-part .ensures))
+    let at-copy : tie.After-copy = search in
+    let start : tie.Start = search in
+    rw (← arc-count-right _ _ (start .pre .0 .fitting .readable), ← at-copy .before .before .arc-count .ensures)
+    (appended-more (at-copy .copy .ensures) (c .before .before .write-part .ensures))
 
 pub write-half-spec : {M : Type 1} → statement M
 write-half-spec =

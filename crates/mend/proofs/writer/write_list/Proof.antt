@@ -9,14 +9,19 @@ use Rattle.mend.proofs.writer.write_list.Statement.{statement}
 use Rattle.mend.proofs.writer.write_list.Tie as tie
 
 cast-changes : tie.Need-cast-put
-cast-changes c = let (m, e) = c .before .before .before .pre in omega (arith, e, part-most _ _ (m .fitting .readable) Changes CountKeys)
+cast-changes c =
+    let start : tie.Start = search in
+    let (m, e) = start .pre in
+    omega (arith, e, part-most _ _ (m .fitting .readable) Changes CountKeys)
 
 returns : tie.Need-returns
 returns c =
-    let b = c .before .before .before .before .before .before in
-    let (m, e) = b .before .before .before .before .before .before .before .before .before .pre in
-    let a = rw e at (b .before .before .before .before .put .ensures) in
-    written-from (appended-more (appended-more a (b .write-part .ensures)) (c .before .before .write-part2 .ensures)) (list-words _ _ (m .fitting .readable))
+    let at-write-part : tie.After-write-part = search in
+    let at-put : tie.After-put = search in
+    let start : tie.Start = search in
+    let (m, e) = start .pre in
+    let a = rw e at (at-put .put .ensures) in
+    written-from (appended-more (appended-more a (at-write-part .write-part .ensures)) (c .before .before .write-part2 .ensures)) (list-words _ _ (m .fitting .readable))
 
 pub write-list-spec : {M : Type 1} → statement M
 write-list-spec =

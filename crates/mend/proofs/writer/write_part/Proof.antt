@@ -28,8 +28,9 @@ same-length c = search (appended-length, needs)
 
 returns : tie.Need-returns Inv-loop μ-loop
 returns c =
+    let start : tie.Start Inv-loop μ-loop = search in
     let (w, a) = c .before .loop .inv in
-    let e : c .before .loop .n ≡ nodeCount (c .before .before .before .before .before .before .before .args .sheet .now) = omega arith in
+    let e : c .before .loop .n ≡ nodeCount (start .args .sheet .now) = omega arith in
     rw e at a
 
 pub write-part-spec : {M : Type 1} → statement M

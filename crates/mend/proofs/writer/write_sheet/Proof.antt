@@ -7,16 +7,17 @@ use Rattle.mend.proofs.writer.write_sheet.Statement.{statement}
 use Rattle.mend.proofs.writer.write_sheet.Tie as tie
 
 cast-entries : tie.Need-cast-put
-cast-entries c = let (m, e) = c .before .before .before .before .before .before .before .before .before .pre in omega (arith, e, entries-most _ _ (m .fitting .readable))
+cast-entries c = omega (arith, entries-most)
 
 returns : tie.Need-returns
 returns c =
-    let keys = c .before .before .before .before .before .before in
-    let sizes = keys .before .before .before .before in
-    let first = sizes .before .before .before .before in
-    let (m, e) = first .before .before .before .before .before .before .before .pre in
-    let a = rw e at (sizes .put2 .ensures) in
-    written-from (appended-more (appended-more (appended-more (first .put .ensures) a) (keys .write-half .ensures)) (c .before .before .write-half2 .ensures))
+    let at-write-half : tie.After-write-half = search in
+    let at-put2 : tie.After-put2 = search in
+    let at-put : tie.After-put = search in
+    let start : tie.Start = search in
+    let (m, e) = start .pre in
+    let a = rw e at (at-put2 .put2 .ensures) in
+    written-from (appended-more (appended-more (appended-more (at-put .put .ensures) a) (at-write-half .write-half .ensures)) (c .before .before .write-half2 .ensures))
     (sheet-words _ _ (m .fitting .readable))
 
 pub write-sheet-spec : {M : Type 1} → statement M
