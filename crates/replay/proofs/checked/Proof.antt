@@ -13,14 +13,14 @@ returns c = search (sheet-refused, needs)
 
 returns-2 : tie.Need-returns-2
 returns-2 c =
-    let at-enum-told2 : tie.After-enum-told2 = search in
-    log-refused _ _ _ (sym (at-enum-told2 .before .before .verdict .ensures) ∙ at-enum-told2 .enum-told2 .given .1)
+    let verdict-told : tie.After-enum-told2 = search in
+    log-refused _ _ _ (sym (verdict-told .before .before .verdict .ensures) ∙ verdict-told .enum-told2 .given .1)
     (c .before .before .log-fault .ensures) (c .enum-told3 .given .1)
 
 followed-requires : tie.Need-followed-requires
 followed-requires c κs =
-    let at-enum-told2 : tie.After-enum-told2 = search in (
-      accepted-readable _ _ (sym (at-enum-told2 .before .before .verdict .ensures) ∙ at-enum-told2 .enum-told2 .given .1) .arcs,
+    let verdict-told : tie.After-enum-told2 = search in (
+      accepted-readable _ _ (sym (verdict-told .before .before .verdict .ensures) ∙ verdict-told .enum-told2 .given .1) .arcs,
       log-holds _ (answer-none _ (sym (c .before .before .log-fault .ensures) ∙ c .enum-told4 .given .1)),
     )
 

@@ -41,14 +41,14 @@ totals-into-requires c κs =
 returns-4 : tie.Need-returns-4
 returns-4 c =
     let at-totals-into : tie.After-totals-into = search in
-    let at-enum-told3 : tie.After-enum-told3 = search in
-    let at-enum-told2 : tie.After-enum-told2 = search in
+    let output-fault2-told : tie.After-enum-told3 = search in
+    let output-fault-told : tie.After-enum-told2 = search in
     let at-places : tie.After-places = search in
     let at-checked : tie.After-checked = search in
     let e = at-places .before .enum-told .given .1 in
     all-written _ _ _ _ _ (sym (at-checked .checked .ensures .reply) ∙ e) (at-places .places .ensures) (at-checked .checked .ensures .entry e)
-    (at-enum-told2 .before .before .output-fault .ensures) (at-enum-told2 .enum-told2 .given .1)
-    (at-enum-told3 .before .before .output-fault2 .ensures) (at-enum-told3 .enum-told3 .given .1) (at-totals-into .totals-into .ensures)
+    (output-fault-told .before .before .output-fault .ensures) (output-fault-told .enum-told2 .given .1)
+    (output-fault2-told .before .before .output-fault2 .ensures) (output-fault2-told .enum-told3 .given .1) (at-totals-into .totals-into .ensures)
 
 pub replay-into-spec : {M : Type 1} → statement M
 replay-into-spec =

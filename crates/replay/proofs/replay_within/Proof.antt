@@ -13,8 +13,8 @@ returns c =
 returns-2 : tie.Need-returns-2
 returns-2 c =
     let at-replay-into : tie.After-replay-into = search in
-    let at-enum-told : tie.After-enum-told = search in
-    served (sym (at-enum-told .before .before .scratch-fault .ensures) ∙ at-enum-told .enum-told .given .1) (at-replay-into .replay-into .ensures)
+    let scratch-fault-told : tie.After-enum-told = search in
+    served (sym (scratch-fault-told .before .before .scratch-fault .ensures) ∙ scratch-fault-told .enum-told .given .1) (at-replay-into .replay-into .ensures)
     (c .before .before .clear-front .ensures)
 
 pub replay-within-spec : {M : Type 1} → statement M

@@ -39,25 +39,25 @@ arc-target-requires c κs =
 
 returns-2 : tie.Need-returns-2 Inv-loop μ-loop
 returns-2 c =
-    let at-e : tie.After-e Inv-loop μ-loop = search in
+    let arc-told : tie.After-e Inv-loop μ-loop = search in
     let in-loop : tie.In-loop Inv-loop μ-loop = search in
-    other-node (in-loop .before .loop .inv .0) (in-loop .loop-test .taken) (sym (at-e .before .before .arc .ensures .0) ∙ at-e .e .given .1) (c .before .before .arc-target .ensures)
+    other-node (in-loop .before .loop .inv .0) (in-loop .loop-test .taken) (sym (arc-told .before .before .arc .ensures .0) ∙ arc-told .e .given .1) (c .before .before .arc-target .ensures)
     (c .before .if1 .taken) (c .refuse2 .ensures)
 
 cast-entry : tie.Need-cast-t31 Inv-loop μ-loop
 cast-entry c =
-    let at-e : tie.After-e Inv-loop μ-loop = search in
+    let arc-told : tie.After-e Inv-loop μ-loop = search in
     let in-loop : tie.In-loop Inv-loop μ-loop = search in
-    let k = fits (in-loop .before .loop .inv .0) (in-loop .loop-test .taken) (sym (at-e .before .before .arc .ensures .0) ∙ at-e .e .given .1) (c .before .arc-target .ensures) in
+    let k = fits (in-loop .before .loop .inv .0) (in-loop .loop-test .taken) (sym (arc-told .before .before .arc .ensures .0) ∙ arc-told .e .given .1) (c .before .arc-target .ensures) in
     omega arith
 
 loop-again : tie.Need-loop-again Inv-loop μ-loop
 loop-again c =
-    let at-e : tie.After-e Inv-loop μ-loop = search in
+    let arc-told : tie.After-e Inv-loop μ-loop = search in
     let at-arc : tie.After-arc Inv-loop μ-loop = search in
     let in-loop : tie.In-loop Inv-loop μ-loop = search in
     let (a, w, k) = in-loop .before .loop .inv in
-    let h = sym (at-arc .arc .ensures .0) ∙ at-e .e .given .1 in
+    let h = sym (at-arc .arc .ensures .0) ∙ arc-told .e .given .1 in
     let m = c .if1 .left ∙ c .before .arc-target .ensures in
     (goes-on a (in-loop .loop-test .taken) h m refl, looks-on w _ h m, at-arc .arc .ensures .1)
 
