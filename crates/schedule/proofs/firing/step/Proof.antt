@@ -16,22 +16,28 @@ returns c = search (walker-refused, needs)
 
 cast-entry : tie.Need-cast-t17
 cast-entry c =
-    let a = c .before .before .before .before .before .before .before .before .before .before .before .pre in
+    let arc-told : tie.After-i = search in
+    let start : tie.Start = search in
+    let a = start .pre in
     let r = accepted-readable _ _ a .arcs in
-    omega (arith, entry-fits _ _ _ _ (r .holds) _ (arc-found _ _ r _ _ _ (sym (c .before .before .before .before .before .arc .ensures) ∙ c .before .before .before .i .given .1)))
+    omega (arith, entry-fits _ _ _ _ (r .holds) _ (arc-found _ _ r _ _ _ (sym (arc-told .before .before .arc .ensures) ∙ arc-told .i .given .1)))
 
 returns-2 : tie.Need-returns-2
 returns-2 c =
-    let a = c .before .before .before .before .before .before .before .before .pre in
-    let f = answer-none _ (sym (c .before .before .before .before .before .walker-fault .ensures) ∙ c .before .before .before .enum-told .given .1) in
+    let walker-fault-told : tie.After-enum-told = search in
+    let start : tie.Start = search in
+    let a = start .pre in
+    let f = answer-none _ (sym (walker-fault-told .before .before .walker-fault .ensures) ∙ walker-fault-told .enum-told .given .1) in
     not-offered _ _ _ _ a f (arc-missing _ _ (accepted-readable _ _ a .arcs) _ _ (sym (c .before .before .arc .ensures) ∙ c .enum-told2 .given .1))
 
 returns-3 : tie.Need-returns-3
 returns-3 c =
-    let at-arc = c .before .before .before .before .before in
-    let a = at-arc .before .before .before .before .before .before .pre in
-    let f = answer-none _ (sym (at-arc .before .before .before .walker-fault .ensures) ∙ at-arc .before .enum-told .given .1) in
-    let e = arc-found _ _ (accepted-readable _ _ a .arcs) _ _ _ (sym (at-arc .arc .ensures) ∙ c .before .before .before .i .given .1) in
+    let arc-told : tie.After-i = search in
+    let walker-fault-told : tie.After-enum-told = search in
+    let start : tie.Start = search in
+    let a = start .pre in
+    let f = answer-none _ (sym (walker-fault-told .before .before .walker-fault .ensures) ∙ walker-fault-told .enum-told .given .1) in
+    let e = arc-found _ _ (accepted-readable _ _ a .arcs) _ _ _ (sym (arc-told .before .before .arc .ensures) ∙ arc-told .i .given .1) in
     follows-on _ _ _ _ a f _ _ _ e (c .before .value .ensures) (c .marking .ensures)
 
 pub step-spec : {M : Type 1} → statement M

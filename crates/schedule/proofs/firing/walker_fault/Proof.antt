@@ -19,15 +19,15 @@ abbrev μ-loop : tie.MeasureT-loop
 μ-loop net sheet n counts held p₀ p = 32 - p
 
 returns : tie.Need-returns Inv-loop μ-loop
-returns c = (c .refuse .ensures) ∙ ap verdictOf (sym (no-such-node _ _ _ (c .before .if1 .taken)))
+returns c = search (no-such-node, needs)
 
 loop-holds : tie.Need-loop-holds Inv-loop μ-loop
 loop-holds c = (omega arith, first-none _)
 
 returns-2 : tie.Need-returns-2 Inv-loop μ-loop
 returns-2 c =
-    let at-loop = c .before .before .before in
-    let start = at-loop .before .before .before .before .before .before .before in
+    let at-loop : tie.At-loop Inv-loop μ-loop = search in
+    let start : tie.Start Inv-loop μ-loop = search in
     let l : at-loop .loop .p < 32 = omega arith in
     let n = at-loop .before .before .if1 .left in
     let h = held-at _ _ (start .pre) _ n _ (at-loop .before .marking .ensures) _ l in
@@ -36,16 +36,19 @@ returns-2 c =
 
 loop-again : tie.Need-loop-again Inv-loop μ-loop
 loop-again c =
-    let at-loop = c .before .before in
+    let at-loop : tie.At-loop Inv-loop μ-loop = search in
+    let start : tie.Start Inv-loop μ-loop = search in
     let l : at-loop .loop .p < 32 = omega arith in
-    let h = held-at _ _ (at-loop .before .before .before .before .before .before .before .pre) _ (at-loop .before .before .if1 .left)
+    let h = held-at _ _ (start .pre) _ (at-loop .before .before .if1 .left)
     _ (at-loop .before .marking .ensures) _ l in
     (omega arith, first-more _ _ (at-loop .loop .inv .1) (count-right _ _ _ _ (c .if2 .left ∙ h)))
 
 returns-3 : tie.Need-returns-3 Inv-loop μ-loop
 returns-3 c =
+    let at-if1 : tie.Else1 Inv-loop μ-loop = search in
+    let start : tie.Start Inv-loop μ-loop = search in
     let e : (c .before .loop .p) ≡ 32 = omega arith in
-    ap verdictOf (sym (walker-right _ _ (c .before .before .before .before .before .before .before .before .args .walker) (c .before .before .before .if1 .left) (rw e at (c .before .loop .inv .1))))
+    ap verdictOf (sym (walker-right _ _ (start .args .walker) (at-if1 .if1 .left) (rw e at (c .before .loop .inv .1))))
 
 pub walker-fault-spec : {M : Type 1} → statement M
 walker-fault-spec =
