@@ -10,9 +10,10 @@ returns c = refused-scratch (sym (search needs) ∙ c .before .found .given .1) 
 
 returns-2 : tie.Need-returns-2
 returns-2 c =
-    let at-trim-into = c .before .before .before .before .before .before .before .before in
+    let at-trim-into : tie.After-trim-into = search in
+    let scratch-fault-told : tie.After-enum-told = search in
     served (sym (search needs)
-    ∙ at-trim-into .before .before .before .enum-told .given .1) (at-trim-into .trim-into .ensures) (c .before .before .clear-front .ensures)
+    ∙ scratch-fault-told .enum-told .given .1) (at-trim-into .trim-into .ensures) (c .before .before .clear-front .ensures)
 
 pub trim-spec : {M : Type 1} → statement M
 trim-spec =

@@ -13,7 +13,9 @@ kept-requires : tie.Need-kept-requires
 kept-requires c κs = reply-readable _ _ (sym (search needs) ∙ c .enum-told .given .1)
 
 write-requires : tie.Need-write-requires
-write-requires c κs = let d = c .before .before in (sym (search needs) ∙ d .before .enum-told .given .1, d .kept .ensures)
+write-requires c κs =
+    let check-told : tie.After-enum-told = search in
+    (sym (search needs) ∙ check-told .enum-told .given .1, c .before .before .kept .ensures)
 
 pub trim-into-spec : {M : Type 1} → statement M
 trim-into-spec = tie.close (tie.spec (λ c κs. search needs) (λ c. search needs) returns (λ c. search needs) kept-requires write-requires (λ c. search needs) (λ c. search needs) (λ c. search needs))

@@ -21,17 +21,13 @@ loop-holds : tie.Need-loop-holds Inv-loop μ-loop
 loop-holds c = (search needs, refl, omega arith, omega arith, count-none _)
 
 cell-of-requires : tie.Need-cell-of-requires Inv-loop μ-loop
-cell-of-requires c κs = let (h, a, l, m, e) = c .before .loop .inv in (h, omega arith)
+cell-of-requires c κs = search needs
 
 loop-again : tie.Need-loop-again Inv-loop μ-loop
-loop-again c =
-    let (h, a, l, m, e) = c .before .before .before .loop .inv in
-    (h, a, omega arith, omega arith, count-hit _ _ e (search (entry-kept, needs)))
+loop-again c = search (count-hit, entry-kept, needs)
 
 loop-again-2 : tie.Need-loop-again-2 Inv-loop μ-loop
-loop-again-2 c =
-    let (h, a, l, m, e) = c .before .before .before .loop .inv in
-    (h, a, omega arith, omega arith, count-miss _ _ e (search (entry-dropped, needs)))
+loop-again-2 c = search (count-miss, entry-dropped, needs)
 
 returns : tie.Need-returns Inv-loop μ-loop
 returns c = let (h, a, l, m, e) = c .before .loop .inv in counted (h .readable) _ (omega arith) e

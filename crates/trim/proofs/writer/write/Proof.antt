@@ -6,7 +6,7 @@ use Rattle.trim.proofs.writer.write.Tie as tie
 
 -- what is known before anything is written: what is asked for, and the entries
 entry-count-requires : tie.Need-entry-count-requires
-entry-count-requires c κs = c .before .before .before .before .before .before .pre .1 .new
+entry-count-requires c κs = search needs
 
 returns : tie.Need-returns
 returns c = search (sheet-short, needs)

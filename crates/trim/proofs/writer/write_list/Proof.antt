@@ -25,16 +25,13 @@ unfolding gather
 loop-holds c = (search needs, refl, omega arith, appended-none _ _)
 
 element-copy-out : tie.Need-element-copy-out-if1 Inv-loop μ-loop
-element-copy-out c = let (h, e, l, a) = c .before .loop .inv in omega arith
+element-copy-out c = omega arith
 
 loop-again : tie.Need-loop-again Inv-loop μ-loop
-loop-again c =
-    let d = c .before .before .before .before in
-    let (h, e, l, a) = d .before .before .before .loop .inv in
-    (h, e, omega arith, search (list-hit, needs))
+loop-again c = search (list-hit, needs)
 
 loop-again-2 : tie.Need-loop-again-2 Inv-loop μ-loop
-loop-again-2 c = let (h, e, l, a) = c .before .before .before .loop .inv in (h, e, omega arith, search (list-miss, needs))
+loop-again-2 c = search (list-miss, needs)
 
 returns : tie.Need-returns Inv-loop μ-loop
 returns c = let (h, e, l, a) = c .before .loop .inv in list-all _ _ (omega arith) a
