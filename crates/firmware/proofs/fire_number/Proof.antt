@@ -7,7 +7,9 @@ use Rattle.firmware.proofs.fire_number.Statement.{statement}
 use Rattle.firmware.proofs.fire_number.Tie as tie
 
 add-result : tie.Need-add-result
-add-result c = omega (arith, number-of (c .before .before .found .given .1) (c .before .before .before .before .early-fault .ensures .1))
+add-result c =
+    let at-early-fault : tie.After-early-fault = search in
+    omega (arith, number-of (c .before .before .found .given .1) (at-early-fault .early-fault .ensures .1))
 
 returns : tie.Need-returns
 returns c = search (number-early, needs)

@@ -15,16 +15,17 @@ net-part : tie.Need-slice-aggregate-check
 net-part c = sym (length-take-le _ _ (net-fits (c .before)))
 
 sheet-fits : tie.Need-array-share-prefix-sheet-words
-sheet-fits c = let d = c .before .before .decode2 .ensures in words-fit _ _ _ _ (d .words) (d .written)
+sheet-fits c = search (words-fit, needs)
 
 sheet-part : tie.Need-slice-aggregate-check-2
 sheet-part c = sym (length-take-le _ _ (sheet-fits (c .before)))
 
 returns : tie.Need-returns
 returns c =
-    let d = c .before .before .before .before in
+    let at-decode2 : tie.After-decode2 = search in
+    let at-decode : tie.After-decode = search in
     written-decoded checkCore check-asks _ _ _ _ _ _ _ _ _ _ _ (length-replicate {A = ℕ} 4228 0) (length-replicate {A = ℕ} 8195 0)
-    (d .before .before .before .decode .ensures) (d .decode2 .ensures) (check-written _ _ _ (c .check .ensures))
+    (at-decode .decode .ensures) (at-decode2 .decode2 .ensures) (check-written _ _ _ (c .check .ensures))
 
 pub check-spec : {M : Type 1} → statement M
 check-spec =

@@ -13,13 +13,15 @@ returns-2 c = (c .refuse2 .ensures ∙ early-net _ _ _ _ (c .before .before .if1
 
 returns-3 : tie.Need-returns-3
 returns-3 c =
-    (c .refuse3 .ensures ∙ early-sheet _ _ _ _ (c .before .before .before .if1 .left) (c .before .before .if2 .left) (c .before .if3 .taken), number-low 31 (omega arith) (c .refuse3 .ensures))
+    let at-if1 : tie.Else1 = search in
+    (c .refuse3 .ensures ∙ early-sheet _ _ _ _ (at-if1 .if1 .left) (c .before .before .if2 .left) (c .before .if3 .taken), number-low 31 (omega arith) (c .refuse3 .ensures))
 
 returns-4 : tie.Need-returns-4
-returns-4 c = (
-  c .refuse4 .ensures ∙ early-record _ _ _ _ (c .before .before .before .before .if1 .left) (c .before .before .before .if2 .left) (c .before .before .if3 .left) (c .before .if4 .taken),
-  number-low 31 (omega arith) (c .refuse4 .ensures),
-)
+returns-4 c =
+    let at-if2 : tie.Else2 = search in (
+      c .refuse4 .ensures ∙ early-record _ _ _ _ (at-if2 .before .if1 .left) (at-if2 .if2 .left) (c .before .before .if3 .left) (c .before .if4 .taken),
+      number-low 31 (omega arith) (c .refuse4 .ensures),
+    )
 
 returns-5 : tie.Need-returns-5
 returns-5 c = (search (early-whole, needs), omega arith)

@@ -7,9 +7,10 @@ use Rattle.firmware.proofs.lent.finish.Tie as tie
 
 returns : tie.Need-returns
 returns c =
-    let a = c .before .before .before .before .before .before .before .before .before .before .before in
-    let k : length (a .args .six .plain) ≡ 6 = search needs in
-    (refl, c .before .before .before .before .before .before .clear .ensures, c .before .before .write-six .ensures ∙ bytes-over 8 _ _ (omega (arith, k)))
+    let at-clear : tie.After-clear = search in
+    let start : tie.Start = search in
+    let k : length (start .args .six .plain) ≡ 6 = search needs in
+    (refl, at-clear .clear .ensures, c .before .before .write-six .ensures ∙ bytes-over 8 _ _ (omega (arith, k)))
 
 pub finish-spec : {M : Type 1} → statement M
 finish-spec = tie.close (tie.spec (λ c κs. search needs) (λ c κs. search needs) (λ c. search needs) (λ c. search needs) returns)

@@ -10,18 +10,20 @@ use Rattle.firmware.proofs.words.fire.Tie as tie
 
 add-result : tie.Need-add-result
 add-result c =
-    let s = c .before .before .before .before in
-    omega (arith, step-small _ _ _ _ _ _ _ (s .step .ensures) (c .before .before .answer .given .1))
+    let at-step : tie.After-step = search in
+    omega (arith, step-small _ _ _ _ _ _ _ (at-step .step .ensures) (c .before .before .answer .given .1))
 
 returns : tie.Need-returns
 returns c =
-    let s = c .before .before .before in
-    ap (λ (a : FireAnswer). oneNumber (a, s .step .result .next)) (sym (c .before .enum-told .given .1)) ∙ number-told _ _ _ _ _ _ _ (s .before .marking .ensures) (s .step .ensures)
+    let at-step : tie.After-step = search in
+    ap (λ (a : FireAnswer). oneNumber (a, at-step .step .result .next)) (sym (c .before .enum-told .given .1))
+    ∙ number-told _ _ _ _ _ _ _ (at-step .before .marking .ensures) (at-step .step .ensures)
 
 returns-2 : tie.Need-returns-2
 returns-2 c =
-    let s = c .before .before .before .before in
-    ap (λ (a : FireAnswer). oneNumber (a, s .step .result .next)) (sym (c .before .before .answer .given .1)) ∙ number-told _ _ _ _ _ _ _ (s .before .marking .ensures) (s .step .ensures)
+    let at-step : tie.After-step = search in
+    ap (λ (a : FireAnswer). oneNumber (a, at-step .step .result .next)) (sym (c .before .before .answer .given .1))
+    ∙ number-told _ _ _ _ _ _ _ (at-step .before .marking .ensures) (at-step .step .ensures)
 
 pub fire-spec : {M : Type 1} → statement M
 fire-spec =

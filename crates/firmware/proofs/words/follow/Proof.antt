@@ -29,52 +29,54 @@ loop-holds c = (omega arith, after-none _ _ _, omega arith, first-none _, entry-
 
 cast-entry : tie.Need-cast-t15 Inv-loop μ-loop
 cast-entry c =
-    let k = c .before .before .before .before .before .before .before .before .before .before .before .pre in
-    let r = k .arcs in
-    omega (arith, entry-fits _ _ _ _ (r .holds) _ (arc-found _ _ r _ _ _ (sym (c .before .before .before .before .arc .ensures) ∙ (c .before .before .e .given .1))))
+    let at-arc : tie.After-arc Inv-loop μ-loop = search in
+    let start : tie.Start Inv-loop μ-loop = search in
+    let r = start .pre .arcs in
+    omega (arith, entry-fits _ _ _ _ (r .holds) _ (arc-found _ _ r _ _ _ (sym (at-arc .arc .ensures) ∙ (c .before .before .e .given .1))))
 
 returns : tie.Need-returns Inv-loop μ-loop
 unfolding runFault
 returns c =
-    let at-word = c .before .before .before .before in
-    let w = at-word .before .before in
-    let start = w .before .before .before .before in
-    let k = start .pre in
-    let l = at-word .before .loop-test .taken in
-    let q = at-word .word .ensures in
-    let e = rw q at (arc-missing _ _ (k .arcs) _ _ (sym (c .before .before .before .arc .ensures) ∙ (c .before .enum-told .given .1))) in
+    let at-arc : tie.After-arc Inv-loop μ-loop = search in
+    let at-loop : tie.At-loop Inv-loop μ-loop = search in
+    let start : tie.Start Inv-loop μ-loop = search in
+    let l = at-arc .before .before .loop-test .taken in
+    let q = at-arc .before .word .ensures in
+    let e = rw q at (arc-missing _ _ (start .pre .arcs) _ _ (sym (at-arc .arc .ensures) ∙ (c .before .enum-told .given .1))) in
     let m = rw (← (words-count (start .args .firings .now))) at l in
     record {
-      reply = (c .refuse .ensures) ∙ ap verdictOf (sym (first-hit _ _ _ (w .loop .inv .3) (firing-fails _ _ _ _ _ (w .loop .inv .1) e) _ m));
+      reply = (c .refuse .ensures) ∙ ap verdictOf (sym (first-hit _ _ _ (at-loop .loop .inv .3) (firing-fails _ _ _ _ _ (at-loop .loop .inv .1) e) _ m));
       node = λ h. accepted-refused _ _ h (c .refuse .ensures);
       entry = λ h. accepted-refused _ _ h (c .refuse .ensures);
     }
 
 loop-again : tie.Need-loop-again Inv-loop μ-loop
 loop-again c =
-    let at-arc = c .before .before .before .before in
-    let at-test = at-arc .before .before in
-    let w = at-test .before in
-    let k = w .before .before .before .before .pre in
-    let r = k .arcs in
-    let l = at-test .loop-test .taken in
+    let at-arc : tie.After-arc Inv-loop μ-loop = search in
+    let at-loop : tie.At-loop Inv-loop μ-loop = search in
+    let start : tie.Start Inv-loop μ-loop = search in
+    let r = start .pre .arcs in
+    let l = at-arc .before .before .loop-test .taken in
     let q = at-arc .before .word .ensures in
     let e = rw q at (arc-found _ _ r _ _ _ (sym (at-arc .arc .ensures) ∙ (c .before .before .e .given .1))) in (
       omega arith,
-      (c .value .ensures) ∙ after-more _ _ _ _ _ (w .loop .inv .1) _ e,
-      rw (c .value .ensures) (target-node _ _ _ _ (r .sizes .some-transition) (r .holds) (w .loop .inv .2) _ e),
-      first-more _ _ (w .loop .inv .3) (firing-passes _ _ _ _ _ (w .loop .inv .1) _ e),
-      entry-more _ _ _ _ _ (w .loop .inv .1) _ e,
+      (c .value .ensures) ∙ after-more _ _ _ _ _ (at-loop .loop .inv .1) _ e,
+      rw (c .value .ensures) (target-node _ _ _ _ (r .sizes .some-transition) (r .holds) (at-loop .loop .inv .2) _ e),
+      first-more _ _ (at-loop .loop .inv .3) (firing-passes _ _ _ _ _ (at-loop .loop .inv .1) _ e),
+      entry-more _ _ _ _ _ (at-loop .loop .inv .1) _ e,
     )
 
 returns-2 : tie.Need-returns-2 Inv-loop μ-loop
 unfolding runFault
 returns-2 c =
-    let firings = c .before .before .before .before .before .args .firings .now in
-    let q : (c .before .loop .i) ≡ length (allWords firings) = omega (arith, words-count firings) in record {
-      reply = ap verdictOf (sym (rw q at (c .before .loop .inv .3)));
-      node = λ h. rw q at (c .before .loop .inv .1);
-      entry = λ h. rw q at (c .before .loop .inv .4);
+    let at-loop : tie.At-loop Inv-loop μ-loop = search in
+    let start : tie.Start Inv-loop μ-loop = search in
+    let firings = start .args .firings .now in
+    let q : (at-loop .loop .i) ≡ length (allWords firings) = omega (arith, words-count firings) in
+    record {
+      reply = ap verdictOf (sym (rw q at (at-loop .loop .inv .3)));
+      node = λ h. rw q at (at-loop .loop .inv .1);
+      entry = λ h. rw q at (at-loop .loop .inv .4);
     }
 
 pub follow-spec : {M : Type 1} → statement M

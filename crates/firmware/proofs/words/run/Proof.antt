@@ -20,30 +20,36 @@ use Rattle.firmware.proofs.words.run.Statement.{statement}
 use Rattle.firmware.proofs.words.run.Tie as tie
 
 returns : tie.Need-returns
-returns c = let e = sym (c .before .before .before .verdict .ensures) ∙ (c .before .found .given .1) in refused-written (then-refused _ _ _ e ∙ e) refl
+returns c =
+    let at-verdict : tie.After-verdict = search in
+    let e = sym (at-verdict .verdict .ensures) ∙ (c .before .found .given .1) in
+    refused-written (then-refused _ _ _ e ∙ e) refl
 
 follow-requires : tie.Need-follow-requires
 follow-requires c κs = accepted-readable _ _ (sym (c .before .before .verdict .ensures) ∙ (c .enum-told .given .1))
 
 returns-2 : tie.Need-returns-2
 returns-2 c =
-    let f = c .before .before .before in
+    let at-follow : tie.After-follow = search in
+    let at-verdict : tie.After-verdict = search in
     refused-written
-    (then-next _ _ (sym (f .before .before .before .verdict .ensures) ∙ (f .before .enum-told .given .1)) ∙ sym (f .follow .ensures .reply) ∙ (c .before .found2 .given .1)) refl
+    (then-next _ _ (sym (at-verdict .verdict .ensures) ∙ (at-follow .before .enum-told .given .1)) ∙ sym (at-follow .follow .ensures .reply) ∙ (c .before .found2 .given .1)) refl
 
 returns-3 : tie.Need-returns-3
 returns-3 c =
-    let g = c .before .before .before .before .before .before .before in
-    let h = sym (g .before .before .before .verdict .ensures) ∙ (g .before .enum-told .given .1) in
-    let f = sym (g .follow .ensures .reply) ∙ (c .before .before .before .before .before .enum-told2 .given .1) in
+    let at-output-fault : tie.After-output-fault = search in
+    let at-follow : tie.After-follow = search in
+    let at-verdict : tie.After-verdict = search in
+    let h = sym (at-verdict .verdict .ensures) ∙ (at-follow .before .enum-told .given .1) in
+    let f = sym (at-follow .follow .ensures .reply) ∙ (at-output-fault .before .before .enum-told2 .given .1) in
     let z = run-ends _ _ _ h (answer-none _ f) in
-    refused-room refl (then-next _ _ h ∙ f) (rw (c .before .before .before .before .places .ensures, ← z .long) at
-    (sym (c .before .before .before .output-fault .ensures) ∙ (c .before .found3 .given .1))) refl
+    refused-room refl (then-next _ _ h ∙ f) (rw (at-output-fault .before .places .ensures, ← z .long) at
+    (sym (at-output-fault .output-fault .ensures) ∙ (c .before .found3 .given .1))) refl
 
 row-fits : tie.Need-array-share-prefix-row
 row-fits c =
-    let f = c .before .before .before .before .before .before .before .before in
-    let k = known _ _ (accepted-readable _ _ (sym (f .before .before .verdict .ensures) ∙ (f .enum-told .given .1))) in
+    let verdict-told : tie.After-enum-told = search in
+    let k = known _ _ (accepted-readable _ _ (sym (verdict-told .before .before .verdict .ensures) ∙ (verdict-told .enum-told .given .1))) in
     omega arith
 
 row-part : tie.Need-slice-aggregate-write-words
@@ -51,23 +57,24 @@ row-part c = sym (length-take-le _ _ (row-fits (c .before)))
 
 returns-4 : tie.Need-returns-4
 returns-4 c =
-    let at-marking = c .before .before .before .before .before in
-    let at-output-fault = at-marking .before .before .before in
-    let f = at-output-fault .before .before .before .before in
-    let a = f .before .before .before .before .before .before .before .before in
-    let h = sym (f .before .before .before .verdict .ensures) ∙ (f .before .enum-told .given .1) in
+    let at-marking : tie.After-marking = search in
+    let at-output-fault : tie.After-output-fault = search in
+    let at-follow : tie.After-follow = search in
+    let at-verdict : tie.After-verdict = search in
+    let start : tie.Start = search in
+    let h = sym (at-verdict .verdict .ensures) ∙ (at-follow .before .enum-told .given .1) in
     let e = at-output-fault .before .before .enum-told2 .given .1 in
-    let ok = sym (f .follow .ensures .reply) ∙ e in
-    let n = f .follow .ensures .node e in
+    let ok = sym (at-follow .follow .ensures .reply) ∙ e in
+    let n = at-follow .follow .ensures .node e in
     let r = accepted-readable _ _ h in
     let z = run-ends _ _ _ h (answer-none _ ok) in
     let free = sym (at-output-fault .output-fault .ensures) ∙ (at-marking .before .enum-told3 .given .1) in
     answered-room refl (then-next _ _ h ∙ ok) (rw (z .long, ← (at-output-fault .before .places .ensures)) free)
-    (rw (n, f .follow .ensures .entry e, words-count (a .args .firings .now)))
-    (c .before .before .write-words .ensures ∙ ap (λ (x : List ℕ). placed (a .args .out .now) 0 (bytesOf 4 x))
+    (rw (n, at-follow .follow .ensures .entry e, words-count (start .args .firings .now)))
+    (c .before .before .write-words .ensures ∙ ap (λ (x : List ℕ). placed (start .args .out .now) 0 (bytesOf 4 x))
     (ap (λ (k : ℕ). take k (at-marking .marking .result)) (at-output-fault .before .places .ensures)
-    ∙ ap (take (placeCount (a .args .net .now))) (at-marking .marking .ensures ∙ marking-right _ _ (r .arcs) _ (rw n (z .low)))
-    ∙ end-row _ _ _ (rw n (z .low)) (known _ _ r .few-places) ∙ ap (marking (petriNet (a .args .net .now)) (a .args .sheet .now)) n ∙ z .counts))
+    ∙ ap (take (placeCount (start .args .net .now))) (at-marking .marking .ensures ∙ marking-right _ _ (r .arcs) _ (rw n (z .low)))
+    ∙ end-row _ _ _ (rw n (z .low)) (known _ _ r .few-places) ∙ ap (marking (petriNet (start .args .net .now)) (start .args .sheet .now)) n ∙ z .counts))
 
 pub run-spec : {M : Type 1} → statement M
 run-spec =
