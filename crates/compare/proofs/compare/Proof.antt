@@ -9,14 +9,16 @@ use Rattle.compare.proofs.compare.Tie as tie
 
 returns : tie.Need-returns
 returns c =
-    let e = sym (c .before .before .before .before .scratch-fault .ensures) ∙ c .before .before .found .given .1 in
+    let at-scratch-fault : tie.After-scratch-fault = search in
+    let e = sym (at-scratch-fault .scratch-fault .ensures) ∙ c .before .before .found .given .1 in
     compare-done _ _ _ (refused-scratch e (c .refused .ensures ∙ scratch-missing _ _ 0 _ e))
 
 returns-2 : tie.Need-returns-2
 returns-2 c =
-    let d = c .before .before .before .before .before .before .before .before in
-    compare-done _ _ _ (served (sym (d .before .before .before .before .before .scratch-fault .ensures) ∙ d .before .before .before .enum-told .given .1)
-    (d .compare-into .ensures) (c .before .before .clear-front .ensures))
+    let at-compare-into : tie.After-compare-into = search in
+    let scratch-fault-told : tie.After-enum-told = search in
+    compare-done _ _ _ (served (sym (scratch-fault-told .before .before .scratch-fault .ensures) ∙ scratch-fault-told .enum-told .given .1)
+    (at-compare-into .compare-into .ensures) (c .before .before .clear-front .ensures))
 
 pub compare-spec : {M : Type 1} → statement M
 compare-spec =

@@ -25,17 +25,19 @@ loop-holds c = (omega arith, refl)
 loop-again : tie.Need-loop-again Inv-loop μ-loop
 unfolding sameAt
 loop-again c =
-    let (l, e) = c .before .before .before .before .loop .inv in (
+    let at-loop : tie.At-loop Inv-loop μ-loop = search in
+    let (l, e) = at-loop .loop .inv in (
       omega arith,
-      ⊎-elim (λ w. w .1 ∙ sym (all-fails _ _ (c .before .before .before .before .loop .i) (omega arith) (ne-eqb _ _ (w .0 .taken))))
+      ⊎-elim (λ w. w .1 ∙ sym (all-fails _ _ (at-loop .loop .i) (omega arith) (ne-eqb _ _ (w .0 .taken))))
           (λ w. w .1 ∙ e ∙ all-keeps _ _ (eq-eqb _ _ (w .0 .left))) (c .if2 .came),
     )
 
 returns-2 : tie.Need-returns-2 Inv-loop μ-loop
 unfolding sameFronts
 returns-2 c =
+    let start : tie.Start Inv-loop μ-loop = search in
     let (l, e) = c .before .loop .inv in
-    let q : c .before .loop .i ≡ c .before .before .before .args .first = omega arith in
+    let q : c .before .loop .i ≡ start .args .first = omega arith in
     rw (eq-eqb _ _ (c .before .before .if1 .left)) (rw q at e)
 
 pub same-fronts-spec : {M : Type 1} → statement M
