@@ -9,10 +9,14 @@ returns : tie.Need-returns
 returns c = net-tail _ _ _ _ ((c .if1) .taken)
 
 returns-2 : tie.Need-returns-2
-returns-2 c = net-refused _ _ _ _ ((c .before .before .before .before .before .if1) .left) _ (sym ((c .before .before .before .check) .ensures) ∙ (c .before .found) .given .1)
+returns-2 c =
+    let at-check : tie.After-check = search in
+    net-refused _ _ _ _ ((at-check .before .before .if1) .left) _ (sym ((at-check .check) .ensures) ∙ (c .before .found) .given .1)
 
 returns-3 : tie.Need-returns-3
-returns-3 c = sheet-tail _ _ _ _ ((c .before .before .before .before .if1) .left) ((c .before .before .before .if2) .taken) (sym ((c .before .before .check) .ensures) ∙ (c .enum-told) .given .1)
+returns-3 c =
+    let at-if2 : tie.Then2 = search in
+    sheet-tail _ _ _ _ ((at-if2 .before .if1) .left) ((at-if2 .if2) .taken) (sym ((c .before .before .check) .ensures) ∙ (c .enum-told) .given .1)
 
 returns-4 : tie.Need-returns-4
 returns-4 c = (c .check2) .ensures ∙ no-tail _ _ _ _ ((c .before .before .if1) .left) ((c .before .if2) .left)

@@ -16,27 +16,26 @@ slice-aggregate-accepted-lines c = sym (length-take-le _ _ (array-share-prefix-b
 
 slice-reshare-prefix-accepted-lines : tie.Need-slice-reshare-prefix-accepted-lines
 slice-reshare-prefix-accepted-lines c =
-    let d = c .before .before .before .before .before in
-    let e = d .before .before .before .before in
-    form-fits (written-form (words-accepted _ _ (e .before .before .before .before .before .before .pre)) (e .form-of .ensures) _ (d .k .given .1))
+    let form-told : tie.After-k = search in
+    let at-form-of : tie.After-form-of = search in
+    let start : tie.Start = search in
+    form-fits (written-form (words-accepted _ _ (start .pre)) (at-form-of .form-of .ensures) _ (form-told .k .given .1))
 
 slice-aggregate-accepted-lines-2 : tie.Need-slice-aggregate-accepted-lines-2
 slice-aggregate-accepted-lines-2 c = sym (length-take-le _ _ (slice-reshare-prefix-accepted-lines (c .before)))
 
 returns : tie.Need-returns
-returns c =
-    let d = c .before .before .before .before .before in
-    let e = d .before .before .before .before in
-    too-long-printed _ _ _ _ _ _ _ _ _ (refused-form (words-accepted _ _ (e .before .before .before .before .before .before .pre)) (e .form-of .ensures) _ (d .r .given .1))
-    (c .before .before .print-refusal .ensures)
+returns c = search (too-long-printed, refused-form, words-accepted, needs)
 
 returns-2 : tie.Need-returns-2
 returns-2 c =
-    let d = c .before .before .before .before .before .before .before .before .before in
-    let e = d .before .before .before .before in
-    let h = e .before .before .before .before .before .before .pre in
-    accepted-printed _ _ _ _ _ _ _ _ _ _ _ (written-form (words-accepted _ _ h) (e .form-of .ensures) _ (d .k .given .1)) (accepted-readable _ _ h)
-    (c .before .before .before .before .before .before .places .ensures) (c .before .before .before .before .before .before .before .bounds .ensures)
+    let at-places : tie.After-places = search in
+    let form-told : tie.After-k = search in
+    let at-form-of : tie.After-form-of = search in
+    let start : tie.Start = search in
+    let h = start .pre in
+    accepted-printed _ _ _ _ _ _ _ _ _ _ _ (written-form (words-accepted _ _ h) (at-form-of .form-of .ensures) _ (form-told .k .given .1)) (accepted-readable _ _ h)
+    (at-places .places .ensures) (at-places .before .bounds .ensures)
     (c .before .before .accepted-lines .ensures)
 
 pub print-accepted-spec : {M : Type 1} → statement M

@@ -6,7 +6,9 @@ use Rattle.files.proofs.print_refusal.Tie as tie
 
 returns : tie.Need-returns
 unfolding refusedText
-returns c = rw (← (c .before .before .before .before .kind .ensures), ← (c .before .before .before .index .ensures)) (c .before .before .answer-line .ensures)
+returns c =
+    let at-index : tie.After-index = search in
+    rw (← (at-index .before .kind .ensures), ← (at-index .index .ensures)) (c .before .before .answer-line .ensures)
 
 pub print-refusal-spec : {M : Type 1} → statement M
 print-refusal-spec =
