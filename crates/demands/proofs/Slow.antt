@@ -1,7 +1,6 @@
 -- The slow engine: what it spreads, and that it answers what the check answers.
 use Rattle.scan.proofs.Basics.{ℕ, _+_, _*_, _/_, _%_, _-_, _≤_, _<_, arith, _≡_, refl, sym, ap, _∙_, _⊎_, inl, inr, Option, none, some, Option·map, ltb, List, [], _∷_, _++_, getD}
 use mathlib.Core.Bool.{and-false}
-use lib.IntN.{pos, _-ℤ_}
 use Rattle.scan.specs.Scan.{orElse, foundOr}
 use Rattle.scan.proofs.Tests.{lt-ltb, le-ltb}
 use Rattle.refusal.specs.Verdict.{verdictOf}
@@ -30,7 +29,7 @@ use Rattle.schedule.proofs.Done.{check-law}
 use Rattle.plainly.specs.Numbers.{plusOne, arcCode, NetSpread, GridSpread}
 use Rattle.plainly.specs.Calls.{slowVerdict, slowCounts, slowCore}
 use Rattle.plainly.specs.declared.Spread.{Spread}
-use Rattle.plainly.proofs.LookUp.{cell-arc, cell-count}
+use Rattle.plainly.proofs.LookUp.{cell-taken, cell-change, cell-arc, cell-count}
 use Rattle.plainly.proofs.Right.{clauses-same, arcs-total, awaits-total}
 use Rattle.demands.specs.Slow.{TablesRight, GridRight, SlowDemand}
 
@@ -38,19 +37,6 @@ use Rattle.demands.specs.Slow.{TablesRight, GridRight, SlowDemand}
 
 module _ (net : List ℕ) where
   module _ (s : Spread) (few-places : placeCount net ≤ 32) (few-transitions : transitionCount net ≤ 32) (h : NetSpread net s) where
-    module _ (t p : ℕ) (l : t < 32) (k : p < 32) where
-      row : (t * 32 + p) / 32 ≡ t
-      row = row-div t 32 p k
-
-      column : (t * 32 + p) % 32 ≡ p
-      column = row-mod t 32 p k
-
-      taken-cell : getD (s .taken) (t * 32 + p) 0 ≡ taken net t p
-      taken-cell = h .taken-is (t * 32 + p) (omega arith) ∙ rw (row, column)
-
-      change-cell : getD (s .change) (t * 32 + p) (pos 0) ≡ pos (put net t p) -ℤ pos (taken net t p)
-      change-cell = h .change-is (t * 32 + p) (omega arith) ∙ rw (row, column)
-
     nothing : (t p : ℕ) → (transitionCount net ≤ t) ⊎ (placeCount net ≤ p) → (taken net t p ≡ 0) × (put net t p ≡ 0)
     nothing t p (inl l) = (taken-no-transition net t p l, put-no-transition net t p l)
     nothing t p (inr l) = (taken-no-place net t p l, put-no-place net t p l)
@@ -60,10 +46,10 @@ module _ (net : List ℕ) where
       sizes = (h .places-are, h .transitions-are);
       starts = λ p k. h .starts-are p (omega arith);
       capacities = λ p k. h .capacities-are p (omega arith);
-      taken = λ t p l k. taken-cell t p (omega arith) (omega arith);
-      change = λ t p l k. change-cell t p (omega arith) (omega arith);
+      taken = λ t p l k. cell-taken h t p (omega arith) (omega arith);
+      change = λ t p l k. cell-change h t p (omega arith) (omega arith);
       past = λ p l k. (h .starts-are p k ∙ start-no-place net p l, h .capacities-are p k ∙ rw (capacity-no-place net p l));
-      others = λ t p l k o. let (a, b) = nothing t p o in (taken-cell t p l k ∙ a, change-cell t p l k ∙ rw (a, b));
+      others = λ t p l k o. let (a, b) = nothing t p o in (cell-taken h t p l k ∙ a, cell-change h t p l k ∙ rw (a, b));
     }
 
 -- ---- the grid

@@ -1,7 +1,7 @@
--- The cells of the grid are looked up by their keys.
-use Rattle.scan.proofs.Basics.{ℕ, _+_, _*_, _-_, _/_, _%_, _≤_, _<_, arith, _≡_, refl, sym, _∙_, ltb, Option, none, some, Option·map, List}
-use native.Mathlib.Nat.{mul-le-mul}
+-- The cells of the tables by transition and place, and those of the grid by their keys.
+use Rattle.scan.proofs.Basics.{ℕ, _+_, _*_, _-_, _/_, _%_, _≤_, _<_, arith, _≡_, refl, sym, _∙_, ltb, Option, none, some, Option·map, List, getD}
 use mathlib.Core.Bool.{and-false}
+use lib.IntN.{pos, _-ℤ_}
 use Rattle.scan.specs.Scan.{foundOr}
 use Rattle.scan.proofs.Tests.{lt-ltb, le-ltb, byLess}
 use Rattle.refusal.specs.Limits.{mostCount}
@@ -10,15 +10,23 @@ use Rattle.table.specs.declared.Found.{Found}
 use Rattle.table.specs.declared.Found.the-variants.{At, Nothing}
 use Rattle.table.proofs.Bisection.{look-up}
 use Rattle.table.proofs.Table.{entry-some}
-use Rattle.net.specs.Net.{placeCount, transitionCount}
+use Rattle.net.specs.Net.{placeCount, transitionCount, taken, put}
 use Rattle.sequential.specs.Petri.{PetriNet, petriNet}
 use Rattle.sequential.specs.Words.{nodeCount, entryCount, entryKey, entryValue, entryWithKey, arcKeys, arcEntry, arc, countAt}
 use Rattle.sequential.proofs.Words.{words-rise, words-fit}
+use Rattle.sequential.proofs.Entries.{row-div, row-mod}
 use Rattle.graph.specs.Readable.{Readable}
-use Rattle.plainly.specs.Numbers.{valueMore, valueOf, arcCode, cellOf, Keyed}
+use Rattle.plainly.specs.declared.Spread.{Spread}
+use Rattle.plainly.specs.Numbers.{valueMore, valueOf, arcCode, cellOf, Keyed, NetSpread}
 
-pub rows-small : (n m : ℕ) → n ≤ 128 → m ≤ 32 → n * m ≤ 4096
-rows-small n m l k = let b : n * m ≤ 128 * 32 = mul-le-mul l k in b
+-- ---- the tables of the net
+
+module _ {net : List ℕ} {s : Spread} (h : NetSpread net s) (t p : ℕ) (l : t < 32) (k : p < 32) where
+  pub cell-taken : getD (s .taken) (t * 32 + p) 0 ≡ taken net t p
+  cell-taken = h .taken-is (t * 32 + p) (omega arith) ∙ rw (row-div t 32 p k, row-mod t 32 p k)
+
+  pub cell-change : getD (s .change) (t * 32 + p) (pos 0) ≡ pos (put net t p) -ℤ pos (taken net t p)
+  cell-change = h .change-is (t * 32 + p) (omega arith) ∙ rw (row-div t 32 p k, row-mod t 32 p k)
 
 -- ---- a value by its key
 

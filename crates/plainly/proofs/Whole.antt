@@ -27,7 +27,7 @@ use Rattle.plainly.specs.Numbers.{arcCode, NetSpread, GridSpread}
 use Rattle.plainly.specs.Clauses.{clausesFault, clausesAnswer}
 use Rattle.plainly.specs.Calls.{slowVerdict, slowCounts, slowCore, slowAnswer}
 use Rattle.plainly.proofs.Room.{put-by}
-use Rattle.plainly.proofs.LookUp.{cell-arc, cell-count}
+use Rattle.plainly.proofs.LookUp.{cell-taken, cell-change, cell-arc, cell-count}
 
 same-net : (P T P′ T′ : ℕ) (f g f′ g′ : ℕ → ℕ → ℕ) (s s′ : ℕ → ℕ) (k k′ : ℕ → Option ℕ) (z : ℕ → Bool) → P ≡ P′ → T ≡ T′ → f ≡ f′ → g ≡ g′ → s ≡ s′ → k ≡ k′
     → _≡_ {A = PetriNet} (record { places = P; transitions = T; taken = f; put = g; start = s; capacity = k; kept = z })
@@ -55,31 +55,22 @@ module _ {net sheet : List ℕ} (r : Readable net sheet) (s : Spread) (h : NetSp
   few-transitions = omega (arith, h .transitions-are, r .arcs .sizes .few-transitions)
 
   module _ (t p : ℕ) (l : t < s .transitions) (k : p < s .places) where
-    low : t * 32 + p < 1024
-    low = omega (arith, few-places, few-transitions)
-
-    row : (t * 32 + p) / 32 ≡ t
-    row = row-div t 32 p (omega (arith, few-places))
-
-    column : (t * 32 + p) % 32 ≡ p
-    column = row-mod t 32 p (omega (arith, few-places))
-
-    taken-cell : getD (s .taken) (t * 32 + p) 0 ≡ taken net t p
-    taken-cell = h .taken-is (t * 32 + p) low ∙ rw (row, column)
+    taken-at : getD (s .taken) (t * 32 + p) 0 ≡ taken net t p
+    taken-at = cell-taken h t p (omega (arith, few-transitions)) (omega (arith, few-places))
 
     put-is-at : PutIs (getD (s .taken) (t * 32 + p) 0) (getD (s .change) (t * 32 + p) (pos 0))
     put-is-at = record {
       put = put net t p;
       most = put-most net (r .arcs .accepted) t p;
-      taken-most = rw taken-cell (taken-most net (r .arcs .accepted) t p);
-      change-is = h .change-is (t * 32 + p) low ∙ rw (row, column, taken-cell);
+      taken-most = rw taken-at (taken-most net (r .arcs .accepted) t p);
+      change-is = cell-change h t p (omega (arith, few-transitions)) (omega (arith, few-places)) ∙ rw taken-at;
     }
 
   taken-same : (t p : ℕ) → takenBy s t p ≡ taken net t p
   unfolding takenBy inTable
   taken-same t p =
       byLess t (s .transitions)
-      (λ l. byLess p (s .places) (λ k. rw (lt-ltb t (s .transitions) l, lt-ltb p (s .places) k) (taken-cell t p l k))
+      (λ l. byLess p (s .places) (λ k. rw (lt-ltb t (s .transitions) l, lt-ltb p (s .places) k) (taken-at t p l k))
       (λ k. rw (le-ltb p (s .places) k, and-false (ltb t (s .transitions))) (sym (taken-no-place net t p (omega (arith, h .places-are))))))
       (λ l. rw (le-ltb t (s .transitions) l) (sym (taken-no-transition net t p (omega (arith, h .transitions-are)))))
 

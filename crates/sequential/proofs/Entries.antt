@@ -25,6 +25,10 @@ row-div n d x l = mul-add-div-right (omega arith) n x ∙ rw (div-eq-of-lt l) (a
 pub row-mod : (n d x : ℕ) → x < d → (n * d + x) % d ≡ x
 row-mod n d x l = mul-add-mod-self-right n d x ∙ mod-eq-of-lt l
 
+-- the keys of all rows before row n, for the most nodes and the most places or transitions
+pub rows-few : (n d : ℕ) → n ≤ 128 → d ≤ 32 → n * d ≤ 4096
+rows-few n d l m = omega (arith, mul-le-mul-right d l)
+
 -- what an entry says: from node n, t leads to m
 pub record ArcEntry (N : PetriNet) (sheet : List ℕ) (i n t m : ℕ) : Type 0 where
   pub entry : i < entryCount sheet

@@ -1,6 +1,6 @@
 -- An entry as the code reads it: whether it is an arc, the cell of its node, and what it becomes.
 use Rattle.scan.proofs.Basics.{ℕ, _+_, _-_, _*_, _/_, _%_, _≤_, _<_, arith, _≡_, refl, _∙_, true, false, List, getD}
-use native.Mathlib.Nat.{mul-le-mul-right, mod-lt}
+use native.Mathlib.Nat.{mod-lt}
 use Rattle.scan.proofs.Tests.{lt-ltb, le-ltb, byTest}
 use Rattle.scan.proofs.Count.{count-le}
 use Rattle.table.specs.Table.{keyAt, valueAt}
@@ -8,7 +8,7 @@ use Rattle.net.specs.Net.{placeCount, transitionCount}
 use Rattle.automaton.specs.Automaton.{Automaton}
 use Rattle.sequential.specs.Petri.{PetriNet, petriNet}
 use Rattle.sequential.specs.Words.{nodeCount, entryCount, entryKey, entryValue, arcKeys, graph, isArc, arcNode, arcTransition}
-use Rattle.sequential.proofs.Entries.{entry-target}
+use Rattle.sequential.proofs.Entries.{rows-few, entry-target}
 use Rattle.graph.proofs.Readable.{words}
 use Rattle.trimmed.specs.Trim.{isKept, newNumber}
 use Rattle.trimmed.specs.Entries.{countNode, countPlace, entryNode, entryKept, newKey, newValue}
@@ -93,9 +93,6 @@ module _ (net sheet : List ℕ) (i : ℕ) {r : ℕ} (e : r ≡ newCell (graph (p
 
 -- ---- what a kept entry becomes
 
-row-few : (n : ℕ) {d : ℕ} → n ≤ 128 → d ≤ 32 → n * d ≤ 4096
-row-few n {d} l m = omega (arith, mul-le-mul-right d l)
-
 module _ {net sheet cells : List ℕ} {found i : ℕ} (h : NewNodes net sheet cells found) (k : KeptEntry net sheet i) {r : ℕ}
     (e : r ≡ newCell (graph (petriNet net) sheet) (entryNode (petriNet net) sheet i)) where
   cell-is : r ≡ newNumber (graph (petriNet net) sheet) (entryNode (petriNet net) sheet i) + 1
@@ -127,15 +124,15 @@ module _ {net sheet cells : List ℕ} {found i : ℕ} (h : NewNodes net sheet ce
     few-transitions = rw et (h .new .readable .arcs .sizes .few-transitions)
 
     pub key-arc-few : ((r - 1) * t ≤ 4096) × (getD sheet (2 + i) 0 % t < 32)
-    key-arc-few = (row-few (r - 1) (omega (arith, number-few, h .few)) few-transitions, omega (arith, few-transitions, mod-lt (getD sheet (2 + i) 0) positive))
+    key-arc-few = (rows-few (r - 1) _ (omega (arith, number-few, h .few)) few-transitions, omega (arith, few-transitions, mod-lt (getD sheet (2 + i) 0) positive))
       where
         positive : 0 < t
         positive = rw et (h .new .readable .arcs .sizes .some-transition)
 
     pub key-count-few : {p : ℕ} (ep : p ≡ placeCount net) → (found * t ≤ 4096) × ((r - 1) * p ≤ 4096) × ((getD sheet (2 + i) 0 - getD sheet 0 0 * t) % p < 32)
     key-count-few {p} ep = (
-      row-few found (h .few) few-transitions,
-      row-few (r - 1) (omega (arith, number-few, h .few)) few-places,
+      rows-few found _ (h .few) few-transitions,
+      rows-few (r - 1) _ (omega (arith, number-few, h .few)) few-places,
       omega (arith, few-places, mod-lt (getD sheet (2 + i) 0 - getD sheet 0 0 * t) positive),
     )
       where

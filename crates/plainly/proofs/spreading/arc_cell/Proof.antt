@@ -1,6 +1,7 @@
 -- `plainly::spreading::arc_cell` meets its contract.
 use Rattle.scan.proofs.Basics.{arith, _∙_}
-use Rattle.plainly.proofs.LookUp.{rows-small, keyed, arc-no-node, arc-no-transition, arc-value}
+use Rattle.sequential.proofs.Entries.{rows-few}
+use Rattle.plainly.proofs.LookUp.{keyed, arc-no-node, arc-no-transition, arc-value}
 use borrow.Author.Needs.{needs}
 use Rattle.plainly.proofs.spreading.arc_cell.Statement.{statement}
 use Rattle.plainly.proofs.spreading.arc_cell.Tie as tie
@@ -23,7 +24,7 @@ mul-value-of c =
     let start = entry at-transitions in
     let a = start .args in
     let z = start .pre .arcs .sizes in
-    omega (arith, rows-small (a .n) (at-transitions .transitions .result) (omega arith) (omega arith))
+    omega (arith, rows-few (a .n) (at-transitions .transitions .result) (omega arith) (omega arith))
 
 add-value-of : tie.Need-add-value-of
 add-value-of c =
@@ -31,7 +32,7 @@ add-value-of c =
     let start = entry at-transitions in
     let a = start .args in
     let z = start .pre .arcs .sizes in
-    omega (arith, rows-small (a .n) (at-transitions .transitions .result) (omega arith) (omega arith))
+    omega (arith, rows-few (a .n) (at-transitions .transitions .result) (omega arith) (omega arith))
 
 value-of-requires : tie.Need-value-of-requires
 value-of-requires c κs = (search (keyed, needs), omega arith)

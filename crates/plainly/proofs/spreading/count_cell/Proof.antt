@@ -1,6 +1,7 @@
 -- `plainly::spreading::count_cell` meets its contract.
 use Rattle.scan.proofs.Basics.{arith, _∙_, getD}
-use Rattle.plainly.proofs.LookUp.{rows-small, keyed, count-no-node, count-no-place, count-value}
+use Rattle.sequential.proofs.Entries.{rows-few}
+use Rattle.plainly.proofs.LookUp.{keyed, count-no-node, count-no-place, count-value}
 use borrow.Author.Needs.{needs}
 use Rattle.plainly.proofs.spreading.count_cell.Statement.{statement}
 use Rattle.plainly.proofs.spreading.count_cell.Tie as tie
@@ -26,7 +27,7 @@ mul-value-of c =
     let a = entry at-places .args in
     omega (
       arith,
-      rows-small (a .n) (at-places .places .result) (omega arith) (omega arith),
+      rows-few (a .n) (at-places .places .result) (omega arith) (omega arith),
     )
 
 add-value-of : tie.Need-add-value-of
@@ -37,8 +38,8 @@ add-value-of c =
     let z = start .pre .arcs .sizes in
     omega (
       arith,
-      rows-small (a .n) (at-places .places .result) (omega arith) (omega arith),
-      rows-small (getD (a .sheet .now) 0 0) (c .transitions .result) (omega arith) (omega arith),
+      rows-few (a .n) (at-places .places .result) (omega arith) (omega arith),
+      rows-few (getD (a .sheet .now) 0 0) (c .transitions .result) (omega arith) (omega arith),
     )
 
 add-value-of-2 : tie.Need-add-value-of-2
@@ -49,8 +50,8 @@ add-value-of-2 c =
     let z = start .pre .arcs .sizes in
     omega (
       arith,
-      rows-small (a .n) (at-places .places .result) (omega arith) (omega arith),
-      rows-small (getD (a .sheet .now) 0 0) (c .transitions .result) (omega arith) (omega arith),
+      rows-few (a .n) (at-places .places .result) (omega arith) (omega arith),
+      rows-few (getD (a .sheet .now) 0 0) (c .transitions .result) (omega arith) (omega arith),
     )
 
 value-of-requires : tie.Need-value-of-requires
