@@ -158,6 +158,13 @@ module _ {net sheet : List ℕ} (readable : Readable net sheet) where
 pub starts-low : {net sheet starts : List ℕ} {counts : Bool} → StartsOf net sheet counts starts → (n : ℕ) → n < nodeCount sheet → getD starts n 0 ≤ 4096
 starts-low {counts = counts} S n l = rw (S .start n l) (start-low (S .readable) counts n)
 
+module _ {net sheet starts classes : List ℕ} {counts level : Bool} {n m : ℕ} (T : TwoRows net sheet starts classes counts level n m) where
+  pub left-low : getD starts n 0 ≤ 4096
+  left-low = starts-low (T .of) n (T .left)
+
+  pub right-low : getD starts m 0 ≤ 4096
+  right-low = starts-low (T .of) m (T .right)
+
 module _ {net sheet starts classes : List ℕ} {counts level : Bool} {n m : ℕ} (T : TwoRows net sheet starts classes counts level n m) (e : level ≡ true) where
   arcs-at : (k : ℕ) → k < nodeCount sheet → getD starts k 0 ≡ firstEntry net sheet false k
   arcs-at k l = T .of .start k l ∙ ap (λ (b : Bool). firstEntry net sheet b k) (T .even e .arcs)

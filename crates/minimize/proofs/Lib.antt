@@ -11,3 +11,4 @@ pub mod Runs
 pub mod NewRows
 pub mod Writing
 pub mod TwoForms
+pub mod Told

@@ -3,6 +3,7 @@ use Rattle.scan.proofs.Basics.{refl, sym, _∙_}
 use borrow.Author.Needs.{needs}
 use Rattle.refusal.proofs.Verdicts.{then-next, then-refused}
 use Rattle.lending.proofs.Laws.{refused-words}
+use Rattle.minimize.proofs.Told.{told}
 use Rattle.minimize.proofs.forms_of.Statement.{statement}
 use Rattle.minimize.proofs.forms_of.Tie as tie
 
@@ -13,14 +14,13 @@ returns c =
 
 returns-2 : tie.Need-returns-2
 returns-2 c =
-    let d = c .before .before .before in
-    let a = sym (d .before .before .before .check .ensures) ∙ d .before .enum-told .given .1 in
-    refused-words (then-next _ _ a ∙ sym (d .check2 .ensures) ∙ c .before .found2 .given .1) refl
+    let at-check2 = c .before .before .before in
+    let at-told = at-check2 .before in
+    let a = sym (at-told .before .before .check .ensures) ∙ at-told .enum-told .given .1 in
+    refused-words (then-next _ _ a ∙ sym (at-check2 .check2 .ensures) ∙ c .before .found2 .given .1) refl
 
 written-requires : tie.Need-written-requires
-written-requires c κs =
-    let d = c .before .before .before .before in
-    (sym (d .before .before .before .check .ensures) ∙ d .before .enum-told .given .1, sym (d .check2 .ensures) ∙ c .before .before .enum-told2 .given .1)
+written-requires c κs = (search (told, needs), search (told, needs))
 
 pub forms-of-spec : {M : Type 1} → statement M
 forms-of-spec =

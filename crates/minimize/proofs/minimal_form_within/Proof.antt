@@ -1,17 +1,16 @@
 -- `minimize::minimal_form_within` meets its contract.
-use Rattle.scan.proofs.Basics.{refl, sym, _∙_}
+use Rattle.scan.proofs.Basics.{refl}
 use Rattle.lending.proofs.Laws.{refused-scratch, served}
 use borrow.Author.Needs.{needs}
+use Rattle.minimize.proofs.Told.{told}
 use Rattle.minimize.proofs.minimal_form_within.Statement.{statement}
 use Rattle.minimize.proofs.minimal_form_within.Tie as tie
 
 returns : tie.Need-returns
-returns c = refused-scratch (sym (c .before .before .before .scratch-fault .ensures) ∙ (c .before .found .given .1)) refl
+returns c = refused-scratch (search (told, needs)) refl
 
 returns-2 : tie.Need-returns-2
-returns-2 c =
-    let d = c .before .before .before .before .before .before in
-    served (sym (d .before .before .before .before .scratch-fault .ensures) ∙ d .before .before .enum-told .given .1) (d .form-into .ensures) (c .before .before .clear-front .ensures)
+returns-2 c = search (served, told, needs)
 
 pub minimal-form-within-spec : {M : Type 1} → statement M
 minimal-form-within-spec =

@@ -19,16 +19,19 @@ Inv-loop net sheet starts classes next counts level n class m₀ m = (m ≤ n) �
 abbrev μ-loop : tie.MeasureT-loop
 μ-loop net sheet starts classes next counts level n class m₀ m = n - m
 
+abbrev entry : tie.After-class Inv-loop μ-loop → tie.Start Inv-loop μ-loop
+entry c = c .before .before .before
+
 element-copy-out-class : tie.Need-element-copy-out-class Inv-loop μ-loop
 element-copy-out-class c = search (node-low, needs)
 
 cast-m : tie.Need-cast-m Inv-loop μ-loop
-cast-m c = let (r, at) = c .before .before .before .pre in omega (arith, own-class-low r (at .node), node-low r (at .node))
+cast-m c = let (r, at) = entry c .pre in omega (arith, own-class-low r (at .node), node-low r (at .node))
 
 loop-holds : tie.Need-loop-holds Inv-loop μ-loop
 unfolding classIn
 loop-holds c =
-    let (r, at) = c .before .before .before .pre in
+    let (r, at) = entry c .pre in
     let low = own-class-low r (at .node) in (
       low,
       node-low r (at .node),
@@ -38,10 +41,11 @@ loop-holds c =
 
 nodes-agree-requires : tie.Need-nodes-agree-requires Inv-loop μ-loop
 nodes-agree-requires c κs =
-    let start = c .before .before .before .before .before in
+    let at-loop = c .before in
+    let start = entry (at-loop .before) in
     let (r, at) = start .pre in
     let less = c .loop-test .taken in
-    let m : c .before .loop .m < nodeCount (start .args .sheet .now) = omega (arith, less) in
+    let m : at-loop .loop .m < nodeCount (start .args .sheet .now) = omega (arith, less) in
     record {
       of = r .of;
       long = r .long;
@@ -51,33 +55,39 @@ nodes-agree-requires c κs =
         arcs = r .arcs e;
         inner = omega (arith, less);
         offers = r .offers
-            e _ _ m (at .node) (c .before .loop .inv .3 less);
+            e _ _ m (at .node) (at-loop .loop .inv .3 less);
       };
     }
 
 returns : tie.Need-returns Inv-loop μ-loop
 unfolding leaderBy inClass
 returns c =
-    let (l, low, none, one) = c .before .before .before .loop .inv in
-    let less = c .before .before .loop-test .taken in
-    sym (least-found _ _ _ none (split-by-rows _ _ _ _ _ (one less) ∙ sym (c .before .nodes-agree .ensures) ∙ c .if1 .taken) less)
+    let at-nodes-agree = c .before in
+    let at-test = at-nodes-agree .before in
+    let (l, low, none, one) = at-test .before .loop .inv in
+    let less = at-test .loop-test .taken in
+    sym (least-found _ _ _ none (split-by-rows _ _ _ _ _ (one less) ∙ sym (at-nodes-agree .nodes-agree .ensures) ∙ c .if1 .taken) less)
 
 loop-again : tie.Need-loop-again Inv-loop μ-loop
 unfolding classIn
 loop-again c =
-    let at-nodes-agree = c .before .before in
-    let (l, low, none, one) = at-nodes-agree .before .before .loop .inv in
-    let less = at-nodes-agree .before .loop-test .taken in
-    let (r, at) = at-nodes-agree .before .before .before .before .before .before .pre in
+    let at-if1 = c .before in
+    let at-nodes-agree = at-if1 .before in
+    let at-test = at-nodes-agree .before in
+    let at-loop = at-test .before in
+    let (l, low, none, one) = at-loop .loop .inv in
+    let less = at-test .loop-test .taken in
+    let (r, at) = entry (at-loop .before) .pre in
     let found = c .next-least .ensures in
-    let here = leader-not _ _ _ none (split-by-rows _ _ _ _ _ (one less) ∙ sym (at-nodes-agree .nodes-agree .ensures) ∙ c .before .if1 .left) in
+    let here = leader-not _ _ _ none (split-by-rows _ _ _ _ _ (one less) ∙ sym (at-nodes-agree .nodes-agree .ensures) ∙ at-if1 .if1 .left) in
     (found .high, low, leader-skip _ _ _ _ _ _ here (found .low) (λ j a b q e. found .skips j a b (q, at .led .leads j (omega arith) ∙ e)), found .is)
 
 returns-2 : tie.Need-returns-2 Inv-loop μ-loop
 unfolding leaderBy
 returns-2 c =
-    let (l, low, none, one) = c .before .loop .inv in
-    let e : c .before .loop .m ≡ c .before .before .before .before .before .args .n = omega arith in
+    let at-loop = c .before in
+    let (l, low, none, one) = at-loop .loop .inv in
+    let e : at-loop .loop .m ≡ entry (at-loop .before) .args .n = omega arith in
     sym (least-none _ _ (rw e at none))
 
 pub leader-spec : {M : Type 1} → statement M

@@ -12,39 +12,46 @@ Inv-loop sheet classes counts width a b i j x₀ y₀ t₀ x y t = Walk sheet cl
 abbrev μ-loop : tie.MeasureT-loop
 μ-loop sheet classes counts width a b i j x₀ y₀ t₀ x y t = width - t
 
+abbrev after-has-key : tie.Else1 Inv-loop μ-loop → tie.After-has-key Inv-loop μ-loop
+after-has-key c = c .before .before
+
+abbrev turn : tie.Else1 Inv-loop μ-loop → tie.In-loop Inv-loop μ-loop
+turn c = after-has-key c .before
+
 returns : tie.Need-returns Inv-loop μ-loop
 returns c = search (walk-differ, not-true, needs)
 
 values-agree-requires : tie.Need-values-agree-requires Inv-loop μ-loop
 values-agree-requires c κs =
-    let d = c .before .before .before in
-    walk-values (d .before .before .loop .inv) (d .before .loop-test .taken) (d .has-key .ensures) (c .before .before .has-key2 .ensures)
-    (not-false _ (c .before .if1 .left)) (c .if2 .taken)
+    let at-if1 = c .before in
+    let at-test = turn at-if1 in
+    walk-values (at-test .before .loop .inv) (at-test .loop-test .taken) (after-has-key at-if1 .has-key .ensures) (at-if1 .before .has-key2 .ensures)
+    (not-false _ (at-if1 .if1 .left)) (c .if2 .taken)
 
 returns-2 : tie.Need-returns-2 Inv-loop μ-loop
-returns-2 c =
-    let e = c .before .before in
-    let d = e .before .before .before in
-    walk-apart (d .before .before .loop .inv) (d .before .loop-test .taken) (d .has-key .ensures) (e .before .before .has-key2 .ensures)
-    (not-false _ (e .before .if1 .left)) (e .if2 .taken) (sym (c .before .values-agree .ensures) ∙ not-true _ (c .if3 .taken))
+returns-2 c = let apart = sym (c .before .values-agree .ensures) ∙ not-true _ (c .if3 .taken) in search (walk-apart, not-false, needs)
 
 loop-again : tie.Need-loop-again Inv-loop μ-loop
 loop-again c =
-    let e = c .before .before in
-    let d = e .before .before .before in
-    walk-hit (d .before .before .loop .inv) (d .before .loop-test .taken) (d .has-key .ensures) (e .before .before .has-key2 .ensures)
-    (not-false _ (e .before .if1 .left)) (e .if2 .taken) (sym (c .before .values-agree .ensures) ∙ not-false _ (c .if3 .left))
+    let at-values-agree = c .before in
+    let at-if2 = at-values-agree .before in
+    let at-if1 = at-if2 .before in
+    let at-test = turn at-if1 in
+    walk-hit (at-test .before .loop .inv) (at-test .loop-test .taken) (after-has-key at-if1 .has-key .ensures) (at-if1 .before .has-key2 .ensures)
+    (not-false _ (at-if1 .if1 .left)) (at-if2 .if2 .taken) (sym (at-values-agree .values-agree .ensures) ∙ not-false _ (c .if3 .left))
 
 loop-again-2 : tie.Need-loop-again-2 Inv-loop μ-loop
 loop-again-2 c =
-    let d = c .before .before .before in
-    walk-miss (d .before .before .loop .inv) (d .before .loop-test .taken) (d .has-key .ensures) (c .before .before .has-key2 .ensures)
-    (not-false _ (c .before .if1 .left)) (c .if2 .left)
+    let at-if1 = c .before in
+    let at-test = turn at-if1 in
+    walk-miss (at-test .before .loop .inv) (at-test .loop-test .taken) (after-has-key at-if1 .has-key .ensures) (at-if1 .before .has-key2 .ensures)
+    (not-false _ (at-if1 .if1 .left)) (c .if2 .left)
 
 returns-3 : tie.Need-returns-3 Inv-loop μ-loop
 returns-3 c =
-    let w = c .before .loop in
-    let e : w .t ≡ c .before .before .before .before .args .width = omega arith in
+    let at-loop = c .before in
+    let w = at-loop .loop in
+    let e : w .t ≡ at-loop .before .before .before .args .width = omega arith in
     sym (rw e at (w .inv .agreed))
 
 pub rows-agree-spec : {M : Type 1} → statement M

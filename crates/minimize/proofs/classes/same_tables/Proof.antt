@@ -24,7 +24,10 @@ unfolding sameEntry classIn
 loop-again-2 c = (omega arith, c .before .before .before .before .loop .inv .1 ∙ all-keeps _ _ (eq-eqb _ _ (c .if1 .left)))
 
 returns : tie.Need-returns Inv-loop μ-loop
-returns c = let e : (c .before .loop .i) ≡ (c .before .before .args .nodes) = omega arith in rw e at (c .before .loop .inv .1)
+returns c =
+    let at-loop = c .before in
+    let e : (at-loop .loop .i) ≡ (at-loop .before .args .nodes) = omega arith in
+    rw e at (at-loop .loop .inv .1)
 
 pub same-tables-spec : {M : Type 1} → statement M
 same-tables-spec =

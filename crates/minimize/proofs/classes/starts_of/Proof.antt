@@ -21,22 +21,24 @@ loop-holds c = (search needs, omega arith, refl, λ j l. absurd (omega arith))
 start : tie.Need-loop-again Inv-loop μ-loop
 unfolding firstEntry
 start c =
-    let at-loop = c .before .before .before in
+    let at-first-key = c .before in
+    let at-loop = at-first-key .before .before in
     let (r, l, long, is) = at-loop .loop .inv in
     let w = at-loop .loop in
-    (r, omega arith, simp length-set long, stored-more (firstEntry _ _ _) (w .starts) (w .n) _ is (omega arith) (c .lower-bound .ensures ∙ rw (c .before .first-key .ensures)))
+    (r, omega arith, simp length-set long, stored-more (firstEntry _ _ _) (w .starts) (w .n) _ is (omega arith) (c .lower-bound .ensures ∙ rw (at-first-key .first-key .ensures)))
 
 cast-starts : tie.Need-cast-starts Inv-loop μ-loop
 unfolding firstEntry
 cast-starts c =
-    let at-loop = c .before .before .before in
+    let at-first-key = c .before in
+    let at-loop = at-first-key .before .before in
     let a = at-loop .before .before .before .before .before .args in
     let w = at-loop .loop in
-    let e : c .lower-bound .result ≡ firstEntry (a .net .now) (a .sheet .now) (a .counts) (w .n) = c .lower-bound .ensures ∙ rw (c .before .first-key .ensures) in
+    let e : c .lower-bound .result ≡ firstEntry (a .net .now) (a .sheet .now) (a .counts) (w .n) = c .lower-bound .ensures ∙ rw (at-first-key .first-key .ensures) in
     omega (arith, e, start-low (w .inv .0) (a .counts) (w .n))
 
 returns : tie.Need-returns Inv-loop μ-loop
-returns c = record { readable = c .before .loop .inv .0; start = λ n l. (c .before .loop .inv .3) n (omega arith) }
+returns c = let (r, l, long, is) = c .before .loop .inv in record { readable = r; start = λ n l. is n (omega arith) }
 
 pub starts-of-spec : {M : Type 1} → statement M
 starts-of-spec =

@@ -35,8 +35,9 @@ row-size-requires-2 c κs = let r = new-row (c .before .before .before .loop .in
 
 loop-again : tie.Need-loop-again Inv-loop μ-loop
 loop-again c =
-    let (h, low, is, most) = c .before .before .before .before .loop .inv in
-    let r = new-row h (c .before .before .if1 .taken) refl in
+    let at-if1 = c .before .before in
+    let (h, low, is, most) = at-if1 .before .before .loop .inv in
+    let r = new-row h (at-if1 .if1 .taken) refl in
     let a = rows-count h ArcKeys r in
     let b = rows-count h CountKeys r in (
       h,

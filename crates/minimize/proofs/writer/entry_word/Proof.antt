@@ -23,7 +23,9 @@ returns-2 c = rw (c .before .enum-told2 .given .1) refl
 
 returns-3 : tie.Need-returns-3
 unfolding entryWord numberIn
-returns-3 c = c .wide .ensures ∙ rw (c .before .before .before .enum-told3 .given .1, c .before .before .entry-value .ensures) refl
+returns-3 c =
+    let at-entry-value = c .before .before in
+    c .wide .ensures ∙ rw (at-entry-value .before .enum-told3 .given .1, at-entry-value .entry-value .ensures) refl
 
 returns-4 : tie.Need-returns-4
 unfolding entryWord

@@ -10,21 +10,27 @@ use Rattle.minimize.proofs.Writing.{form-length}
 use Rattle.minimize.proofs.writer.write.Statement.{statement}
 use Rattle.minimize.proofs.writer.write.Tie as tie
 
+abbrev entry : tie.After-output-fault → tie.Start
+entry c = c .before .before .before .before .before
+
 returns : tie.Need-returns
 returns c =
-    let d = c .before .before .before in
-    let p = d .before .before .before .before .before .pre in
-    let e = form-length (p .1) _ (d .before .entry-count .ensures .are) in
-    refused-one refl (p .0) (rw (← e) at (sym (d .output-fault .ensures) ∙ c .before .found .given .1)) refl
+    let at-found = c .before in
+    let at-output-fault = at-found .before .before in
+    let p = entry at-output-fault .pre in
+    let e = form-length (p .1) _ (at-output-fault .before .entry-count .ensures .are) in
+    refused-one refl (p .0) (rw (← e) at (sym (at-output-fault .output-fault .ensures) ∙ at-found .found .given .1)) refl
 
 returns-2 : tie.Need-returns-2
 returns-2 c =
     let at-write-form = c .before .before in
-    let d = at-write-form .before .before .before .before in
-    let p = d .before .before .before .before .before .pre in
-    let a = d .before .before .before .before .before .args in
-    let e = form-length (p .1) _ (d .before .entry-count .ensures .are) in
-    let f = sym (d .output-fault .ensures) ∙ at-write-form .before .before .enum-told .given .1 in
+    let at-enum-told = at-write-form .before .before in
+    let at-output-fault = at-enum-told .before .before in
+    let start = entry at-output-fault in
+    let p = start .pre in
+    let a = start .args in
+    let e = form-length (p .1) _ (at-output-fault .before .entry-count .ensures .are) in
+    let f = sym (at-output-fault .output-fault .ensures) ∙ at-enum-told .enum-told .given .1 in
     let z : length (minimalForm (a .net .now) (a .sheet .now)) ≤ length (a .out .now) = omega (arith, e, room-holds _ _ f) in
     answered-one refl (p .0) (rw (← e) at f) (ap Written (sym e)) (at-write-form .write-form .ensures ∙ placed-front _ _ z)
 

@@ -19,8 +19,9 @@ abbrev μ-loop : tie.MeasureT-loop
 
 run-of-requires : tie.Need-run-of-requires Inv-loop μ-loop
 run-of-requires c κs =
-    let h = c .before .before .before .before .before .before .before .pre in
-    rw (c .row-width .ensures, c .before .before .first-key .ensures) (row-keyed (h .readable) _ (h .old))
+    let at-first-key = c .before .before in
+    let h = at-first-key .before .before .before .before .before .pre in
+    rw (c .row-width .ensures, at-first-key .first-key .ensures) (row-keyed (h .readable) _ (h .old))
 
 loop-holds : tie.Need-loop-holds Inv-loop μ-loop
 unfolding gather
