@@ -38,12 +38,10 @@ returns c =
     }
 
 loop-again : tie.Need-loop-again Inv-loop μ-loop
-loop-again c =
-    (omega arith, below-more _ _ (c .before .before .before .before .before .loop .inv .1) (search (turn-passes, needs)))
+loop-again c = (omega arith, below-more _ _ (c .before .before .before .before .before .loop .inv .1) (search (turn-passes, needs)))
 
 returns-2 : tie.Need-returns-2 Inv-loop μ-loop
-returns-2 c =
-    record { passes = λ e j k. c .before .loop .inv .1 j (omega arith); fails = λ r e. accepted-refused Accepted r refl e }
+returns-2 c = record { passes = λ e j k. c .before .loop .inv .1 j (omega arith); fails = λ r e. accepted-refused Accepted r refl e }
 
 pub sheets-told-spec : {M : Type 1} → statement M
 sheets-told-spec =
