@@ -19,15 +19,17 @@ abbrev μ-loop : tie.MeasureT-loop
 loop-holds : tie.Need-loop-holds Inv-loop μ-loop
 unfolding tabulate
 loop-holds c =
-    let a = c .before .before .before .args in
+    let start : tie.Start Inv-loop μ-loop = search in
+    let a = start .args in
     let f = count-fits (length (a .out .now)) (a .bytes .now) in
     (omega arith, omega arith, omega arith, c .measure .ensures .0, placed-none _ 0, refl)
 
 loop-again : tie.Need-loop-again Inv-loop μ-loop
 unfolding wordAt
 loop-again c =
+    let start : tie.Start Inv-loop μ-loop = search in
     let w = c .before .before .loop in
-    let a = c .before .before .before .before .before .before .args in (
+    let a = start .args in (
       omega arith,
       w .inv .1,
       w .inv .2,
@@ -39,9 +41,10 @@ loop-again c =
 returns : tie.Need-returns Inv-loop μ-loop
 unfolding wordsOf
 returns c =
+    let at-measure : tie.After-measure Inv-loop μ-loop = search in
     let w = c .before .loop in
-    let m = c .before .before .measure .ensures in
-    let e : w .i ≡ c .before .before .measure .result .words = omega arith in
+    let m = at-measure .measure .ensures in
+    let e : w .i ≡ at-measure .measure .result .words = omega arith in
     record { words = m .0; ragged = m .1; written = w .inv .4 ∙ rw (e, w .inv .3) (decoded-is _ _) }
 
 pub decode-spec : {M : Type 1} → statement M

@@ -6,7 +6,9 @@ use Rattle.octets.proofs.word_from.Tie as tie
 
 returns : tie.Need-returns
 unfolding wordFrom
-returns c = rw (c .before .before .before .byte .ensures .0, c .before .before .byte2 .ensures .0, c .before .byte3 .ensures .0, c .byte4 .ensures .0)
+returns c =
+    let at-byte : tie.After-byte = search in
+    rw (at-byte .byte .ensures .0, c .before .before .byte2 .ensures .0, c .before .byte3 .ensures .0, c .byte4 .ensures .0)
 
 pub word-from-spec : {M : Type 1} → statement M
 word-from-spec =

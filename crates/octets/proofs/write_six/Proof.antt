@@ -25,8 +25,9 @@ loop-holds c = (omega arith, c .lesser .ensures, placed-none _ 0, refl)
 loop-again : tie.Need-loop-again Inv-loop μ-loop
 unfolding byteAt
 loop-again c =
+    let start : tie.Start Inv-loop μ-loop = search in
     let w = c .before .before .loop in
-    let a = c .before .before .before .before .before .args in
+    let a = start .args in
     (omega arith, w .inv .1, rw (w .inv .2, c .byte-of .ensures) (front-more (byteAt 8 (a .t1)) (w .i) (a .out .now)), simp length-set (w .inv .3))
 
 returns : tie.Need-returns Inv-loop μ-loop

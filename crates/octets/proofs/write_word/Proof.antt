@@ -12,21 +12,26 @@ second-fits : tie.Need-slice-write-out-2
 second-fits c = simp length-set (omega (arith, c .before .before .if2 .taken))
 
 third-fits : tie.Need-slice-write-out-3
-third-fits c = simp length-set (omega (arith, c .before .before .before .if2 .taken))
+third-fits c =
+    let at-if2 : tie.Then2 = search in
+    simp length-set (omega (arith, at-if2 .if2 .taken))
 
 fourth-fits : tie.Need-slice-write-out-4
-fourth-fits c = simp length-set (omega (arith, c .before .before .before .before .if2 .taken))
+fourth-fits c =
+    let at-if2 : tie.Then2 = search in
+    simp length-set (omega (arith, at-if2 .if2 .taken))
 
 all-four : tie.Need-returns-2
-all-four c = rw (c .byte-of4 .ensures, c .before .byte-of3 .ensures, c .before .before .byte-of2 .ensures, c .before .before .before .byte-of .ensures)
+all-four c =
+    let at-byte-of : tie.After-byte-of = search in
+    rw (c .byte-of4 .ensures, c .before .byte-of3 .ensures, c .before .before .byte-of2 .ensures, at-byte-of .byte-of .ensures)
 
 one-by-one : tie.Need-returns-3
 one-by-one c =
-    let d = c .before .before in
-    let e = d .before .before .before .before in
-    let f = e .before .before .before .before in
-    let g = f .before .before .before .before in
-    rw (d .write-byte4 .ensures, e .write-byte3 .ensures, f .write-byte2 .ensures, g .write-byte .ensures)
+    let at-write-byte3 : tie.After-write-byte3 = search in
+    let at-write-byte2 : tie.After-write-byte2 = search in
+    let at-write-byte : tie.After-write-byte = search in
+    rw (c .before .before .write-byte4 .ensures, at-write-byte3 .write-byte3 .ensures, at-write-byte2 .write-byte2 .ensures, at-write-byte .write-byte .ensures)
 
 pub write-word-spec : {M : Type 1} → statement M
 write-word-spec =

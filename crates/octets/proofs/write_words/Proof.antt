@@ -21,19 +21,21 @@ loop-holds c = (omega arith, placed-none _ 0, refl)
 
 loop-again : tie.Need-loop-again Inv-loop μ-loop
 loop-again c =
-    let d = c .before .before in
-    let w = d .before .before .before .before .before .loop in
-    let x = d .before .before .wide .ensures in (
+    let at-write-word : tie.After-write-word Inv-loop μ-loop = search in
+    let at-loop : tie.At-loop Inv-loop μ-loop = search in
+    let w = at-loop .loop in
+    let x = at-write-word .before .before .wide .ensures in (
       omega arith,
-      rw (d .write-word .ensures, x, w .inv .1) (word-more _ _ (w .i)),
-      rw (d .write-word .ensures) (simp length-set (w .inv .2)),
+      rw (at-write-word .write-word .ensures, x, w .inv .1) (word-more _ _ (w .i)),
+      rw (at-write-word .write-word .ensures) (simp length-set (w .inv .2)),
     )
 
 returns : tie.Need-returns Inv-loop μ-loop
 unfolding bytesOf
 returns c =
+    let start : tie.Start Inv-loop μ-loop = search in
     let w = c .before .loop in
-    let e : w .i ≡ length (c .before .before .before .before .args .words .now) = omega (arith, c .loop-test .left, w .inv .0) in
+    let e : w .i ≡ length (start .args .words .now) = omega (arith, c .loop-test .left, w .inv .0) in
     rw e at (w .inv .1)
 
 pub write-words-spec : {M : Type 1} → statement M
