@@ -17,14 +17,16 @@ loop-holds c = walk-starts _ _ _ _ _ _ _ (c .lower-bound .ensures)
 
 returns : tie.Need-returns Inv-loop μ-loop
 unfolding entryRow
-returns c = walk-ends _ _ _ _ _ _ _ _ _ (c .before .before .before .loop .inv) (c .before .run-place .ensures) (c .if1 .taken)
+returns c = search (walk-ends, needs)
 
 loop-again : tie.Need-loop-again Inv-loop μ-loop
-loop-again c = walk-goes _ _ _ _ _ _ _ _ _ (c .before .before .before .loop .inv) (c .before .before .loop-test .taken) (c .before .run-place .ensures) (c .if1 .left)
+loop-again c =
+    let at-loop : tie.At-loop Inv-loop μ-loop = search in
+    walk-goes _ _ _ _ _ _ _ _ _ (at-loop .loop .inv) (c .before .before .loop-test .taken) (c .before .run-place .ensures) (c .if1 .left)
 
 returns-2 : tie.Need-returns-2 Inv-loop μ-loop
 unfolding entryRow
-returns-2 c = walk-over _ _ _ _ _ _ _ _ (c .before .loop .inv) (c .loop-test .left)
+returns-2 c = search (walk-over, needs)
 
 pub entry-row-spec : {M : Type 1} → statement M
 entry-row-spec =

@@ -11,11 +11,11 @@ returns c = look-up-miss _ _ _ _ _ (c .before .lower-bound .ensures) (λ l. absu
 
 returns-2 : tie.Need-returns-2
 unfolding keyAt
-returns-2 c = look-up-hit _ _ _ _ _ (c .before .before .before .lower-bound .ensures) (c .before .before .if1 .left) (c .if2 .taken)
+returns-2 c = search (look-up-hit, needs)
 
 returns-3 : tie.Need-returns-3
 unfolding keyAt
-returns-3 c = look-up-miss _ _ _ _ _ (c .before .before .before .lower-bound .ensures) (λ l. c .if2 .left)
+returns-3 c = search (look-up-miss, needs)
 
 pub find-spec : {M : Type 1} → statement M
 find-spec =

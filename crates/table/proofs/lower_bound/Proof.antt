@@ -26,19 +26,21 @@ loop-holds c = (omega arith, omega arith, refl)
 
 loop-again : tie.Need-loop-again Inv-loop μ-loop
 unfolding keyBelow keyAt
-loop-again c = (
-  omega arith,
-  omega arith,
-  sym (turn-up _ _ _ _ (c .before .before .loop-test .taken) (omega arith) (lt-ltb _ _ (c .if3 .taken))) ∙ c .before .before .before .loop .inv .2,
-)
+loop-again c =
+    let at-loop : tie.At-loop Inv-loop μ-loop = search in (
+      omega arith,
+      omega arith,
+      sym (turn-up _ _ _ _ (c .before .before .loop-test .taken) (omega arith) (lt-ltb _ _ (c .if3 .taken))) ∙ at-loop .loop .inv .2,
+    )
 
 loop-again-2 : tie.Need-loop-again-2 Inv-loop μ-loop
 unfolding keyBelow keyAt
-loop-again-2 c = (
-  omega arith,
-  omega arith,
-  sym (turn-down _ _ _ _ (c .before .before .loop-test .taken) (omega arith) (le-ltb _ _ (c .if3 .left))) ∙ c .before .before .before .loop .inv .2,
-)
+loop-again-2 c =
+    let at-loop : tie.At-loop Inv-loop μ-loop = search in (
+      omega arith,
+      omega arith,
+      sym (turn-down _ _ _ _ (c .before .before .loop-test .taken) (omega arith) (le-ltb _ _ (c .if3 .left))) ∙ at-loop .loop .inv .2,
+    )
 
 returns-3 : tie.Need-returns-3 Inv-loop μ-loop
 returns-3 c = sym (bisect-met _ _ _ _ (c .loop-test .left)) ∙ c .before .loop .inv .2 ∙ sym (lower-bound-bisects _ _ _ _ (omega arith))

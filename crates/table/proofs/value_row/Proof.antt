@@ -25,15 +25,17 @@ loop-holds c = (walk-starts _ _ _ _ _ _ _ (c .lower-bound .ensures), omega arith
 
 returns-3 : tie.Need-returns-3 Inv-loop μ-loop
 returns-3 c =
-    walk-ends _ _ _ _ _ _ _ _ _ (c .before .before .before .loop .inv .0) (c .before .run-place .ensures) (c .if3 .taken)
-    ∙ value-row-fits _ _ _ _ _ (c .before .before .before .loop .inv .1)
+    let at-loop : tie.At-loop Inv-loop μ-loop = search in
+    walk-ends _ _ _ _ _ _ _ _ _ (at-loop .loop .inv .0) (c .before .run-place .ensures) (c .if3 .taken)
+    ∙ value-row-fits _ _ _ _ _ (at-loop .loop .inv .1)
 
 loop-again : tie.Need-loop-again Inv-loop μ-loop
 unfolding valueAt
-loop-again c = (
-  walk-goes _ _ _ _ _ _ _ _ _ (c .before .before .before .before .loop .inv .0) (c .before .before .before .loop-test .taken) (c .before .before .run-place .ensures) (c .before .if3 .left),
-  c .before .before .before .before .loop .inv .1,
-)
+loop-again c =
+    let in-loop : tie.In-loop Inv-loop μ-loop = search in (
+      walk-goes _ _ _ _ _ _ _ _ _ (in-loop .before .loop .inv .0) (in-loop .loop-test .taken) (c .before .before .run-place .ensures) (c .before .if3 .left),
+      in-loop .before .loop .inv .1,
+    )
 
 returns-4 : tie.Need-returns-4 Inv-loop μ-loop
 returns-4 c = walk-over _ _ _ _ _ _ _ _ (c .before .loop .inv .0) (c .loop-test .left) ∙ value-row-fits _ _ _ _ _ (c .before .loop .inv .1)
