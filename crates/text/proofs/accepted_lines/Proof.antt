@@ -7,11 +7,7 @@ use Rattle.text.proofs.accepted_lines.Tie as tie
 
 returns : tie.Need-returns
 unfolding acceptedLines
-returns c =
-    let at-bound-lines = c .before .before .before .before .before .before in
-    let at-counts-line = at-bound-lines .before .before .before .before in
-    both-put (at-counts-line .before .before .before .before .answer-line .ensures) (both-put (at-counts-line .counts-line .ensures)
-    (both-put (at-bound-lines .bound-lines .ensures) (c .before .before .form-line .ensures)))
+returns c = search (both-put, needs)
 
 pub accepted-lines-spec : {M : Type 1} → statement M
 accepted-lines-spec =

@@ -7,11 +7,7 @@ use Rattle.text.proofs.answer_line.Tie as tie
 
 returns : tie.Need-returns
 unfolding field answerLine
-returns c =
-    let at-field2 = c .before .before .before .before .before .before in
-    let at-kind-name = at-field2 .before .before .before .before .before in
-    both-put (at-kind-name .before .before .before .before .field .ensures) (both-put (at-kind-name .kind-name .ensures)
-    (both-put (at-field2 .field2 .ensures) (c .before .before .byte .ensures)))
+returns c = search (both-put, needs)
 
 pub answer-line-spec : {M : Type 1} → statement M
 answer-line-spec =

@@ -7,9 +7,7 @@ use Rattle.text.proofs.bound_line.Tie as tie
 
 returns : tie.Need-returns
 unfolding field boundLine
-returns c =
-    both-put (c .before .before .before .before .before .before .before .before .before .before .before .field .ensures)
-    (both-put (c .before .before .before .before .before .before .field2 .ensures) (c .before .before .byte .ensures))
+returns c = search (both-put, needs)
 
 pub bound-line-spec : {M : Type 1} → statement M
 bound-line-spec =

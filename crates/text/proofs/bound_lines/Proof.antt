@@ -19,9 +19,7 @@ loop-holds c = (omega arith, none-joined _ _ _)
 
 loop-again : tie.Need-loop-again Inv-loop μ-loop
 unfolding boundLineOf
-loop-again c =
-    let w = c .before .before .before .before .before .before .loop in
-    (omega arith, more-joined (boundLineOf (c .before .before .before .before .before .before .before .before .before .args .bounds .now)) (w .p) (w .inv .1) (c .before .before .bound-line .ensures))
+loop-again c = search (more-joined, needs)
 
 same-length : tie.Need-same-length Inv-loop μ-loop
 same-length c = ap length (c .before .loop .inv .1 .held) ∙ put-length _ _ _
@@ -29,7 +27,8 @@ same-length c = ap length (c .before .loop .inv .1 .held) ∙ put-length _ _ _
 returns : tie.Need-returns Inv-loop μ-loop
 unfolding boundLines
 returns c =
-    let e : c .before .loop .p ≡ length (c .before .before .before .before .args .bounds .now) = omega arith in
+    let start : tie.Start Inv-loop μ-loop = search in
+    let e : c .before .loop .p ≡ length (start .args .bounds .now) = omega arith in
     rw e at (c .before .loop .inv .1)
 
 pub bound-lines-spec : {M : Type 1} → statement M

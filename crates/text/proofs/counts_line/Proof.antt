@@ -8,9 +8,10 @@ use Rattle.text.proofs.counts_line.Tie as tie
 returns : tie.Need-returns
 unfolding field countsLine
 returns c =
-    let at-field3 = c .before .before .before .before .before .before in
-    let at-field2 = at-field3 .before .before .before .before .before in
-    both-put (at-field2 .before .before .before .before .before .field .ensures) (both-put (at-field2 .field2 .ensures)
+    let at-field3 : tie.After-field3 = search in
+    let at-field2 : tie.After-field2 = search in
+    let at-field : tie.After-field = search in
+    both-put (at-field .field .ensures) (both-put (at-field2 .field2 .ensures)
     (both-put (at-field3 .field3 .ensures) (c .before .before .byte .ensures)))
 
 pub counts-line-spec : {M : Type 1} → statement M

@@ -7,9 +7,7 @@ use Rattle.text.proofs.form_line.Tie as tie
 
 returns : tie.Need-returns
 unfolding formLine
-returns c =
-    both-put (c .before .before .before .before .before .before .before .before .before .before .bytes .ensures)
-    (both-put (c .before .before .before .before .before .before .words .ensures) (c .before .before .byte .ensures))
+returns c = search (both-put, needs)
 
 pub form-line-spec : {M : Type 1} → statement M
 form-line-spec =

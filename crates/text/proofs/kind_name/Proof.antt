@@ -6,20 +6,29 @@ use Rattle.text.proofs.kind_name.Statement.{statement}
 use Rattle.text.proofs.kind_name.Tie as tie
 
 returns : tie.Need-returns
-returns c = rw (c .before .before .before .before .before .match .keys1) (c .before .before .bytes .ensures)
+returns c =
+    let at-match : tie.At-match-keys1 = search in
+    rw (at-match .match .keys1) (c .before .before .bytes .ensures)
 
 returns-2 : tie.Need-returns-2
-returns-2 c = rw (c .before .before .before .before .before .match .keys2) (c .before .before .bytes2 .ensures)
+returns-2 c =
+    let at-match : tie.At-match-keys2 = search in
+    rw (at-match .match .keys2) (c .before .before .bytes2 .ensures)
 
 returns-3 : tie.Need-returns-3
-returns-3 c = rw (c .before .before .before .before .before .match .keys3) (c .before .before .bytes3 .ensures)
+returns-3 c =
+    let at-match : tie.At-match-keys3 = search in
+    rw (at-match .match .keys3) (c .before .before .bytes3 .ensures)
 
 returns-4 : tie.Need-returns-4
-returns-4 c = rw (c .before .before .before .before .before .match .keys4) (c .before .before .bytes4 .ensures)
+returns-4 c =
+    let at-match : tie.At-match-keys4 = search in
+    rw (at-match .match .keys4) (c .before .before .bytes4 .ensures)
 
 returns-5 : tie.Need-returns-5
 returns-5 c =
-    rw (record-name (c .before .before .before .before .before .before .before .args .kind) (omega arith))
+    let start : tie.Start = search in
+    rw (record-name (start .args .kind) (omega arith))
     (c .before .before .bytes5 .ensures)
 
 pub kind-name-spec : {M : Type 1} → statement M

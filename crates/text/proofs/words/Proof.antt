@@ -19,16 +19,15 @@ loop-holds c = (omega arith, none-joined _ _ _)
 
 loop-again : tie.Need-loop-again Inv-loop μ-loop
 unfolding wordOf
-loop-again c =
-    let w = c .before .before .before .before .before .before .loop in
-    (omega arith, more-joined (wordOf (c .before .before .before .before .before .before .before .before .before .args .words .now)) (w .i) (w .inv .1) (c .before .before .word .ensures))
+loop-again c = search (more-joined, needs)
 
 same-length : tie.Need-same-length Inv-loop μ-loop
 same-length c = ap length (c .before .loop .inv .1 .held) ∙ put-length _ _ _
 
 returns : tie.Need-returns Inv-loop μ-loop
 returns c =
-    let e : c .before .loop .i ≡ length (c .before .before .before .before .args .words .now) = omega arith in
+    let start : tie.Start Inv-loop μ-loop = search in
+    let e : c .before .loop .i ≡ length (start .args .words .now) = omega arith in
     rw e at (c .before .loop .inv .1)
 
 pub words-spec : {M : Type 1} → statement M

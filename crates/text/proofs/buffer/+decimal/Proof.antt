@@ -24,11 +24,11 @@ decimal-below t = and 1 decimal-kinds.ps (falls 1 decimal-kinds.ps _<_ μ-decima
 
 returns : (t : ℕ)
     → decimal-lts.Need-returns (byte-reads.Asked, byte-reads.Learnt, two-digits-reads.Asked, two-digits-reads.Learnt, decimal-below t, decimal.Post) (decimal-at t) decimal.Post
-returns t c = one-digit (c .before .before .before .before .before .before .args .n) (omega arith) (c .before .before .byte .ensures)
+returns t c = search (one-digit, needs)
 
 returns-2 : (t : ℕ)
     → decimal-lts.Need-returns-2 (byte-reads.Asked, byte-reads.Learnt, two-digits-reads.Asked, two-digits-reads.Learnt, decimal-below t, decimal.Post) (decimal-at t) decimal.Post
-returns-2 t c = two-put (c .before .before .before .before .before .before .before .args .n) (omega arith) (omega arith) (c .before .before .two-digits .ensures)
+returns-2 t c = search (two-put, needs)
 
 falling : (t : ℕ)
     → decimal-lts.Need-decimal-requires (byte-reads.Asked, byte-reads.Learnt, two-digits-reads.Asked, two-digits-reads.Learnt, decimal-below t, decimal.Post) (decimal-at t) decimal.Post
@@ -36,9 +36,7 @@ falling t c κs = (omega arith, tt)
 
 returns-3 : (t : ℕ)
     → decimal-lts.Need-returns-3 (byte-reads.Asked, byte-reads.Learnt, two-digits-reads.Asked, two-digits-reads.Learnt, decimal-below t, decimal.Post) (decimal-at t) decimal.Post
-returns-3 t c =
-    let n = c .before .before .before .before .before .before .before .before .before .before .before .args .n in
-    two-more n (omega arith) (c .before .before .before .before .before .before .decimal .ensures) (c .before .before .two-digits2 .ensures)
+returns-3 t c = search (two-more, needs)
 
 pub +decimal-spec : {M : Type 1} → statement M
 +decimal-spec = close μ-decimal λ t. decimal-lts.spec

@@ -23,7 +23,7 @@ same-length : tie.Need-same-length Inv-loop μ-loop
 same-length c = ap length (c .before .loop .inv .1 .held) ∙ put-length _ _ _
 
 returns : tie.Need-returns Inv-loop μ-loop
-returns c = all-taken _ (c .before .loop .i) (omega arith) (c .before .loop .inv .1)
+returns c = search (all-taken, needs)
 
 pub bytes-spec : {M : Type 1} → statement M
 bytes-spec =

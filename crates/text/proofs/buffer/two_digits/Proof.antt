@@ -5,7 +5,9 @@ use Rattle.text.proofs.buffer.two_digits.Statement.{statement}
 use Rattle.text.proofs.buffer.two_digits.Tie as tie
 
 returns : tie.Need-returns
-returns c = both-put (c .before .before .before .before .before .before .byte .ensures) (c .before .before .byte2 .ensures)
+returns c =
+    let at-byte : tie.After-byte = search in
+    both-put (at-byte .byte .ensures) (c .before .before .byte2 .ensures)
 
 pub two-digits-spec : {M : Type 1} → statement M
 two-digits-spec =
