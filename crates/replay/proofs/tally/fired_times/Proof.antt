@@ -1,5 +1,5 @@
 -- `replay::tally::fired_times` meets its contract: each transition is counted as often as it fires before the counter.
-use Rattle.scan.proofs.Basics.{_-_, arith}
+use Rattle.scan.proofs.Basics.{_+_, _-_, _≤_, _<_, arith, getD}
 use borrow.Author.Needs.{needs}
 use Rattle.replay.specs.Log.{firingCount}
 use Rattle.replay.proofs.Sides.{Counting, counts-none, counts-fit, counts-more, counts-all}
@@ -19,6 +19,11 @@ cast-n c = omega arith
 loop-holds : tie.Need-loop-holds Inv-loop μ-loop
 loop-holds c = search (counts-none, needs)
 
+-- the transition of the turn has a count, and one more fits
+fits : (c : tie.In-loop Inv-loop μ-loop) → let log = c .before .before .before .args .log .now in let w = c .before .loop in
+    (getD log (1 + w .i) 0 < 32) × (getD (w .parikh) (getD log (1 + w .i) 0) 0 ≤ 4096)
+fits c = counts-fit (c .before .loop .inv) (c .loop-test .taken)
+
 loop-again : tie.Need-loop-again Inv-loop μ-loop
 loop-again c = search (counts-more, needs)
 
@@ -29,11 +34,8 @@ pub fired-times-spec : {M : Type 1} → statement M
 fired-times-spec =
     tie.close
     (tie.spec Inv-loop μ-loop (λ c. search needs) cast-n loop-holds (λ c. search needs) (λ c. search needs) (λ c. search needs)
-    (λ c. let k = counts-fit (c .before .before .loop .inv) (c .before .loop-test .taken) in omega arith)
-    (λ c. let k = counts-fit (c .before .before .loop .inv) (c .before .loop-test .taken) in omega arith)
-    (λ c. counts-fit (c .before .before .loop .inv) (c .before .loop-test .taken) .0)
-    (λ c. let k = counts-fit (c .before .before .loop .inv) (c .before .loop-test .taken) in omega arith)
-    (λ c. counts-fit (c .before .before .loop .inv) (c .before .loop-test .taken) .0) (λ c. search needs)
+    (λ c. let k = fits (c .before) in omega arith) (λ c. let k = fits (c .before) in omega arith) (λ c. fits (c .before) .0)
+    (λ c. let k = fits (c .before) in omega arith) (λ c. fits (c .before) .0) (λ c. search needs)
     (λ c. omega arith)
     loop-again
     returns)
