@@ -1,10 +1,10 @@
 -- The scan over the nodes: nothing is found before node n, and the marks are those of the await nodes below n.
-use Rattle.scan.proofs.Basics.{ℕ, _+_, _≤_, _<_, arith, _≡_, refl, sym, ap, _∙_, Bool, true, false, not, _&&_, ltb, eqb, none, some, List, getD, set, replicate, length-set}
+use Rattle.scan.proofs.Basics.{ℕ, _+_, _<_, arith, _≡_, refl, sym, ap, _∙_, Bool, true, false, not, _&&_, ltb, eqb, some, List, getD, set, replicate, length-set}
 use Prim.Native.Nat.{min}
 use lib.ListN.{getD-replicate}
 use lib.Seq.{getD-set-same, getD-set-other}
 use Rattle.scan.proofs.Tests.{ltb-true, lt-ltb, le-ltb, eqb-true, eqb-false, ne-eqb, byTest, iff→eq}
-use Rattle.scan.specs.Scan.{when, first, bit, tabulate, found}
+use Rattle.scan.specs.Scan.{when, bit, tabulate, found}
 use Rattle.scan.proofs.First.{first-none, first-more, first-hit, orElse-hit, orElse-next}
 use Rattle.scan.proofs.Tabulate.{tabulate-is, tabulate-at, tabulate-length}
 use Rattle.refusal.specs.Refusal.{refusal}
@@ -21,20 +21,13 @@ use Rattle.sequential.specs.Only.{only}
 use Rattle.choice.specs.Rows.{netByRows, present, arcByRow, graphByRows}
 use Rattle.choice.specs.Choices.{ChoicesOf, offerOf}
 use Rattle.choice.specs.Whole.{Offering}
+use Rattle.choice.specs.Passing.{Ground, Passing, Walked}
 use Rattle.choice.specs.Nodes.{offerFault, awaitsBelow, offersFault, awaitMark, awaitMarks, nodesRefused, taskNodesReply}
 use Rattle.choice.specs.declared.NodesAnswer.{NodesAnswer}
 use Rattle.choice.specs.declared.offers.Offer.{Offer}
 use Rattle.choice.specs.declared.offers.Offer.the-variants.{Whole}
 use Rattle.choice.proofs.Choices.{leader-low}
 use Rattle.choice.proofs.Offer.{Tells, offer-tells}
-
--- what does not change in it
-pub record Ground (net : List ℕ) (s : ℕ) (sheet leaders : List ℕ) (source transitions nodes : ℕ) : Type 0 where
-  pub choices : ChoicesOf (only (netByRows net) s) leaders source
-  pub transitions-are : transitions ≡ netByRows net .transitions
-  pub nodes-are : nodes ≡ graphByRows net sheet .nodes
-  pub few-nodes : nodes ≤ 128
-  pub few-transitions : transitions ≤ 32
 
 pub ground-is : {net : List ℕ} {s : ℕ} {sheet leaders : List ℕ} {source transitions nodes : ℕ} → ChoicesOf (only (netByRows net) s) leaders source → transitions ≡ min (transitionCount net) 32
     → nodes ≡ min (nodeCount sheet) 128 → Ground net s sheet leaders source transitions nodes
@@ -43,11 +36,6 @@ ground-is c t n = record { choices = c; transitions-are = unfold netByRows in t;
 -- what the look at one node asks
 pub offering : {net : List ℕ} {s : ℕ} {sheet leaders : List ℕ} {source transitions nodes : ℕ} → Ground net s sheet leaders source transitions nodes → Offering net leaders transitions
 offering {net = net} {s = s} g = record { all = unfold netByRows in (g .transitions-are); led = λ t l m. leader-low (only (netByRows net) s) (g .choices) t (omega (arith, g .transitions-are)) m }
-
-pub record Passing (net : List ℕ) (s : ℕ) (sheet leaders : List ℕ) (source transitions nodes : ℕ) (awaits : List ℕ) (n : ℕ) : Type 0 where
-  pub ground : Ground net s sheet leaders source transitions nodes
-  pub passed : first (offerFault (only (netByRows net) s) (graphByRows net sheet)) n ≡ none
-  pub marks : awaits ≡ tabulate (awaitMark (only (netByRows net) s) (graphByRows net sheet) n) 128
 
 -- ---- marks
 
@@ -98,12 +86,16 @@ module _ {net : List ℕ} {s : ℕ} {sheet leaders : List ℕ} {source transitio
       go true m = refl
       go false m = refl
 
-  pub start : Passing net s sheet leaders source transitions nodes (replicate 128 0) 0
+  start : Passing net s sheet leaders source transitions nodes (replicate 128 0) 0
   start = record { ground = g; passed = first-none _; marks = none-below N A }
 
   pub row-tells : (n : ℕ) (row : List ℕ) (offer : Offer) → row ≡ arcEntryRow net sheet n → offer ≡ offerOf row leaders transitions → Tells N A n offer
   row-tells n row offer e f = rw (f, e) (offer-tells N A n (arcEntryRow net sheet n) leaders transitions (row-offers n) (g .choices .leaders-are) (g .transitions-are)
       (rw (g .transitions-are) at (g .few-transitions)))
+
+-- no node is passed yet
+pub none-passed : {net sheet leaders : List ℕ} {source transitions nodes : ℕ} → Walked net sheet leaders source transitions nodes (replicate 128 0) 0
+none-passed = record { within = omega arith; passing = λ s g. start g }
 
 -- ---- each way on
 

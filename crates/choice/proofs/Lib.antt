@@ -5,6 +5,7 @@ pub mod Choices
 pub mod Whole
 pub mod Offer
 pub mod Answer
+pub mod Passed
 -- what that says of the schedule
 pub mod Right
 pub mod Demands

@@ -1,6 +1,7 @@
 // What the nodes of a schedule offer: refusals 11 to 13, and the await nodes. Only arcs are looked at, not counts.
 mod choice_sets;
 mod offers;
+mod walk;
 
 ghost use mathlib.Core.Path.{_≡_};
 ghost use Prim.Native.Nat.{min};
@@ -32,7 +33,7 @@ fn node_count(sheet: &[u32]) -> usize
     choice_sets::at_most(sheet[0], Limits::NODES)
 }
 
-fn mark_if(set: bool) -> u8
+pub(crate) fn mark_if(set: bool) -> u8
     ensures { λ r. ⌜ r ≡ bit set ⌝ }
 {
     if set {
@@ -67,8 +68,10 @@ pub fn task_nodes(net: &[u32], s: u32, sheet: &[u32]) -> NodesAnswer
     let source = choices.source;
     let transitions = choice_sets::transitions(net);
     let nodes = node_count(sheet);
-    let mut awaits = [0u8; 128];
-    let mut n = 0;
+    let walk = walk::walked(net, sheet, &leaders, source, transitions, nodes);
+    let mut awaits = walk.awaits;
+    let mut n = walk.nodes;
+    // where the walk stopped: a node that is refused, or words whose keys do not rise
     while n < nodes {
         let offer = offers::offer_at(net, sheet, &leaders, transitions, n as u32);
         match offer {

@@ -1,7 +1,8 @@
 -- `choice::task_nodes` meets its contract: nothing is found at the nodes before the counter, and their marks are right.
 use Rattle.scan.proofs.Basics.{_-_, _≤_, arith, refl}
 use borrow.Author.Needs.{needs}
-use Rattle.choice.proofs.Answer.{Passing, ground-is, offering, start, row-tells, refused-at, passes-at, busy-root, all-pass}
+use Rattle.choice.specs.Passing.{Passing}
+use Rattle.choice.proofs.Answer.{ground-is, offering, row-tells, refused-at, passes-at, busy-root, all-pass}
 use Rattle.choice.proofs.task_nodes.Statement.{statement}
 use Rattle.choice.proofs.task_nodes.Tie as tie
 
@@ -11,11 +12,22 @@ Inv-loop net s sheet leaders source transitions nodes awaits₀ n₀ awaits n = 
 abbrev μ-loop : tie.MeasureT-loop
 μ-loop net s sheet leaders source transitions nodes awaits₀ n₀ awaits n = nodes - n
 
+walked-requires : tie.Need-walked-requires Inv-loop μ-loop
+walked-requires c κs =
+    let n = c .before in
+    let t = n .before in
+    let sheet = t .before .before .before .before .before .args .sheet .now in
+    (offering (ground-is {sheet = sheet} (t .before .before .choices-only .ensures) (t .transitions .ensures) (n .node-count .ensures)), n .node-count .ensures)
+
 loop-holds : tie.Need-loop-holds Inv-loop μ-loop
-loop-holds c = (omega arith, start (ground-is (c .before .before .before .choices-only .ensures) (c .before .transitions .ensures) (c .node-count .ensures)))
+loop-holds c =
+    let n = c .before .before .before in
+    let t = n .before in
+    let w = c .before .walked .ensures in
+    (w .within, w .passing _ (ground-is (t .before .before .choices-only .ensures) (t .transitions .ensures) (n .node-count .ensures)))
 
 offer-at-requires : tie.Need-offer-at-requires Inv-loop μ-loop
-offer-at-requires c κs = offering (c .before .before .loop .inv .1 .ground)
+offer-at-requires c κs = c .before .before .loop .inv .1 .ground .few-transitions
 
 returns : tie.Need-returns Inv-loop μ-loop
 returns c =
@@ -50,7 +62,7 @@ returns-4 c = all-pass (c .before .before .loop .inv .1) (omega arith) (omega ar
 pub task-nodes-spec : {M : Type 1} → statement M
 task-nodes-spec =
     tie.close
-    (tie.spec Inv-loop μ-loop (λ c κs. search needs) (λ c κs. search needs) (λ c κs. search needs) loop-holds (λ c. search needs)
+    (tie.spec Inv-loop μ-loop (λ c κs. search needs) (λ c κs. search needs) (λ c κs. search needs) walked-requires loop-holds (λ c. search needs)
     offer-at-requires (λ c. search needs) (λ c κs. search needs) returns (λ c. search needs) (λ c κs. search needs)
     returns-2 (λ c. search needs) (λ c κs. search needs) (λ c. search needs) (λ c. search needs) (λ c. search needs) loop-again (λ c. search needs)
     (λ c κs. search needs) returns-3 returns-4)
