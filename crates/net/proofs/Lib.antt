@@ -1,6 +1,7 @@
 -- the checks, number by number
 pub mod Shape
 pub mod Entries
+pub mod Pass
 pub mod Source
 -- weights and capacities as they are answered
 pub mod Accessors

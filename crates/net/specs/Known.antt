@@ -2,10 +2,12 @@
 use Prim.Native.Nat.{ℕ, _+_, _*_, _≤_, _<_}
 use mathlib.Core.Path.{_≡_}
 use mathlib.Core.List.{List}
+use mathlib.Core.Bool.{false}
 use lib.ListN.{length, getD}
 use Rattle.table.specs.Table.{KeyPasses}
-use Rattle.net.specs.Net.{keyCount, weightCount, netKeyLimit}
+use Rattle.net.specs.Net.{keyCount, weightCount, entryWeight, netKeyLimit}
 use Rattle.net.specs.Checks.{NetSizesPass, WeightPasses}
+use Rattle.net.specs.Check.{weightFails}
 
 -- 1 and 2 refuse nothing
 pub record ShapePasses (net : List ℕ) : Type 0 where
@@ -37,3 +39,7 @@ pub record EntryPasses (net : List ℕ) (i : ℕ) : Type 0 where
 pub record EntriesPass (net : List ℕ) : Type 0 where
   pub shape : ShapePasses net
   pub each : (i : ℕ) → i < weightCount net → EntryPasses net i
+
+-- 4 refuses nothing at the first k entries
+pub record WeightsPass (net : List ℕ) (k : ℕ) : Type 0 where
+  pub each : (i : ℕ) → i < k → weightFails (entryWeight net i) ≡ false

@@ -7,6 +7,7 @@ ghost use Rattle.net.specs.Known.{Known, EntryAt};
 ghost use Rattle.net.specs.Check.{sizesPass, shapeFault, weightFails, entryFault};
 ghost use Rattle.refusal.specs.Limits.{mostPlaces, mostTransitions};
 ghost use Rattle.refusal.specs.Verdict.{verdictOf};
+use super::word_pass;
 use refusal::Limits;
 use refusal::Position;
 use refusal::Refusal;
@@ -58,7 +59,7 @@ pub(crate) fn shape_fault(net: &[u32]) -> Verdict
 }
 
 // Whether a weight breaks §2.4.
-fn weight_fails(weight: u32) -> bool
+pub(crate) fn weight_fails(weight: u32) -> bool
     ensures { λ r. ⌜ r ≡ weightFails weight ⌝ }
 {
     if weight == 0 {
@@ -81,12 +82,15 @@ fn entry_fault(net: &[u32], entries: usize, limit: u32, i: usize) -> Verdict
     Verdict::Accepted
 }
 
-// Refusals 3 and 4.
+// Refusals 3 and 4: one quick test of all entries, and only if that fails entry by entry.
 pub(crate) fn entries_fault(net: &[u32]) -> Verdict
     requires { ⌜ Known (now net) ⌝ }
     ensures { λ r. ⌜ r ≡ verdictOf (first (entryFault (now (net .entry))) (weightCount (now (net .entry)))) ⌝ }
 {
     let limit = key_count(net[0], net[1]);
+    if word_pass::entries_pass(net, limit) {
+        return Verdict::Accepted;
+    }
     let entries = net[2] as usize;
     let mut i = 0;
     while i < entries {
