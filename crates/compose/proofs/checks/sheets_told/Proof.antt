@@ -28,17 +28,17 @@ cast-t17 c = omega arith
 
 returns : tie.Need-returns Inv-loop μ-loop
 returns c =
-    let at-task-verdict = c .before .before in
-    let at-test = at-task-verdict .before .before in
-    let s = at-test .before .before .before .before .before .before .before .pre in
-    let k = at-test .loop-test .taken in
+    let in-loop : tie.In-loop Inv-loop μ-loop = search in
+    let at-task-verdict : tie.After-task-verdict Inv-loop μ-loop = search in
+    let start : tie.Start Inv-loop μ-loop = search in
+    let k = in-loop .loop-test .taken in
     record {
       passes = λ e. accepted-refused _ _ e (c .enum-told .given .1);
-      fails = λ r e. record { below = k; before = at-test .before .loop .inv .1; there = turn-fails _ _ _ _ _ _ s k (search needs) (at-task-verdict .task-verdict .ensures) r e };
+      fails = λ r e. record { below = k; before = in-loop .before .loop .inv .1; there = turn-fails _ _ _ _ _ _ (start .pre) k (search needs) (at-task-verdict .task-verdict .ensures) r e };
     }
 
 loop-again : tie.Need-loop-again Inv-loop μ-loop
-loop-again c = (omega arith, below-more _ _ (c .before .before .before .before .before .loop .inv .1) (search (turn-passes, needs)))
+loop-again c = let at-loop : tie.At-loop Inv-loop μ-loop = search in (omega arith, below-more _ _ (at-loop .loop .inv .1) (search (turn-passes, needs)))
 
 returns-2 : tie.Need-returns-2 Inv-loop μ-loop
 returns-2 c = record { passes = λ e j k. c .before .loop .inv .1 j (omega arith); fails = λ r e. accepted-refused Accepted r refl e }
