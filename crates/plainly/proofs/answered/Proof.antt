@@ -7,9 +7,6 @@ use borrow.Author.Needs.{needs}
 use Rattle.plainly.proofs.answered.Statement.{statement}
 use Rattle.plainly.proofs.answered.Tie as tie
 
-abbrev after-spread-sheet : tie.After-judged-arg → tie.After-spread-sheet
-after-spread-sheet c = c .before .before .before
-
 returns : tie.Need-returns
 returns c = (search (refused-answer, needs), record { same-length = refl; past = λ k l. refl })
 
@@ -18,32 +15,33 @@ readable : (c : tie.After-enum-told) → let a = c .before .before .before .befo
 readable c = reply-readable _ _ (sym (search needs) ∙ c .enum-told .given .1)
 
 shared-slice-read-spread-net : tie.Need-shared-slice-read-spread-net
-shared-slice-read-spread-net c = let r = readable (c .before) in omega arith
+shared-slice-read-spread-net c = let r = readable search in omega arith
 
 cast-spread-net : tie.Need-cast-spread-net
-cast-spread-net c = let r = readable (c .before) in omega arith
+cast-spread-net c = let r = readable search in omega arith
 
 spread-net-requires : tie.Need-spread-net-requires
 spread-net-requires c κs = readable (c .before) .arcs .accepted
 
 spread-sheet-requires : tie.Need-spread-sheet-requires
-spread-sheet-requires c κs = (readable (c .before .before .before), search needs)
+spread-sheet-requires c κs = (readable search, search needs)
 
 judged-requires : tie.Need-judged-requires
 judged-requires c κs =
-    let at-spread-net = after-spread-sheet c .before .before in
-    let r = readable (at-spread-net .before .before) in
+    let r = readable search in
+    let at-spread-net : tie.After-spread-net = search in
     let (tables, nodes) = at-spread-net .spread-net .ensures in
     search (fit, needs)
 
 returns-2 : tie.Need-returns-2
 returns-2 c =
-    let at-spread-sheet = after-spread-sheet (c .before) in
-    let at-spread-net = at-spread-sheet .before .before in
-    let at-told = at-spread-net .before .before in
+    let at-spread-sheet : tie.After-spread-sheet = search in
+    let at-spread-net : tie.After-spread-net = search in
+    let check-told : tie.After-enum-told = search in
+    let at-check : tie.After-check = search in
     let (tables, nodes) = at-spread-net .spread-net .ensures in
-    let e = at-told .before .before .check .ensures in
-    let a = at-told .enum-told .given .1 in
+    let e = at-check .check .ensures in
+    let a = check-told .enum-told .given .1 in
     let grid = at-spread-sheet .spread-sheet .ensures in
     (accepted-answer _ _ e a (spread-answer _ _ (sym e ∙ a) _ tables nodes _ (grid .spread) (c .judged .ensures)), grid .front)
 

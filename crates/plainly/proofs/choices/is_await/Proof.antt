@@ -23,7 +23,7 @@ is-source-requires c κs = (search needs, omega arith)
 
 returns : tie.Need-returns Inv-loop μ-loop
 unfolding cellsAwait awaitCell hasArc
-returns c = sym (all-fails _ _ _ (c .before .before .before .loop-test .taken) (rw (← c .before .is-source .ensures) (not-true _ (c .if1 .taken))))
+returns c = let in-loop : tie.In-loop Inv-loop μ-loop = search in sym (all-fails _ _ _ (in-loop .loop-test .taken) (rw (← c .before .is-source .ensures) (not-true _ (c .if1 .taken))))
 
 loop-again : tie.Need-loop-again Inv-loop μ-loop
 unfolding awaitCell hasArc
@@ -32,8 +32,9 @@ loop-again c = (omega arith, all-more _ _ (search needs) (rw (← c .before .is-
 returns-2 : tie.Need-returns-2 Inv-loop μ-loop
 unfolding cellsAwait
 returns-2 c =
-    let at-loop = c .before in
-    let e : at-loop .loop .t ≡ at-loop .before .before .before .args .transitions = omega arith in
+    let at-loop : tie.At-loop Inv-loop μ-loop = search in
+    let start : tie.Start Inv-loop μ-loop = search in
+    let e : at-loop .loop .t ≡ start .args .transitions = omega arith in
     sym (rw e at (at-loop .loop .inv .1))
 
 pub is-await-spec : {M : Type 1} → statement M

@@ -19,7 +19,7 @@ unfolding all
 loop-holds c = (omega arith, refl)
 
 draws-alike-requires : tie.Need-draws-alike-requires Inv-loop μ-loop
-draws-alike-requires c κs = let (z, l, m) = c .before .before .before .pre in (z, l, omega arith)
+draws-alike-requires c κs = (search needs, search needs, omega arith)
 
 returns : tie.Need-returns Inv-loop μ-loop
 returns c = sym (all-fails _ _ _ (search needs) (sym (c .before .draws-alike .ensures) ∙ not-true _ (c .if1 .taken)))
@@ -29,8 +29,9 @@ loop-again c = (omega arith, all-more _ _ (search needs) (sym (c .before .draws-
 
 returns-2 : tie.Need-returns-2 Inv-loop μ-loop
 returns-2 c =
-    let at-loop = c .before in
-    let e : at-loop .loop .u ≡ at-loop .before .before .args .transitions = omega arith in
+    let at-loop : tie.At-loop Inv-loop μ-loop = search in
+    let start : tie.Start Inv-loop μ-loop = search in
+    let e : at-loop .loop .u ≡ start .args .transitions = omega arith in
     sym (rw e at (at-loop .loop .inv .1))
 
 pub is-free-spec : {M : Type 1} → statement M

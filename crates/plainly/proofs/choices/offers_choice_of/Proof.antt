@@ -31,9 +31,10 @@ same-choice-requires c κs = (
 returns : tie.Need-returns Inv-loop μ-loop
 unfolding cellsChoice choiceCell hasArc
 returns c =
-    let at-test = c .before .before .before in
-    sym (rw (← at-test .before .before .is-free .ensures)
-    (all-fails _ _ _ (at-test .loop-test .taken)
+    let in-loop : tie.In-loop Inv-loop μ-loop = search in
+    let at-is-free : tie.After-is-free Inv-loop μ-loop = search in
+    sym (rw (← at-is-free .is-free .ensures)
+    (all-fails _ _ _ (in-loop .loop-test .taken)
     (rw (← c .before .same-choice .ensures) (not-true _ (c .if1 .taken)))))
 
 loop-again : tie.Need-loop-again Inv-loop μ-loop
@@ -43,8 +44,9 @@ loop-again c = (omega arith, all-more _ _ (search needs) (rw (← c .before .sam
 returns-2 : tie.Need-returns-2 Inv-loop μ-loop
 unfolding cellsChoice
 returns-2 c =
-    let at-loop = c .before in
-    let e : at-loop .loop .u ≡ at-loop .before .before .before .before .args .transitions = omega arith in
+    let at-loop : tie.At-loop Inv-loop μ-loop = search in
+    let start : tie.Start Inv-loop μ-loop = search in
+    let e : at-loop .loop .u ≡ start .args .transitions = omega arith in
     sym (rw (← at-loop .before .is-free .ensures) (rw e at (at-loop .loop .inv .1)))
 
 pub offers-choice-of-spec : {M : Type 1} → statement M

@@ -16,9 +16,6 @@ Inv-loop grid s awaits₀ n₀ awaits n = (n ≤ s .nodes) × (awaits ≡ count 
 abbrev μ-loop : tie.MeasureT-loop
 μ-loop grid s awaits₀ n₀ awaits n = s .nodes - n
 
-abbrev head : tie.After-is-await-arg2 Inv-loop μ-loop → tie.At-loop Inv-loop μ-loop
-head c = c .before .before .before .before
-
 loop-holds : tie.Need-loop-holds Inv-loop μ-loop
 unfolding count
 loop-holds c = (omega arith, refl, search needs)
@@ -28,14 +25,16 @@ is-await-requires c κs = (search (at-row, needs), search (taking, needs))
 
 add-awaits : tie.Need-add-awaits Inv-loop μ-loop
 add-awaits c =
-    let at-loop = head (c .before .before) in
-    let a = at-loop .before .before .args in
+    let at-loop : tie.At-loop Inv-loop μ-loop = search in
+    let start : tie.Start Inv-loop μ-loop = search in
+    let a = start .args in
     let (x, y, z) = at-loop .loop .inv in
     omega (arith, bit-le (c .before .is-await .result), count-le (isAwait (netOf (a .t1)) (graphOf (a .t1) (a .grid .now))) (at-loop .loop .n))
 
 loop-again : tie.Need-loop-again Inv-loop μ-loop
 loop-again c =
-    let (x, y, z) = head (c .before .before) .loop .inv in (
+    let at-loop : tie.At-loop Inv-loop μ-loop = search in
+    let (x, y, z) = at-loop .loop .inv in (
       omega arith,
       rw (
         count-more _ _,
@@ -49,9 +48,10 @@ loop-again c =
 returns : tie.Need-returns Inv-loop μ-loop
 unfolding awaitTotal graphOf
 returns c =
-    let at-loop = c .before in
+    let at-loop : tie.At-loop Inv-loop μ-loop = search in
+    let start : tie.Start Inv-loop μ-loop = search in
     let (x, y, z) = at-loop .loop .inv in
-    let e : at-loop .loop .n ≡ at-loop .before .before .args .t1 .nodes = omega arith in
+    let e : at-loop .loop .n ≡ start .args .t1 .nodes = omega arith in
     rw e at y
 
 pub await-count-spec : {M : Type 1} → statement M

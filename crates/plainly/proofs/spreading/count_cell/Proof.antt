@@ -6,25 +6,20 @@ use borrow.Author.Needs.{needs}
 use Rattle.plainly.proofs.spreading.count_cell.Statement.{statement}
 use Rattle.plainly.proofs.spreading.count_cell.Tie as tie
 
-abbrev after-places : tie.After-transitions → tie.After-places
-after-places c = c .before .before .before .before .before
-
-abbrev entry : tie.After-places → tie.Start
-entry c = c .before .before .before
-
 returns : tie.Need-returns
 returns c = search (count-no-node, needs)
 
 returns-2 : tie.Need-returns-2
-returns-2 c = count-no-place (search needs) _ _ (rw (c .before .before .before .places .ensures) at (c .if2 .taken))
+returns-2 c = let at-places : tie.After-places = search in count-no-place (search needs) _ _ (rw (at-places .places .ensures) at (c .if2 .taken))
 
 mul-first : tie.Need-mul-first
 mul-first c = rw (c .transitions .ensures) (omega arith)
 
 mul-value-of : tie.Need-mul-value-of
 mul-value-of c =
-    let at-places = after-places c in
-    let a = entry at-places .args in
+    let start : tie.Start = search in
+    let at-places : tie.After-places = search in
+    let a = start .args in
     omega (
       arith,
       rows-few (a .n) (at-places .places .result) (omega arith) (omega arith),
@@ -32,8 +27,8 @@ mul-value-of c =
 
 add-value-of : tie.Need-add-value-of
 add-value-of c =
-    let at-places = after-places c in
-    let start = entry at-places in
+    let start : tie.Start = search in
+    let at-places : tie.After-places = search in
     let a = start .args in
     let z = start .pre .arcs .sizes in
     omega (
@@ -44,8 +39,8 @@ add-value-of c =
 
 add-value-of-2 : tie.Need-add-value-of-2
 add-value-of-2 c =
-    let at-places = after-places c in
-    let start = entry at-places in
+    let start : tie.Start = search in
+    let at-places : tie.After-places = search in
     let a = start .args in
     let z = start .pre .arcs .sizes in
     omega (
@@ -59,11 +54,11 @@ value-of-requires c κs = (search (keyed, needs), omega arith)
 
 returns-3 : tie.Need-returns-3
 returns-3 c =
-    let at-transitions = c .before in
-    let e = at-transitions .transitions .ensures in
-    let f = after-places at-transitions .places .ensures in
+    let at-places : tie.After-places = search in
+    let e = c .before .transitions .ensures in
+    let f = at-places .places .ensures in
     (rw (e, f) at (c .value-of .ensures)) ∙ count-value (search needs) _ _
-    (search needs) (rw f at (at-transitions .before .before .if2 .left))
+    (search needs) (rw f at (c .before .before .before .if2 .left))
 
 pub count-cell-spec : {M : Type 1} → statement M
 count-cell-spec =

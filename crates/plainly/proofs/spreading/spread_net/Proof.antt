@@ -19,18 +19,16 @@ Inv-loop net nodes starts capacities taken₀ change₀ i₀ taken change i =
 abbrev μ-loop : tie.MeasureT-loop
 μ-loop net nodes starts capacities taken₀ change₀ i₀ taken change i = 1024 - i
 
-abbrev entry : tie.After-capacity-row Inv-loop μ-loop → tie.Start Inv-loop μ-loop
-entry c = c .before .before .before
-
 loop-holds : tie.Need-loop-holds Inv-loop μ-loop
 loop-holds c = (omega arith, refl, refl, λ j l. absurd (omega arith), λ j l. absurd (omega arith))
 
 loop-again : tie.Need-loop-again Inv-loop μ-loop
 loop-again c =
-    let at-taken = c .before .before in
-    let at-loop = at-taken .before .before in
+    let start : tie.Start Inv-loop μ-loop = search in
+    let at-loop : tie.At-loop Inv-loop μ-loop = search in
+    let at-taken : tie.After-taken Inv-loop μ-loop = search in
     let (x, y, z, u, w) = at-loop .loop .inv in
-    let a = accessors _ (entry (at-loop .before) .pre) in
+    let a = accessors _ (start .pre) in
     let i = at-loop .loop .i in
     let takes = at-taken .taken .ensures ∙ a .takes _ _ in
     let changes = c .change-of .ensures ∙ same-change (c .before .put .ensures ∙ a .puts _ _) takes in (
@@ -44,10 +42,11 @@ loop-again c =
 
 returns : tie.Need-returns Inv-loop μ-loop
 returns c =
-    let at-loop = c .before .before .before in
-    let at-capacity-row = at-loop .before in
+    let start : tie.Start Inv-loop μ-loop = search in
+    let at-loop : tie.At-loop Inv-loop μ-loop = search in
+    let at-capacity-row : tie.After-capacity-row Inv-loop μ-loop = search in
     let (x, y, z, u, w) = at-loop .loop .inv in
-    let a = accessors _ (entry at-capacity-row .pre) in (
+    let a = accessors _ (start .pre) in (
       record {
         places-are = c .before .places .ensures;
         transitions-are = c .transitions .ensures;
