@@ -23,7 +23,7 @@ cell-requires : tie.Need-cell-requires Inv-loop μ-loop
 cell-requires c κs = (search needs, c .loop-test .taken)
 
 slice-write-grid : tie.Need-slice-write-grid Inv-loop μ-loop
-slice-write-grid c = let (x, y, z, u, w) = c .before .before .loop .inv in omega arith
+slice-write-grid c = omega arith
 
 loop-again : tie.Need-loop-again Inv-loop μ-loop
 loop-again c =
@@ -39,7 +39,7 @@ loop-again c =
     )
 
 same-length : tie.Need-same-length Inv-loop μ-loop
-same-length c = let (x, y, z, u, w) = c .before .loop .inv in y
+same-length c = search needs
 
 returns : tie.Need-returns Inv-loop μ-loop
 returns c = let (x, y, z, u, w) = c .before .loop .inv in record { spread = record { long = omega arith; cells = λ k l. u k (omega arith) }; front = record { same-length = y; past = w } }
