@@ -9,14 +9,16 @@ use Rattle.minimize.proofs.forms_of.Tie as tie
 
 returns : tie.Need-returns
 returns c =
-    let e = sym (c .before .before .before .check .ensures) ∙ c .before .found .given .1 in
+    let at-check : tie.After-check = search in
+    let e = sym (at-check .check .ensures) ∙ c .before .found .given .1 in
     refused-words (then-refused _ _ _ e ∙ e) refl
 
 returns-2 : tie.Need-returns-2
 returns-2 c =
-    let at-check2 = c .before .before .before in
-    let at-told = at-check2 .before in
-    let a = sym (at-told .before .before .check .ensures) ∙ at-told .enum-told .given .1 in
+    let at-check : tie.After-check = search in
+    let check-told : tie.After-enum-told = search in
+    let at-check2 : tie.After-check2 = search in
+    let a = sym (at-check .check .ensures) ∙ check-told .enum-told .given .1 in
     refused-words (then-next _ _ a ∙ sym (at-check2 .check2 .ensures) ∙ c .before .found2 .given .1) refl
 
 written-requires : tie.Need-written-requires

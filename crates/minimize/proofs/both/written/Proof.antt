@@ -4,35 +4,29 @@ use Rattle.minimize.proofs.TwoForms.{first-short, second-short, both-wr
 use Rattle.minimize.proofs.both.written.Statement.{statement}
 use Rattle.minimize.proofs.both.written.Tie as tie
 
-abbrev entry : tie.After-measured2 → tie.Start
-entry c = c .before .before .before .before .before .before .before
-
-abbrev after-measured2 : tie.After-enum-told → tie.After-measured2
-after-measured2 c = c .before .before .before .before .before
-
 returns : tie.Need-returns
 returns c = search (first-short, needs)
 
 returns-2 : tie.Need-returns-2
 returns-2 c =
-    let at-found2 = c .before in
-    let at-output-fault2 = at-found2 .before .before in
-    let at-measured2 = after-measured2 (at-output-fault2 .before) in
-    let (x, y) = entry at-measured2 .pre in
-    second-short x y (at-measured2 .before .measured .ensures) (at-measured2 .measured2 .ensures) (at-output-fault2 .output-fault2 .ensures) (at-found2 .found2 .given .1)
+    let start : tie.Start = search in
+    let at-measured : tie.After-measured = search in
+    let at-measured2 : tie.After-measured2 = search in
+    let at-output-fault2 : tie.After-output-fault2 = search in
+    let (x, y) = start .pre in
+    second-short x y (at-measured .measured .ensures) (at-measured2 .measured2 .ensures) (at-output-fault2 .output-fault2 .ensures) (c .before .found2 .given .1)
 
 returns-3 : tie.Need-returns-3
 returns-3 c =
-    let at-write-form2 = c .before .before in
-    let at-write-form = at-write-form2 .before .before .before .before in
-    let at-enum-told2 = at-write-form .before .before in
-    let at-output-fault2 = at-enum-told2 .before .before in
-    let at-enum-told = at-output-fault2 .before in
-    let at-measured2 = after-measured2 at-enum-told in
-    let (x, y) = entry at-measured2 .pre in
-    both-written x y (at-measured2 .before .measured .ensures) (at-measured2 .measured2 .ensures) (at-enum-told .before .before .output-fault .ensures)
-    (at-enum-told .enum-told .given .1) (at-output-fault2 .output-fault2 .ensures) (at-enum-told2 .enum-told2 .given .1) (at-write-form .write-form .ensures)
-    (at-write-form2 .write-form2 .ensures)
+    let output-fault-told : tie.After-enum-told = search in
+    let at-output-fault2 : tie.After-output-fault2 = search in
+    let output-fault2-told : tie.After-enum-told2 = search in
+    let at-write-form : tie.After-write-form = search in
+    let at-measured2 = output-fault-told .before .before .before .before .before in
+    let at-measured = at-measured2 .before in
+    let (x, y) = at-measured .before .before .before .before .before .before .pre in
+    both-written x y (at-measured .measured .ensures) (at-measured2 .measured2 .ensures) (output-fault-told .before .before .output-fault .ensures) (output-fault-told .enum-told .given .1)
+    (at-output-fault2 .output-fault2 .ensures) (output-fault2-told .enum-told2 .given .1) (at-write-form .write-form .ensures) (c .before .before .write-form2 .ensures)
 
 pub written-spec : {M : Type 1} → statement M
 written-spec =

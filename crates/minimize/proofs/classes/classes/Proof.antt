@@ -20,22 +20,21 @@ Inv-loop net sheet nodes arcs classes₀ rounds₀ classes rounds =
 abbrev μ-loop : tie.MeasureT-loop
 μ-loop net sheet nodes arcs classes₀ rounds₀ classes rounds = nodes - rounds
 
-abbrev after-starts-of2 : tie.After-round Inv-loop μ-loop → tie.After-starts-of2 Inv-loop μ-loop
-after-starts-of2 c = c .before .before .before
-
 round-requires : tie.Need-round-requires Inv-loop μ-loop
 round-requires c κs = search (first-reads, zeros, needs)
 
 round-requires-2 : tie.Need-round-requires-2 Inv-loop μ-loop
 round-requires-2 c κs =
-    let at-round = c .before .before in
-    let S = after-starts-of2 at-round .starts-of2 .ensures in
+    let at-round : tie.After-round Inv-loop μ-loop = search in
+    let at-starts-of2 : tie.After-starts-of2 Inv-loop μ-loop = search in
+    let S = at-starts-of2 .starts-of2 .ensures in
     next-reads (search needs) S (readable-closed (S .readable)) 0 (by-counts _ _ _ (zeros 128) (at-round .round .ensures)) false (λ e. true-false false e refl)
 
 loop-holds : tie.Need-loop-holds Inv-loop μ-loop
 loop-holds c =
-    let at-round = c .before .before .before in
-    let S = after-starts-of2 at-round .starts-of2 .ensures in
+    let at-round : tie.After-round Inv-loop μ-loop = search in
+    let at-starts-of2 : tie.After-starts-of2 Inv-loop μ-loop = search in
+    let S = at-starts-of2 .starts-of2 .ensures in
     let a = readable-closed (S .readable) in
     (omega arith, omega arith, search needs, S, round-more _ a 0 _ (by-counts _ _ _ (zeros 128) (at-round .round .ensures)) _ (by-arcs _ _ _ (c .round2 .ensures)))
 
@@ -44,10 +43,10 @@ round-requires-3 c κs = search (next-reads, readable-closed, needs)
 
 returns : tie.Need-returns Inv-loop μ-loop
 returns c =
-    let at-same-tables = c .before in
-    let at-round3 = at-same-tables .before .before .before in
-    let (some, l, long, S, is) = at-round3 .before .before .before .before .loop .inv in
-    round-last _ (readable-closed (S .readable)) _ _ is _ (by-arcs _ _ _ (at-round3 .round3 .ensures)) (sym (at-same-tables .same-tables .ensures) ∙ c .if1 .taken)
+    let at-loop : tie.At-loop Inv-loop μ-loop = search in
+    let at-round3 : tie.After-round3 Inv-loop μ-loop = search in
+    let (some, l, long, S, is) = at-loop .loop .inv in
+    round-last _ (readable-closed (S .readable)) _ _ is _ (by-arcs _ _ _ (at-round3 .round3 .ensures)) (sym (c .before .same-tables .ensures) ∙ c .if1 .taken)
 
 loop-again : tie.Need-loop-again Inv-loop μ-loop
 loop-again c = search (round-more, readable-closed, by-arcs, needs)

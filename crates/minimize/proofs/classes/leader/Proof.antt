@@ -19,19 +19,20 @@ Inv-loop net sheet starts classes next counts level n class m₀ m = (m ≤ n) �
 abbrev μ-loop : tie.MeasureT-loop
 μ-loop net sheet starts classes next counts level n class m₀ m = n - m
 
-abbrev entry : tie.After-class Inv-loop μ-loop → tie.Start Inv-loop μ-loop
-entry c = c .before .before .before
-
 element-copy-out-class : tie.Need-element-copy-out-class Inv-loop μ-loop
 element-copy-out-class c = search (node-low, needs)
 
 cast-m : tie.Need-cast-m Inv-loop μ-loop
-cast-m c = let (r, at) = entry c .pre in omega (arith, own-class-low r (at .node), node-low r (at .node))
+cast-m c =
+    let start : tie.Start Inv-loop μ-loop = search in
+    let (r, at) = start .pre in
+    omega (arith, own-class-low r (at .node), node-low r (at .node))
 
 loop-holds : tie.Need-loop-holds Inv-loop μ-loop
 unfolding classIn
 loop-holds c =
-    let (r, at) = entry c .pre in
+    let start : tie.Start Inv-loop μ-loop = search in
+    let (r, at) = start .pre in
     let low = own-class-low r (at .node) in (
       low,
       node-low r (at .node),
@@ -41,8 +42,8 @@ loop-holds c =
 
 nodes-agree-requires : tie.Need-nodes-agree-requires Inv-loop μ-loop
 nodes-agree-requires c κs =
+    let start : tie.Start Inv-loop μ-loop = search in
     let at-loop = c .before in
-    let start = entry (at-loop .before) in
     let (r, at) = start .pre in
     let less = c .loop-test .taken in
     let m : at-loop .loop .m < nodeCount (start .args .sheet .now) = omega (arith, less) in
@@ -62,33 +63,31 @@ nodes-agree-requires c κs =
 returns : tie.Need-returns Inv-loop μ-loop
 unfolding leaderBy inClass
 returns c =
-    let at-nodes-agree = c .before in
-    let at-test = at-nodes-agree .before in
-    let (l, low, none, one) = at-test .before .loop .inv in
-    let less = at-test .loop-test .taken in
+    let at-nodes-agree : tie.After-nodes-agree Inv-loop μ-loop = search in
+    let in-loop : tie.In-loop Inv-loop μ-loop = search in
+    let (l, low, none, one) = in-loop .before .loop .inv in
+    let less = in-loop .loop-test .taken in
     sym (least-found _ _ _ none (split-by-rows _ _ _ _ _ (one less) ∙ sym (at-nodes-agree .nodes-agree .ensures) ∙ c .if1 .taken) less)
 
 loop-again : tie.Need-loop-again Inv-loop μ-loop
 unfolding classIn
 loop-again c =
-    let at-if1 = c .before in
-    let at-nodes-agree = at-if1 .before in
-    let at-test = at-nodes-agree .before in
-    let at-loop = at-test .before in
-    let (l, low, none, one) = at-loop .loop .inv in
-    let less = at-test .loop-test .taken in
-    let (r, at) = entry (at-loop .before) .pre in
+    let at-nodes-agree : tie.After-nodes-agree Inv-loop μ-loop = search in
+    let in-loop : tie.In-loop Inv-loop μ-loop = search in
+    let start : tie.Start Inv-loop μ-loop = search in
+    let (l, low, none, one) = in-loop .before .loop .inv in
     let found = c .next-least .ensures in
-    let here = leader-not _ _ _ none (split-by-rows _ _ _ _ _ (one less) ∙ sym (at-nodes-agree .nodes-agree .ensures) ∙ at-if1 .if1 .left) in
-    (found .high, low, leader-skip _ _ _ _ _ _ here (found .low) (λ j a b q e. found .skips j a b (q, at .led .leads j (omega arith) ∙ e)), found .is)
+    let differ = split-by-rows _ _ _ _ _ (one (in-loop .loop-test .taken)) ∙ sym (at-nodes-agree .nodes-agree .ensures) ∙ c .before .if1 .left in
+    let here = leader-not _ _ _ none differ in
+    (found .high, low, leader-skip _ _ _ _ _ _ here (found .low) (λ j a b q e. found .skips j a b (q, start .pre .1 .led .leads j (omega arith) ∙ e)), found .is)
 
 returns-2 : tie.Need-returns-2 Inv-loop μ-loop
 unfolding leaderBy
 returns-2 c =
-    let at-loop = c .before in
-    let (l, low, none, one) = at-loop .loop .inv in
-    let e : at-loop .loop .m ≡ entry (at-loop .before) .args .n = omega arith in
-    sym (least-none _ _ (rw e at none))
+    let start : tie.Start Inv-loop μ-loop = search in
+    let w = c .before .loop in
+    let e : w .m ≡ start .args .n = omega arith in
+    sym (least-none _ _ (rw e at (w .inv .2)))
 
 pub leader-spec : {M : Type 1} → statement M
 leader-spec =

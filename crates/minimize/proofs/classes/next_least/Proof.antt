@@ -20,15 +20,15 @@ returns c = search needs
 loop-again : tie.Need-loop-again Inv-loop μ-loop
 unfolding classIn
 loop-again c =
-    let d = c .before .before .before .before in
-    let (low, high, few, skips) = d .before .loop .inv in
+    let at-loop : tie.At-loop Inv-loop μ-loop = search in
+    let (low, high, few, skips) = at-loop .loop .inv in
     (omega arith, omega arith, few, skips-more _ _ _ skips (λ p. c .if2 .left (p .1)))
 
 loop-again-2 : tie.Need-loop-again-2 Inv-loop μ-loop
 unfolding classIn
 loop-again-2 c =
-    let d = c .before .before in
-    let (low, high, few, skips) = d .before .loop .inv in
+    let at-loop : tie.At-loop Inv-loop μ-loop = search in
+    let (low, high, few, skips) = at-loop .loop .inv in
     (omega arith, omega arith, few, skips-more _ _ _ skips (λ p. c .if1 .left (p .0)))
 
 returns-2 : tie.Need-returns-2 Inv-loop μ-loop

@@ -6,9 +6,6 @@ use Rattle.minimize.proofs.Level.{left-low, right-low, end-inside, end-
 use Rattle.minimize.proofs.classes.nodes_agree.Statement.{statement}
 use Rattle.minimize.proofs.classes.nodes_agree.Tie as tie
 
-abbrev entry : tie.After-j → tie.Start
-entry c = c .before .before .before .before
-
 cast-i : tie.Need-cast-i
 cast-i c = omega (arith, left-low)
 
@@ -19,37 +16,42 @@ element-copy-out-end : tie.Need-element-copy-out-end
 element-copy-out-end c = search (end-inside, needs)
 
 cast-end : tie.Need-cast-end
-cast-end c = let at-if1 = c .before in omega (arith, end-low (entry (at-if1 .before) .pre) (at-if1 .if1 .taken) .1)
+cast-end c =
+    let start : tie.Start = search in
+    omega (arith, end-low (start .pre) (c .before .if1 .taken) .1)
 
 sub-targets-agree : tie.Need-sub-targets-agree
 sub-targets-agree c =
-    let at-if1 = c .before .before in
-    omega (arith, end-low (entry (at-if1 .before) .pre) (at-if1 .if1 .taken) .0)
+    let start : tie.Start = search in
+    let at-if1 : tie.Then1 = search in
+    omega (arith, end-low (start .pre) (at-if1 .if1 .taken) .0)
 
 targets-agree-requires : tie.Need-targets-agree-requires
 targets-agree-requires c κs = search (even-rows, needs)
 
 returns : tie.Need-returns
 returns c =
-    let at-if1 = c .before .before .before in
-    c .targets-agree .ensures ∙ even-walked (entry (at-if1 .before) .pre) (at-if1 .if1 .taken)
+    let start : tie.Start = search in
+    let at-if1 : tie.Then1 = search in
+    c .targets-agree .ensures ∙ even-walked (start .pre) (at-if1 .if1 .taken)
 
 rows-agree-requires : tie.Need-rows-agree-requires
 rows-agree-requires c κs =
-    let at-first-key2 = c .before in
-    let at-first-key = at-first-key2 .before in
-    let at-row-width = at-first-key .before in
-    let p = entry (at-row-width .before .before) .pre in
+    let start : tie.Start = search in
+    let at-row-width : tie.After-row-width = search in
+    let at-first-key : tie.After-first-key = search in
+    let p = start .pre in
     let h = p .of in
-    rw (at-row-width .row-width .ensures, at-first-key .first-key .ensures, at-first-key2 .first-key2 .ensures) (rows (h .readable) (p .long) (p .left)
+    rw (at-row-width .row-width .ensures, at-first-key .first-key .ensures, c .before .first-key2 .ensures) (rows (h .readable) (p .long) (p .left)
     (p .right) (h .start _ (p .left)) (h .start _ (p .right)))
 
 returns-2 : tie.Need-returns-2
 returns-2 c =
-    let at-first-key2 = c .before .before in
-    let at-first-key = at-first-key2 .before in
-    let at-row-width = at-first-key .before in
-    let p = entry (at-row-width .before .before) .pre in
+    let start : tie.Start = search in
+    let at-row-width : tie.After-row-width = search in
+    let at-first-key : tie.After-first-key = search in
+    let at-first-key2 : tie.After-first-key2 = search in
+    let p = start .pre in
     c .rows-agree .ensures ∙ rw (at-row-width .row-width .ensures, at-first-key .first-key .ensures, at-first-key2 .first-key2 .ensures)
     (walked (p .of .readable) _ _ (p .left) (p .right))
 

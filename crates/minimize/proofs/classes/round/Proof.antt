@@ -25,12 +25,14 @@ leader-requires c κs = (search needs, search needs)
 
 cast-next : tie.Need-cast-next Inv-loop μ-loop
 cast-next c =
-    let q : c .leader .result ≤ c .before .before .before .loop .n = rw (c .leader .ensures) (leader-le _ _) in
+    let at-loop : tie.At-loop Inv-loop μ-loop = search in
+    let q : c .leader .result ≤ at-loop .loop .n = rw (c .leader .ensures) (leader-le _ _) in
     omega (arith, q)
 
 loop-again : tie.Need-loop-again Inv-loop μ-loop
 loop-again c =
-    let (l, few, long, is) = c .before .before .before .loop .inv in
+    let at-loop : tie.At-loop Inv-loop μ-loop = search in
+    let (l, few, long, is) = at-loop .loop .inv in
     (omega arith, few, simp length-set long, leaders-more _ _ _ _ is (omega arith) (c .leader .ensures))
 
 returns : tie.Need-returns Inv-loop μ-loop

@@ -12,46 +12,42 @@ Inv-loop sheet classes counts width a b i j x₀ y₀ t₀ x y t = Walk sheet cl
 abbrev μ-loop : tie.MeasureT-loop
 μ-loop sheet classes counts width a b i j x₀ y₀ t₀ x y t = width - t
 
-abbrev after-has-key : tie.Else1 Inv-loop μ-loop → tie.After-has-key Inv-loop μ-loop
-after-has-key c = c .before .before
-
-abbrev turn : tie.Else1 Inv-loop μ-loop → tie.In-loop Inv-loop μ-loop
-turn c = after-has-key c .before
-
 returns : tie.Need-returns Inv-loop μ-loop
 returns c = search (walk-differ, not-true, needs)
 
 values-agree-requires : tie.Need-values-agree-requires Inv-loop μ-loop
 values-agree-requires c κs =
-    let at-if1 = c .before in
-    let at-test = turn at-if1 in
-    walk-values (at-test .before .loop .inv) (at-test .loop-test .taken) (after-has-key at-if1 .has-key .ensures) (at-if1 .before .has-key2 .ensures)
-    (not-false _ (at-if1 .if1 .left)) (c .if2 .taken)
+    let at-has-key : tie.After-has-key Inv-loop μ-loop = search in
+    let at-has-key2 : tie.After-has-key2 Inv-loop μ-loop = search in
+    let in-loop : tie.In-loop Inv-loop μ-loop = search in
+    walk-values (in-loop .before .loop .inv) (in-loop .loop-test .taken) (at-has-key .has-key .ensures) (at-has-key2 .has-key2 .ensures)
+    (not-false _ (c .before .if1 .left)) (c .if2 .taken)
 
 returns-2 : tie.Need-returns-2 Inv-loop μ-loop
 returns-2 c = let apart = sym (c .before .values-agree .ensures) ∙ not-true _ (c .if3 .taken) in search (walk-apart, not-false, needs)
 
 loop-again : tie.Need-loop-again Inv-loop μ-loop
 loop-again c =
-    let at-values-agree = c .before in
-    let at-if2 = at-values-agree .before in
-    let at-if1 = at-if2 .before in
-    let at-test = turn at-if1 in
-    walk-hit (at-test .before .loop .inv) (at-test .loop-test .taken) (after-has-key at-if1 .has-key .ensures) (at-if1 .before .has-key2 .ensures)
-    (not-false _ (at-if1 .if1 .left)) (at-if2 .if2 .taken) (sym (at-values-agree .values-agree .ensures) ∙ not-false _ (c .if3 .left))
+    let at-has-key : tie.After-has-key Inv-loop μ-loop = search in
+    let at-has-key2 : tie.After-has-key2 Inv-loop μ-loop = search in
+    let in-loop : tie.In-loop Inv-loop μ-loop = search in
+    let at-if1 : tie.Else1 Inv-loop μ-loop = search in
+    walk-hit (in-loop .before .loop .inv) (in-loop .loop-test .taken) (at-has-key .has-key .ensures) (at-has-key2 .has-key2 .ensures)
+    (not-false _ (at-if1 .if1 .left)) (c .before .before .if2 .taken) (sym (c .before .values-agree .ensures) ∙ not-false _ (c .if3 .left))
 
 loop-again-2 : tie.Need-loop-again-2 Inv-loop μ-loop
 loop-again-2 c =
-    let at-if1 = c .before in
-    let at-test = turn at-if1 in
-    walk-miss (at-test .before .loop .inv) (at-test .loop-test .taken) (after-has-key at-if1 .has-key .ensures) (at-if1 .before .has-key2 .ensures)
-    (not-false _ (at-if1 .if1 .left)) (c .if2 .left)
+    let at-has-key : tie.After-has-key Inv-loop μ-loop = search in
+    let at-has-key2 : tie.After-has-key2 Inv-loop μ-loop = search in
+    let in-loop : tie.In-loop Inv-loop μ-loop = search in
+    walk-miss (in-loop .before .loop .inv) (in-loop .loop-test .taken) (at-has-key .has-key .ensures) (at-has-key2 .has-key2 .ensures)
+    (not-false _ (c .before .if1 .left)) (c .if2 .left)
 
 returns-3 : tie.Need-returns-3 Inv-loop μ-loop
 returns-3 c =
-    let at-loop = c .before in
-    let w = at-loop .loop in
-    let e : w .t ≡ at-loop .before .before .before .args .width = omega arith in
+    let start : tie.Start Inv-loop μ-loop = search in
+    let w = c .before .loop in
+    let e : w .t ≡ start .args .width = omega arith in
     sym (rw e at (w .inv .agreed))
 
 pub rows-agree-spec : {M : Type 1} → statement M

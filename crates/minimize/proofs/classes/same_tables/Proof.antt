@@ -21,12 +21,15 @@ loop-again c = (omega arith, sym (all-fails _ _ _ (omega arith) (ne-eqb _ _ (c .
 
 loop-again-2 : tie.Need-loop-again-2 Inv-loop μ-loop
 unfolding sameEntry classIn
-loop-again-2 c = (omega arith, c .before .before .before .before .loop .inv .1 ∙ all-keeps _ _ (eq-eqb _ _ (c .if1 .left)))
+loop-again-2 c =
+    let at-loop : tie.At-loop Inv-loop μ-loop = search in
+    (omega arith, at-loop .loop .inv .1 ∙ all-keeps _ _ (eq-eqb _ _ (c .if1 .left)))
 
 returns : tie.Need-returns Inv-loop μ-loop
 returns c =
-    let at-loop = c .before in
-    let e : (at-loop .loop .i) ≡ (at-loop .before .args .nodes) = omega arith in
+    let at-loop : tie.At-loop Inv-loop μ-loop = search in
+    let start : tie.Start Inv-loop μ-loop = search in
+    let e : at-loop .loop .i ≡ start .args .nodes = omega arith in
     rw e at (at-loop .loop .inv .1)
 
 pub same-tables-spec : {M : Type 1} → statement M

@@ -21,20 +21,19 @@ loop-holds c = (search needs, omega arith, refl, λ j l. absurd (omega arith))
 start : tie.Need-loop-again Inv-loop μ-loop
 unfolding firstEntry
 start c =
-    let at-first-key = c .before in
-    let at-loop = at-first-key .before .before in
-    let (r, l, long, is) = at-loop .loop .inv in
+    let at-loop : tie.At-loop Inv-loop μ-loop = search in
     let w = at-loop .loop in
-    (r, omega arith, simp length-set long, stored-more (firstEntry _ _ _) (w .starts) (w .n) _ is (omega arith) (c .lower-bound .ensures ∙ rw (at-first-key .first-key .ensures)))
+    let (r, l, long, is) = w .inv in
+    (r, omega arith, simp length-set long, stored-more (firstEntry _ _ _) (w .starts) (w .n) _ is (omega arith) (c .lower-bound .ensures ∙ rw (c .before .first-key .ensures)))
 
 cast-starts : tie.Need-cast-starts Inv-loop μ-loop
 unfolding firstEntry
 cast-starts c =
-    let at-first-key = c .before in
-    let at-loop = at-first-key .before .before in
-    let a = at-loop .before .before .before .before .before .args in
+    let at-loop : tie.At-loop Inv-loop μ-loop = search in
+    let at-start : tie.Start Inv-loop μ-loop = search in
+    let a = at-start .args in
     let w = at-loop .loop in
-    let e : c .lower-bound .result ≡ firstEntry (a .net .now) (a .sheet .now) (a .counts) (w .n) = c .lower-bound .ensures ∙ rw (at-first-key .first-key .ensures) in
+    let e : c .lower-bound .result ≡ firstEntry (a .net .now) (a .sheet .now) (a .counts) (w .n) = c .lower-bound .ensures ∙ rw (c .before .first-key .ensures) in
     omega (arith, e, start-low (w .inv .0) (a .counts) (w .n))
 
 returns : tie.Need-returns Inv-loop μ-loop

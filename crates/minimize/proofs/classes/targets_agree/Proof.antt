@@ -13,39 +13,43 @@ Inv-loop sheet classes size i j s₀ s = (s ≤ size) × (all (targetsAgree shee
 abbrev μ-loop : tie.MeasureT-loop
 μ-loop sheet classes size i j s₀ s = size - s
 
-abbrev entry : tie.At-loop Inv-loop μ-loop → tie.Start Inv-loop μ-loop
-entry c = c .before .before .before
-
 add-values-agree : tie.Need-add-values-agree Inv-loop μ-loop
-add-values-agree c = let at-loop = c .before in let v = entry at-loop .pre .left (at-loop .loop .s) (c .loop-test .taken) in omega arith
+add-values-agree c =
+    let start : tie.Start Inv-loop μ-loop = search in
+    let v = start .pre .left _ (c .loop-test .taken) in
+    omega arith
 
 add-values-agree-2 : tie.Need-add-values-agree-2 Inv-loop μ-loop
-add-values-agree-2 c = let at-loop = c .before in let v = entry at-loop .pre .right (at-loop .loop .s) (c .loop-test .taken) in omega arith
+add-values-agree-2 c =
+    let start : tie.Start Inv-loop μ-loop = search in
+    let v = start .pre .right _ (c .loop-test .taken) in
+    omega arith
 
 values-agree-requires : tie.Need-values-agree-requires Inv-loop μ-loop
 values-agree-requires c κs =
-    let at-loop = c .before in
-    let p = entry at-loop .pre in
-    (p .left (at-loop .loop .s) (c .loop-test .taken), p .right (at-loop .loop .s) (c .loop-test .taken))
+    let start : tie.Start Inv-loop μ-loop = search in
+    let p = start .pre in
+    let less = c .loop-test .taken in
+    (p .left _ less, p .right _ less)
 
 returns : tie.Need-returns Inv-loop μ-loop
 unfolding targetsAgree
 returns c =
-    let at-values-agree = c .before in
-    sym (all-fails _ _ _ (at-values-agree .before .loop-test .taken) (sym (at-values-agree .values-agree .ensures) ∙ not-true _ (c .if1 .taken)))
+    let in-loop : tie.In-loop Inv-loop μ-loop = search in
+    sym (all-fails _ _ _ (in-loop .loop-test .taken) (sym (c .before .values-agree .ensures) ∙ not-true _ (c .if1 .taken)))
 
 loop-again : tie.Need-loop-again Inv-loop μ-loop
 unfolding targetsAgree
 loop-again c =
-    let at-values-agree = c .before in
-    let (l, is) = at-values-agree .before .before .loop .inv in
-    (omega arith, all-more _ _ is (sym (at-values-agree .values-agree .ensures) ∙ not-false _ (c .if1 .left)))
+    let at-loop : tie.At-loop Inv-loop μ-loop = search in
+    (omega arith, all-more _ _ (at-loop .loop .inv .1) (sym (c .before .values-agree .ensures) ∙ not-false _ (c .if1 .left)))
 
 returns-2 : tie.Need-returns-2 Inv-loop μ-loop
 returns-2 c =
-    let at-loop = c .before in
-    let e : at-loop .loop .s ≡ entry at-loop .args .size = omega arith in
-    sym (rw e at (at-loop .loop .inv .1))
+    let start : tie.Start Inv-loop μ-loop = search in
+    let w = c .before .loop in
+    let e : w .s ≡ start .args .size = omega arith in
+    sym (rw e at (w .inv .1))
 
 pub targets-agree-spec : {M : Type 1} → statement M
 targets-agree-spec =

@@ -10,9 +10,6 @@ use Rattle.minimize.proofs.Agree.{target-read}
 use Rattle.minimize.proofs.classes.values_agree.Statement.{statement}
 use Rattle.minimize.proofs.classes.values_agree.Tie as tie
 
-abbrev entry : tie.Else1 → tie.Start
-entry c = c .before .before .before .before
-
 returns : tie.Need-returns
 unfolding valuesAgree entryValue valueAt
 returns c = rw (c .if1 .taken)
@@ -26,7 +23,7 @@ values-agree-spec =
     tie.close
     (tie.spec (λ c. search needs) (λ c. omega arith) (λ c. omega arith) (λ c. omega arith) (λ c. omega arith) (λ c. omega arith) (λ c. omega arith)
     (λ c. omega arith) (λ c. omega arith) (λ c. omega arith) returns
-    (λ c. omega (arith, target-read (entry c .pre .0) (c .if1 .left)))
+    (λ c. let start : tie.Start = search in omega (arith, target-read (start .pre .0) (c .if1 .left)))
     (λ c. search (target-read, needs))
-    (λ c. omega (arith, target-read (entry (c .before) .pre .1) (c .before .if1 .left)))
+    (λ c. let start : tie.Start = search in omega (arith, target-read (start .pre .1) (c .before .if1 .left)))
     (λ c. search (target-read, needs)) returns-2)

@@ -10,7 +10,8 @@ use Rattle.minimize.proofs.writer.entry_word.Tie as tie
 
 element-copy-out-wide : tie.Need-element-copy-out-wide
 element-copy-out-wide c =
-    let t = c .before .before .before .before .pre .target (c .before .enum-told3 .given .1) in
+    let start : tie.Start = search in
+    let t = start .pre .target (c .before .enum-told3 .given .1) in
     omega arith
 
 returns : tie.Need-returns
@@ -24,8 +25,9 @@ returns-2 c = rw (c .before .enum-told2 .given .1) refl
 returns-3 : tie.Need-returns-3
 unfolding entryWord numberIn
 returns-3 c =
-    let at-entry-value = c .before .before in
-    c .wide .ensures ∙ rw (at-entry-value .before .enum-told3 .given .1, at-entry-value .entry-value .ensures) refl
+    let value-told : tie.After-enum-told3 = search in
+    let at-entry-value : tie.After-entry-value = search in
+    c .wide .ensures ∙ rw (value-told .enum-told3 .given .1, at-entry-value .entry-value .ensures) refl
 
 returns-4 : tie.Need-returns-4
 unfolding entryWord

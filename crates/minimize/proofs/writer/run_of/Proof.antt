@@ -9,9 +9,9 @@ use Rattle.minimize.proofs.writer.run_of.Tie as tie
 sub-size : tie.Need-sub-t9
 unfolding runFrom
 sub-size c =
-    let s = c .before .before .before .before in
-    let p = s .pre in
-    omega (arith, runs-rise (p .rising) (p .fits) (s .args .key) (s .args .width))
+    let start : tie.Start = search in
+    let p = start .pre in
+    omega (arith, runs-rise (p .rising) (p .fits) (start .args .key) (start .args .width))
 
 returns : tie.Need-returns
 unfolding runFrom runSize

@@ -10,27 +10,26 @@ use Rattle.minimize.proofs.Writing.{form-length}
 use Rattle.minimize.proofs.writer.write.Statement.{statement}
 use Rattle.minimize.proofs.writer.write.Tie as tie
 
-abbrev entry : tie.After-output-fault → tie.Start
-entry c = c .before .before .before .before .before
-
 returns : tie.Need-returns
 returns c =
-    let at-found = c .before in
-    let at-output-fault = at-found .before .before in
-    let p = entry at-output-fault .pre in
-    let e = form-length (p .1) _ (at-output-fault .before .entry-count .ensures .are) in
-    refused-one refl (p .0) (rw (← e) at (sym (at-output-fault .output-fault .ensures) ∙ at-found .found .given .1)) refl
+    let start : tie.Start = search in
+    let at-entry-count : tie.After-entry-count = search in
+    let at-output-fault : tie.After-output-fault = search in
+    let p = start .pre in
+    let e = form-length (p .1) _ (at-entry-count .entry-count .ensures .are) in
+    refused-one refl (p .0) (rw (← e) at (sym (at-output-fault .output-fault .ensures) ∙ c .before .found .given .1)) refl
 
 returns-2 : tie.Need-returns-2
 returns-2 c =
-    let at-write-form = c .before .before in
-    let at-enum-told = at-write-form .before .before in
-    let at-output-fault = at-enum-told .before .before in
-    let start = entry at-output-fault in
+    let start : tie.Start = search in
+    let at-entry-count : tie.After-entry-count = search in
+    let at-output-fault : tie.After-output-fault = search in
+    let output-fault-told : tie.After-enum-told = search in
+    let at-write-form : tie.After-write-form = search in
     let p = start .pre in
     let a = start .args in
-    let e = form-length (p .1) _ (at-output-fault .before .entry-count .ensures .are) in
-    let f = sym (at-output-fault .output-fault .ensures) ∙ at-enum-told .enum-told .given .1 in
+    let e = form-length (p .1) _ (at-entry-count .entry-count .ensures .are) in
+    let f = sym (at-output-fault .output-fault .ensures) ∙ output-fault-told .enum-told .given .1 in
     let z : length (minimalForm (a .net .now) (a .sheet .now)) ≤ length (a .out .now) = omega (arith, e, room-holds _ _ f) in
     answered-one refl (p .0) (rw (← e) at f) (ap Written (sym e)) (at-write-form .write-form .ensures ∙ placed-front _ _ z)
 

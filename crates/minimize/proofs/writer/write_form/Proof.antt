@@ -12,15 +12,15 @@ write-section-requires-4 c κs = search needs
 returns : tie.Need-returns
 unfolding minimalForm
 returns c =
-    let c₁ = c .before .before in
-    let c₂ = c₁ .before .before .before .before in
-    let c₃ = c₂ .before .before .before .before in
-    let c₄ = c₃ .before .before .before .before in
-    let c₅ = c₄ .before .before .before .before in
-    let c₆ = c₅ .before .before .before .before in
-    let p = c₆ .before .before .before .before .before .before .pre in
-    words-written _ _ (p .0 .size) _ (p .1 .are) (c₆ .put .ensures) (c₅ .put2 .ensures) (c₄ .write-section .ensures) (c₃ .write-section2 .ensures) (c₂ .write-section3 .ensures)
-    (c₁ .write-section4 .ensures)
+    let at-write-section : tie.After-write-section = search in
+    let at-write-section2 : tie.After-write-section2 = search in
+    let at-write-section3 : tie.After-write-section3 = search in
+    let at-write-section4 : tie.After-write-section4 = search in
+    let at-put2 = at-write-section .before .before .before .before in
+    let at-put = at-put2 .before .before .before .before in
+    let p = at-put .before .before .before .before .before .before .pre in
+    words-written _ _ (p .0 .size) _ (p .1 .are) (at-put .put .ensures) (at-put2 .put2 .ensures) (at-write-section .write-section .ensures) (at-write-section2 .write-section2 .ensures)
+    (at-write-section3 .write-section3 .ensures) (at-write-section4 .write-section4 .ensures)
 
 pub write-form-spec : {M : Type 1} → statement M
 write-form-spec =

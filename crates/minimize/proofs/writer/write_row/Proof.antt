@@ -19,8 +19,9 @@ abbrev μ-loop : tie.MeasureT-loop
 
 run-of-requires : tie.Need-run-of-requires Inv-loop μ-loop
 run-of-requires c κs =
-    let at-first-key = c .before .before in
-    let h = at-first-key .before .before .before .before .before .pre in
+    let start : tie.Start Inv-loop μ-loop = search in
+    let at-first-key : tie.After-first-key Inv-loop μ-loop = search in
+    let h = start .pre in
     rw (c .row-width .ensures, at-first-key .first-key .ensures) (row-keyed (h .readable) _ (h .old))
 
 loop-holds : tie.Need-loop-holds Inv-loop μ-loop
@@ -29,8 +30,8 @@ loop-holds c = (search (running, needs), omega arith, appended-none _ _)
 
 add-entry-word : tie.Need-add-entry-word Inv-loop μ-loop
 add-entry-word c =
-    let (r, l, a) = c .before .before .before .loop .inv in
-    omega (arith, running-worded r (c .before .if1 .taken) .within)
+    let at-loop : tie.At-loop Inv-loop μ-loop = search in
+    omega (arith, running-worded (at-loop .loop .inv .0) (c .before .if1 .taken) .within)
 
 entry-word-requires : tie.Need-entry-word-requires Inv-loop μ-loop
 entry-word-requires c κs = search (running-worded, needs)
@@ -39,7 +40,10 @@ loop-again : tie.Need-loop-again Inv-loop μ-loop
 loop-again c = search (running-more, needs)
 
 returns : tie.Need-returns Inv-loop μ-loop
-returns c = let (r, l, a) = c .before .before .loop .inv in running-all r (omega arith) a
+returns c =
+    let at-loop : tie.At-loop Inv-loop μ-loop = search in
+    let (r, l, a) = at-loop .loop .inv in
+    running-all r (omega arith) a
 
 pub write-row-spec : {M : Type 1} → statement M
 write-row-spec =
