@@ -6,17 +6,16 @@ use borrow.Author.Needs.{needs}
 use Rattle.react.proofs.checked.Statement.{statement}
 use Rattle.react.proofs.checked.Tie as tie
 
-abbrev after-verdict : tie.After-transitions → tie.After-verdict
-after-verdict c = c .before .before .before
-
 durations-fault-requires : tie.Need-durations-fault-requires
-durations-fault-requires c κs = omega (arith, accepted-readable _ _ (sym (after-verdict c .verdict .ensures) ∙ c .before .enum-told2 .given .1) .arcs .sizes .few-transitions)
+durations-fault-requires c κs =
+    let at-verdict : tie.After-verdict = search in
+    omega (arith, accepted-readable _ _ (sym (at-verdict .verdict .ensures) ∙ c .before .enum-told2 .given .1) .arcs .sizes .few-transitions)
 
 returns-2 : tie.Need-returns-2
 returns-2 c =
-    let at-transitions = c .before in
-    durations-told _ _ _ (sym (after-verdict at-transitions .verdict .ensures) ∙ at-transitions .before .enum-told2 .given .1) (at-transitions .transitions .ensures)
-    (c .durations-fault .ensures)
+    let at-verdict : tie.After-verdict = search in
+    let verdict-told : tie.After-enum-told2 = search in
+    durations-told _ _ _ (sym (at-verdict .verdict .ensures) ∙ verdict-told .enum-told2 .given .1) (c .before .transitions .ensures) (c .durations-fault .ensures)
 
 pub checked-spec : {M : Type 1} → statement M
 checked-spec =

@@ -6,15 +6,17 @@ use Rattle.react.proofs.reactions.Statement.{statement}
 use Rattle.react.proofs.reactions.Tie as tie
 
 returns : tie.Need-returns
-returns c = refused-scratch (sym (c .before .before .before .scratch-fault .ensures) ∙ c .before .found .given .1) refl
+returns c =
+    let at-scratch-fault : tie.After-scratch-fault = search in
+    refused-scratch (sym (at-scratch-fault .scratch-fault .ensures) ∙ c .before .found .given .1) refl
 
 returns-2 : tie.Need-returns-2
 returns-2 c =
-    let at-clear-front = c .before .before in
-    let at-reaction-into = at-clear-front .before .before .before .before in
-    let at-enum-told = at-reaction-into .before .before in
-    served (sym (at-enum-told .before .before .scratch-fault .ensures) ∙
-    at-enum-told .enum-told .given .1) (at-reaction-into .reaction-into .ensures) (at-clear-front .clear-front .ensures)
+    let at-scratch-fault : tie.After-scratch-fault = search in
+    let scratch-fault-told : tie.After-enum-told = search in
+    let at-reaction-into : tie.After-reaction-into = search in
+    served (sym (at-scratch-fault .scratch-fault .ensures) ∙ scratch-fault-told .enum-told .given .1) (at-reaction-into .reaction-into .ensures)
+    (c .before .before .clear-front .ensures)
 
 pub reactions-spec : {M : Type 1} → statement M
 reactions-spec =

@@ -19,10 +19,10 @@ returns c = c .refuse .ensures ∙ ap verdictOf (sym (shape-refused _ _ (sym (c 
 
 returns-2 : tie.Need-returns-2 Inv-loop μ-loop
 returns-2 c =
-    let at-duration-fails = c .before .before in
-    let g = at-duration-fails .before .before .loop .inv in
-    c .refuse2 .ensures ∙ ap verdictOf (sym (duration-refused _ _ (g .shape) _ (at-duration-fails .before .loop-test .taken) (g .below) (sym
-    (at-duration-fails .duration-fails .ensures) ∙ c .before .if2 .taken)))
+    let at-duration-fails : tie.After-duration-fails Inv-loop μ-loop = search in
+    let in-loop : tie.In-loop Inv-loop μ-loop = search in
+    let g = in-loop .before .loop .inv in
+    c .refuse2 .ensures ∙ ap verdictOf (sym (duration-refused _ _ (g .shape) _ (in-loop .loop-test .taken) (g .below) (sym (at-duration-fails .duration-fails .ensures) ∙ c .before .if2 .taken)))
 
 loop-again : tie.Need-loop-again Inv-loop μ-loop
 loop-again c = passing-more _ _ _ (search needs) (sym (search needs) ∙ c .if2 .left)

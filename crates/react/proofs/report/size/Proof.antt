@@ -13,12 +13,6 @@ Inv-loop sheet starts awaits nodes size₀ n₀ size n = Sizing sheet starts awa
 abbrev μ-loop : tie.MeasureT-loop
 μ-loop sheet starts awaits nodes size₀ n₀ size n = nodes - n
 
-abbrev entry : tie.In-loop Inv-loop μ-loop → tie.Start Inv-loop μ-loop
-entry c = c .before .before .before
-
-abbrev turn : tie.After-arcs2 Inv-loop μ-loop → tie.In-loop Inv-loop μ-loop
-turn c = c .before .before
-
 add-arcs : tie.Need-add-arcs Inv-loop μ-loop
 add-arcs c = omega arith
 
@@ -30,8 +24,9 @@ element-copy-out-arcs c = omega arith
 
 cast-arcs : tie.Need-cast-arcs Inv-loop μ-loop
 cast-arcs c =
-    let at-test = c .before in
-    omega (arith, end-most (entry at-test .pre) (size-node (at-test .before .loop .inv) (at-test .loop-test .taken)))
+    let start : tie.Start Inv-loop μ-loop = search in
+    let in-loop : tie.In-loop Inv-loop μ-loop = search in
+    omega (arith, end-most (start .pre) (size-node (in-loop .before .loop .inv) (in-loop .loop-test .taken)))
 
 mul-arcs-2 : tie.Need-mul-arcs-2 Inv-loop μ-loop
 mul-arcs-2 c = omega arith
@@ -41,13 +36,15 @@ element-copy-out-arcs-2 c = omega arith
 
 cast-arcs-2 : tie.Need-cast-arcs-2 Inv-loop μ-loop
 cast-arcs-2 c =
-    let at-test = turn c in
-    omega (arith, start-most (entry at-test .pre) (size-node (at-test .before .loop .inv) (at-test .loop-test .taken)))
+    let start : tie.Start Inv-loop μ-loop = search in
+    let in-loop : tie.In-loop Inv-loop μ-loop = search in
+    omega (arith, start-most (start .pre) (size-node (in-loop .before .loop .inv) (in-loop .loop-test .taken)))
 
 sub-arcs : tie.Need-sub-arcs Inv-loop μ-loop
 sub-arcs c =
-    let at-test = turn c in
-    omega (arith, entry at-test .pre .rises _ (size-node (at-test .before .loop .inv) (at-test .loop-test .taken)))
+    let start : tie.Start Inv-loop μ-loop = search in
+    let in-loop : tie.In-loop Inv-loop μ-loop = search in
+    omega (arith, start .pre .rises _ (size-node (in-loop .before .loop .inv) (in-loop .loop-test .taken)))
 
 element-copy-out-waits : tie.Need-element-copy-out-waits Inv-loop μ-loop
 element-copy-out-waits c = omega arith
@@ -57,20 +54,16 @@ add-n c = omega arith
 
 mul-size : tie.Need-mul-size Inv-loop μ-loop
 mul-size c =
-    let at-test = turn (c .before .before) in
-    omega (
-      arith,
-      end-most (entry at-test .pre) (size-node (at-test .before .loop .inv)
-          (at-test .loop-test .taken)),
-    )
+    let start : tie.Start Inv-loop μ-loop = search in
+    let in-loop : tie.In-loop Inv-loop μ-loop = search in
+    omega (arith, end-most (start .pre) (size-node (in-loop .before .loop .inv) (in-loop .loop-test .taken)))
 
 add-size : tie.Need-add-size Inv-loop μ-loop
 add-size c =
-    let at-test = turn (c .before .before) in
-    let p = entry at-test .pre in
-    let g = at-test .before .loop .inv in
-    let l = size-node g (at-test .loop-test .taken) in
-    omega (arith, end-most p l, node-low p l)
+    let start : tie.Start Inv-loop μ-loop = search in
+    let in-loop : tie.In-loop Inv-loop μ-loop = search in
+    let l = size-node (in-loop .before .loop .inv) (in-loop .loop-test .taken) in
+    omega (arith, end-most (start .pre) l, node-low (start .pre) l)
 
 loop-again : tie.Need-loop-again Inv-loop μ-loop
 unfolding isMarked

@@ -14,16 +14,18 @@ abbrev μ-loop : tie.MeasureT-loop
 μ-loop net sheet words starts awaits out₀ best worst nodes next₀ n₀ out next n = nodes - n
 
 shared-slice-read-nodes : tie.Need-shared-slice-read-nodes Inv-loop μ-loop
-shared-slice-read-nodes c = omega (arith, readable (c .before .before .before .before .before .before .before .pre .judged .mapped) .sizes .long)
+shared-slice-read-nodes c =
+    let start : tie.Start Inv-loop μ-loop = search in
+    omega (arith, readable (start .pre .judged .mapped) .sizes .long)
 
 loop-holds : tie.Need-loop-holds Inv-loop μ-loop
 loop-holds c = search (write-start, needs)
 
 write-row-requires : tie.Need-write-row-requires Inv-loop μ-loop
 write-row-requires c κs =
-    let at-if1 = c .before .before .before in
-    let at-test = at-if1 .before .before in
-    writable (at-test .before .loop .inv) (at-test .loop-test .taken) (at-if1 .if1 .taken)
+    let in-loop : tie.In-loop Inv-loop μ-loop = search in
+    let at-if1 : tie.Then1 Inv-loop μ-loop = search in
+    writable (in-loop .before .loop .inv) (in-loop .loop-test .taken) (at-if1 .if1 .taken)
 
 loop-again : tie.Need-loop-again Inv-loop μ-loop
 loop-again c = search (writes-row, needs)

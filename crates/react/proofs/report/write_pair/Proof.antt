@@ -6,8 +6,9 @@ use Rattle.react.proofs.report.write_pair.Tie as tie
 
 returns : tie.Need-returns
 returns c =
-    let at-put2 = c .before .before in
-    appended-more (at-put2 .before .before .before .before .put .ensures) (at-put2 .put2 .ensures)
+    let at-put : tie.After-put = search in
+    let at-put2 : tie.After-put2 = search in
+    appended-more (at-put .put .ensures) (at-put2 .put2 .ensures)
 
 pub write-pair-spec : {M : Type 1} → statement M
 write-pair-spec =

@@ -15,12 +15,6 @@ Inv-loop net sheet words starts best worst n out₀ at first transitions end nex
 abbrev μ-loop : tie.MeasureT-loop
 μ-loop net sheet words starts best worst n out₀ at first transitions end next₀ i₀ out next i = end - i
 
-abbrev turn : tie.After-leads-to Inv-loop μ-loop → tie.In-loop Inv-loop μ-loop
-turn c = c .before .before
-
-abbrev after-leads-to : tie.After-early Inv-loop μ-loop → tie.After-leads-to Inv-loop μ-loop
-after-leads-to c = c .before .before
-
 add-end : tie.Need-add-end Inv-loop μ-loop
 add-end c = omega (arith, few-nodes)
 
@@ -56,32 +50,34 @@ element-copy-out-early c = search (row-low, needs)
 
 add-early : tie.Need-add-early Inv-loop μ-loop
 add-early c =
-    let at-leads-to = after-leads-to c in
-    let at-test = turn at-leads-to in
+    let in-loop : tie.In-loop Inv-loop μ-loop = search in
+    let at-transition : tie.After-transition Inv-loop μ-loop = search in
+    let at-leads-to : tie.After-leads-to Inv-loop μ-loop = search in
     omega (
       arith,
-      early-fits (at-test .before .loop .inv) (at-test .loop-test .taken) (at-leads-to .before
-          .transition .ensures) (at-leads-to .leads-to .ensures) (c .before .duration .ensures),
+      early-fits (in-loop .before .loop .inv) (in-loop .loop-test .taken) (at-transition .transition .ensures) (at-leads-to .leads-to .ensures) (c .before .duration .ensures),
     )
 
 duration-requires-2 : tie.Need-duration-requires-2 Inv-loop μ-loop
 duration-requires-2 c κs = (search (row-shape, needs), search (within, needs))
 
 mul-late : tie.Need-mul-late Inv-loop μ-loop
-mul-late c = let low : c .before .before .before .leads-to .result < 128 = search (row-low, needs) in omega arith
+mul-late c =
+    let at-leads-to : tie.After-leads-to Inv-loop μ-loop = search in
+    let low : at-leads-to .leads-to .result < 128 = search (row-low, needs) in
+    omega arith
 
 element-copy-out-late : tie.Need-element-copy-out-late Inv-loop μ-loop
 element-copy-out-late c = search (row-low, needs)
 
 add-late : tie.Need-add-late Inv-loop μ-loop
 add-late c =
-    let at-leads-to = after-leads-to (c .before .before) in
-    let at-test = turn at-leads-to in
+    let in-loop : tie.In-loop Inv-loop μ-loop = search in
+    let at-transition : tie.After-transition Inv-loop μ-loop = search in
+    let at-leads-to : tie.After-leads-to Inv-loop μ-loop = search in
     omega (
       arith,
-      late-fits (at-test .before .loop .inv)
-          (at-test .loop-test .taken) (at-leads-to .before .transition .ensures)
-          (at-leads-to .leads-to .ensures) (c .before .duration2 .ensures),
+      late-fits (in-loop .before .loop .inv) (in-loop .loop-test .taken) (at-transition .transition .ensures) (at-leads-to .leads-to .ensures) (c .before .duration2 .ensures),
     )
 
 add-i : tie.Need-add-i Inv-loop μ-loop

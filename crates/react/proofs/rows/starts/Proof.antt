@@ -18,22 +18,18 @@ Inv-loop net sheet nodes entries starts₀ n₀ starts n = (length starts ≡ 12
 abbrev μ-loop : tie.MeasureT-loop
 μ-loop net sheet nodes entries starts₀ n₀ starts n = nodes - n
 
-abbrev entry : tie.At-loop Inv-loop μ-loop → tie.Start Inv-loop μ-loop
-entry c = c .before .before .before .before .before
-
-abbrev head : tie.After-lower-bound Inv-loop μ-loop → tie.At-loop Inv-loop μ-loop
-head c = c .before .before .before
-
 cast-starts : tie.Need-cast-starts Inv-loop μ-loop
 cast-starts c =
-    let z = bound-low (entry (head c) .pre) _ (c .lower-bound .ensures) in
+    let start : tie.Start Inv-loop μ-loop = search in
+    let z = bound-low (start .pre) _ (c .lower-bound .ensures) in
     omega arith
 
 loop-again : tie.Need-loop-again Inv-loop μ-loop
 loop-again c =
-    let at-loop = head c in
+    let start : tie.Start Inv-loop μ-loop = search in
+    let at-loop : tie.At-loop Inv-loop μ-loop = search in
     let (a, b, d, f) = at-loop .loop .inv in
-    let s = entry at-loop .pre .sizes in
+    let s = start .pre .sizes in
     let first = c .before .arcs-start .ensures .0 ∙ arcs-start-is _ _ (omega arith) (s .some-transition) (s .few-transitions) in
     (simp length-set a, omega arith, d, stored-more _ (at-loop .loop .starts) _ _ f (omega arith) (c .lower-bound .ensures ∙ ap (lowerBound _ 2 _) first))
 
@@ -42,9 +38,10 @@ cast-starts-3 c = omega (arith, arcs-within)
 
 returns : tie.Need-returns Inv-loop μ-loop
 returns c =
-    let at-loop = c .before .before in
+    let start : tie.Start Inv-loop μ-loop = search in
+    let at-loop : tie.At-loop Inv-loop μ-loop = search in
     let (a, b, d, f) = at-loop .loop .inv in
-    starts-all (entry at-loop .pre) (at-loop .loop .starts) a (λ k l. f k (omega arith)) (c .arc-count .ensures)
+    starts-all (start .pre) (at-loop .loop .starts) a (λ k l. f k (omega arith)) (c .arc-count .ensures)
 
 pub starts-spec : {M : Type 1} → statement M
 starts-spec =

@@ -23,7 +23,7 @@ returns c =
 pub times-spec : {M : Type 1} → statement M
 times-spec =
     tie.close
-    (tie.spec Inv-loop μ-loop (λ c. omega (arith, readable (c .before .before .before .before .pre .judged .mapped) .sizes .long))
+    (tie.spec Inv-loop μ-loop (λ c. let start : tie.Start Inv-loop μ-loop = search in omega (arith, readable (start .pre .judged .mapped) .sizes .long))
     (λ c. omega (arith, few-nodes)) (λ c. search (filling-start, needs)) (λ c κs. search (fill-enters, needs))
-    (λ c. let at-test = c .before .before in omega (arith, fill-low (at-test .before .loop .inv) (at-test .loop-test .taken))) (λ c. search (fill-low, needs))
-    (λ c. let at-test = c .before .before in omega (arith, fill-low (at-test .before .loop .inv) (at-test .loop-test .taken))) (λ c. omega arith) loop-again returns)
+    (λ c. let in-loop : tie.In-loop Inv-loop μ-loop = search in omega (arith, fill-low (in-loop .before .loop .inv) (in-loop .loop-test .taken))) (λ c. search (fill-low, needs))
+    (λ c. let in-loop : tie.In-loop Inv-loop μ-loop = search in omega (arith, fill-low (in-loop .before .loop .inv) (in-loop .loop-test .taken))) (λ c. omega arith) loop-again returns)
