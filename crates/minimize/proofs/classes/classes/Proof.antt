@@ -43,10 +43,8 @@ round-requires-3 c κs = search (next-reads, readable-closed, needs)
 
 returns : tie.Need-returns Inv-loop μ-loop
 returns c =
-    let at-loop : tie.At-loop Inv-loop μ-loop = search in
-    let at-round3 : tie.After-round3 Inv-loop μ-loop = search in
-    let (some, l, long, S, is) = at-loop .loop .inv in
-    round-last _ (readable-closed (S .readable)) _ _ is _ (by-arcs _ _ _ (at-round3 .round3 .ensures)) (sym (c .before .same-tables .ensures) ∙ c .if1 .taken)
+    let same = sym (c .before .same-tables .ensures) ∙ c .if1 .taken in
+    search (round-last, readable-closed, by-arcs, needs)
 
 loop-again : tie.Need-loop-again Inv-loop μ-loop
 loop-again c = search (round-more, readable-closed, by-arcs, needs)

@@ -26,16 +26,10 @@ loop-holds : tie.Need-loop-holds Inv-loop μ-loop
 loop-holds c = search (entries-none, needs)
 
 row-size-requires : tie.Need-row-size-requires Inv-loop μ-loop
-row-size-requires c κs =
-    let at-loop : tie.At-loop Inv-loop μ-loop = search in
-    let r = new-row (at-loop .loop .inv .0) (c .if1 .taken) refl in
-    (r .readable, r .old)
+row-size-requires c κs = let r = new-row (c .before .before .loop .inv .0) (c .if1 .taken) refl in (r .readable, r .old)
 
 row-size-requires-2 : tie.Need-row-size-requires-2 Inv-loop μ-loop
-row-size-requires-2 c κs =
-    let at-loop : tie.At-loop Inv-loop μ-loop = search in
-    let r = new-row (at-loop .loop .inv .0) (c .before .if1 .taken) refl in
-    (r .readable, r .old)
+row-size-requires-2 c κs = let r = new-row (c .before .before .before .loop .inv .0) (c .before .if1 .taken) refl in (r .readable, r .old)
 
 -- ---- both rows of a node are counted
 
@@ -60,10 +54,7 @@ add-entries-2 : tie.Need-add-entries-2 Inv-loop μ-loop
 add-entries-2 c = let (h, low, is, most) = loop-again c in omega arith
 
 returns : tie.Need-returns Inv-loop μ-loop
-returns c =
-    let at-loop : tie.At-loop Inv-loop μ-loop = search in
-    let (h, low, is, most) = at-loop .loop .inv in
-    record { are = is ∙ entries-all _ _ (h .size) _ (omega arith); few = omega arith }
+returns c = let (h, low, is, most) = c .before .before .loop .inv in record { are = is ∙ entries-all _ _ (h .size) _ (omega arith); few = omega arith }
 
 pub entry-count-spec : {M : Type 1} → statement M
 entry-count-spec =

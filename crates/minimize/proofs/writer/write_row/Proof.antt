@@ -40,10 +40,7 @@ loop-again : tie.Need-loop-again Inv-loop μ-loop
 loop-again c = search (running-more, needs)
 
 returns : tie.Need-returns Inv-loop μ-loop
-returns c =
-    let at-loop : tie.At-loop Inv-loop μ-loop = search in
-    let (r, l, a) = at-loop .loop .inv in
-    running-all r (omega arith) a
+returns c = let (r, l, a) = c .before .before .loop .inv in running-all r (omega arith) a
 
 pub write-row-spec : {M : Type 1} → statement M
 write-row-spec =
