@@ -17,10 +17,8 @@ returns c = search (loops-refused, needs)
 
 size-requires : tie.Need-size-requires
 size-requires c κs =
-    let start : tie.Start = search in
-    let at-starts : tie.After-starts = search in
-    let at-nodes : tie.After-nodes = search in
-    rows (judged _ _ _ (start .pre) (at-starts .starts .ensures) (at-nodes .nodes .ensures) .mapped)
+    let at-awaits2 : tie.After-awaits2 = search in
+    loops-fault-requires at-awaits2 κs
 
 returns-2 : tie.Need-returns-2
 returns-2 c = search (too-short, needs)

@@ -61,9 +61,8 @@ time-of-arcs-Inv-loop net sheet words starts awaits latest memo₀ n first trans
 abbrev time-of-arcs-μ-loop : time-of-arcs-lts.MeasureT-loop
 time-of-arcs-μ-loop net sheet words starts awaits latest memo₀ n first transitions end time₀ i₀ memo time i = end - i
 
-abbrev node-entry : (t : ℕ) → time-of-node-lts.After-kept (time-of-arcs-below t, time-of-arcs.Post) (time-of-node-at t) time-of-node.Post
-    → time-of-node-lts.Start (time-of-arcs-below t, time-of-arcs.Post) (time-of-node-at t) time-of-node.Post
-node-entry t c = c .before .before .before .before .before .before
+abbrev Node-start : ℕ → Type 0
+Node-start t = time-of-node-lts.Start (time-of-arcs-below t, time-of-arcs.Post) (time-of-node-at t) time-of-node.Post
 
 pub +time-of-arcs+time-of-node-spec : {M : Type 1} → statement M
 +time-of-arcs+time-of-node-spec =
@@ -113,16 +112,16 @@ pub +time-of-arcs+time-of-node-spec : {M : Type 1} → statement M
     (λ c. search (goes-arc, needs))
     (λ c. search (goes-end, needs))) λ t. time-of-node-lts.spec (time-of-arcs-below t, time-of-arcs.Post) (time-of-node-at t) time-of-node.Post (λ c. omega (arith, few))
     (λ c. search (worked-await, needs))
-    (λ c. omega (arith, few)) (λ c. omega (arith, few)) (λ c. let p = node-entry t (c .before) .pre in omega (arith, kept-value (p .1 .0) (p .1 .1) (c .if2 .taken)))
+    (λ c. omega (arith, few)) (λ c. omega (arith, few)) (λ c. let start : Node-start t = search in let p = start .pre in omega (arith, kept-value (p .1 .0) (p .1 .1) (c .if2 .taken)))
     (λ c. search (worked-kept, needs))
     (λ c. omega (arith, few)) (λ c. omega (arith, few))
-    (λ c κs. let at-if2 = c .before in let start = node-entry t (at-if2 .before) in let p = start .pre .1 in let z = at-if2 .if2 .left in
+    (λ c κs. let start : Node-start t = search in let p = start .pre .1 in let z = c .before .if2 .left in
     let h : 2 * unvisited (set (start .args .memo .now) (start .args .n) 1) + 1 < t = omega (arith, begin-falls (p .0) (p .1) (omega (arith, z))) in (
       h,
       (
         p .0,
         begins (p .0) (p .1) (omega (arith, z)) (omega arith),
       ),
-    )) (λ c. let p = node-entry t (c .before .before .before) .pre in omega (arith, worked-fits (p .1 .0) (c .time-of-arcs .ensures) (p .1 .1 .node)))
+    )) (λ c. let start : Node-start t = search in let p = start .pre in omega (arith, worked-fits (p .1 .0) (c .time-of-arcs .ensures) (p .1 .1 .node)))
     (λ c. omega (arith, few)) (λ c. omega (arith, few))
     (λ c. search (closes, needs))
