@@ -46,14 +46,7 @@ impl CompareAnswer {
     {
         match self {
             CompareAnswer::Compared(c) => {
-                [
-                    0u64,
-                    0,
-                    0,
-                    c.first as u64,
-                    c.second as u64,
-                    bit(c.same),
-                ]
+                [0u64, 0, 0, c.first as u64, c.second as u64, bit(c.same)]
             }
             CompareAnswer::Refused(f) => {
                 let r = f.refusal;

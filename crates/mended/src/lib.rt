@@ -22,14 +22,7 @@ impl MendAnswer {
     {
         match self {
             MendAnswer::Written(lengths) => {
-                [
-                    0u64,
-                    0,
-                    0,
-                    lengths.sheet as u64,
-                    lengths.list as u64,
-                    0,
-                ]
+                [0u64, 0, 0, lengths.sheet as u64, lengths.list as u64, 0]
             }
             MendAnswer::Refused(r) => r.plain(),
         }

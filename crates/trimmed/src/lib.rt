@@ -22,14 +22,7 @@ impl TrimAnswer {
     {
         match self {
             TrimAnswer::Written(lengths) => {
-                [
-                    0u64,
-                    0,
-                    0,
-                    lengths.sheet as u64,
-                    lengths.list as u64,
-                    0,
-                ]
+                [0u64, 0, 0, lengths.sheet as u64, lengths.list as u64, 0]
             }
             TrimAnswer::Refused(r) => r.plain(),
         }

@@ -6,7 +6,7 @@ use Rattle.replay.proofs.ReplayAnswer.plain.Statement.{statement}
 use Rattle.replay.proofs.ReplayAnswer.plain.Tie as tie
 
 returns : tie.Need-returns
-returns c = rw (c .plain .ensures) (sym (ap plainReplay (c .before .before .self .given .1)))
+returns c = rw (c .plain .ensures) (sym (ap plainReplay (c .before .before .before .self .given .1)))
 
 returns-2 : tie.Need-returns-2
 returns-2 c = rw (c .plain2 .ensures) (sym (ap plainReplay (c .before .before .self2 .given .1)))
