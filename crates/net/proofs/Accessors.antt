@@ -49,6 +49,10 @@ word-told none h = refl
 word-told (some zero) h = let z = h 0 refl in absurd (omega arith)
 word-told (some (suc c)) h = refl
 
+pub allows-unlimited : (n : ℕ) → wordAllows 0 n ≡ true
+unfolding wordAllows
+allows-unlimited n = refl
+
 pub word-allows : (o : Option ℕ) → ((c : ℕ) → o ≡ some c → 1 ≤ c) → (n : ℕ) → wordAllows (Option·getD o 0) n ≡ within o n
 unfolding wordAllows
 word-allows none h n = refl
