@@ -63,12 +63,12 @@ compareCore net first second = record {
 abbrev pub CompareWritten : List ℕ → List ℕ → List ℕ → List ℕ → List ℕ → CompareAnswer → List ℕ → List ℕ → Type 0
 CompareWritten net first second one two r one′ two′ = WordsDone (compareCore net first second) (one ∷ two ∷ []) r (one′ ∷ two′ ∷ [])
 
--- number, kind and position, both lengths, and 1 if the forms are equal (§8.1); these three are 0 if refused (§8.3)
+-- number, kind and position, and three own numbers: both lengths, and 1 if the forms are equal (§8.1). They are 0 if refused (§8.3)
 abbrev pub plainCompare : CompareAnswer → List ℕ
 plainCompare (Compared c) = 0 ∷ 0 ∷ 0 ∷ c .first ∷ c .second ∷ bit (c .same) ∷ []
 plainCompare (Refused f) = plainRefusal (f .refusal)
 
--- the number beyond these: the index of the refused schedule (§8.4)
+-- the fourth own number, the index of the refused schedule (§8.4). It stands apart, since no other own number can come with a refusal (§8.3)
 abbrev pub sheetIndex : CompareAnswer → ℕ
 sheetIndex (Compared c) = 0
 sheetIndex (Refused f) = plainIndex (f .sheet)

@@ -55,7 +55,7 @@ impl CompareAnswer {
         }
     }
 
-    // The number beyond these: the index of the refused schedule, §8.4.
+    // The fourth own number: the index of the refused schedule, §8.4.
     pub fn sheet(self) -> u64
         ensures { λ r. ⌜ r ≡ sheetIndex self ⌝ }
     {

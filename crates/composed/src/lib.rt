@@ -34,7 +34,7 @@ impl ComposeAnswer {
         }
     }
 
-    // The number beyond these: the index of the refused schedule, §8.4.
+    // The second own number: the index of the refused schedule, §8.4.
     pub fn sheet(self) -> u64
         ensures { λ r. ⌜ r ≡ sheetIndex self ⌝ }
     {
