@@ -1,2 +1,4 @@
 pub mod State
 pub mod Order
+pub mod Turns
+pub mod Along

@@ -4,8 +4,7 @@ pub mod Reading
 pub mod Storing
 -- the nodes in the order in which they are found
 pub mod Searches
-pub mod ArcRows
-pub mod SearchTables
+pub mod Parents
 -- a place's counts along it
 pub mod Fits
 pub mod Filling

@@ -40,10 +40,10 @@ use Rattle.mended.proofs.Mended.{worked-root, worked-enables, worked-lands, wor
 use Rattle.mended.proofs.Exact.{arcs-fault}
 use Rattle.mended.proofs.Copied.{mended-copied}
 use Rattle.mended.proofs.Copied as whole
+use Rattle.breadth_first.proofs.Along.{arcs-closed}
 use Rattle.mend.specs.Places.{AllFit}
 use Rattle.mend.specs.Writing.{entriesOf}
 use Rattle.mend.specs.Measure.{arcsVerdict, Ready, Measured}
-use Rattle.mend.proofs.Reading.{closed}
 use Rattle.mend.proofs.Writes.{count-keys}
 
 -- ---- 11 to 13, 16 and 17, as they are asked
@@ -131,15 +131,15 @@ module _ (net sheet : List ℕ) where
       fits-places : AllFit N sheet
       unfolding newCount
       fits-places p k = record {
-        start = ap (λ (x : List ℕ). getD x p 0) (worked-root N A (closed r)) ∙ unfold initial in (tabulate-at (N .start) 0 (N .places) p k);
-        enabled = λ n t m l e. let x = worked-enables N A (closed r) refl h n t m l e in record { holds = x .holds p k; room = x .room p k };
-        lands = λ n t m l e. ap (λ (x : List ℕ). getD x p 0) (worked-lands N A (closed r) refl h n t m l e)
+        start = ap (λ (x : List ℕ). getD x p 0) (worked-root N A (arcs-closed r)) ∙ unfold initial in (tabulate-at (N .start) 0 (N .places) p k);
+        enabled = λ n t m l e. let x = worked-enables N A (arcs-closed r) refl h n t m l e in record { holds = x .holds p k; room = x .room p k };
+        lands = λ n t m l e. ap (λ (x : List ℕ). getD x p 0) (worked-lands N A (arcs-closed r) refl h n t m l e)
             ∙ unfold fire firedCount in (tabulate-at (firedCount N (workedOut N A n) t) 0 (N .places) p k);
-        most = λ n l. worked-most N A (closed r) refl h n p l k;
+        most = λ n l. worked-most N A (arcs-closed r) refl h n p l k;
       }
 
       fits-entries : entriesOf net sheet ≤ mostEntries
-      fits-entries = rw entries-are at (few-entries N A (closed r) refl h)
+      fits-entries = rw entries-are at (few-entries N A (arcs-closed r) refl h)
 
   -- ---- where nothing is refused before the counts
 

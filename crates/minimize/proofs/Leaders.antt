@@ -13,7 +13,8 @@ use Rattle.automaton.proofs.Same.{equalLabels-in, equalLabels-out, sameIn-suc�
 use Rattle.automaton.proofs.Targets.{Targets, Holds, targets-cases, targets-trans, equalArcs-in, equalArcs-out}
 use Rattle.automaton.proofs.Leader.{leader-le, leader-least, leader-member, leader-of-equivalent}
 use Rattle.automaton.proofs.Classes.{class-same, same-leader, refined-leader, leaders-last}
-use Rattle.minimize.specs.Tables.{classIn, Classes}
+use Rattle.breadth_first.specs.Along.{classIn}
+use Rattle.minimize.specs.Tables.{Classes}
 use Rattle.sequential.specs.Petri.{petriNet}
 use Rattle.sequential.specs.Words.{nodeCount, graph}
 use Rattle.minimize.specs.Agree.{StartsOf, SameOffers}

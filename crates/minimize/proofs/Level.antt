@@ -15,7 +15,7 @@ use Rattle.sequential.proofs.Words.{words-rise}
 use Rattle.graph.specs.Readable.{Readable}
 use Rattle.graph.proofs.Readable.{words}
 use Rattle.graph.proofs.Bounds.{start-bound}
-use Rattle.minimize.specs.Tables.{classIn}
+use Rattle.breadth_first.specs.Along.{classIn}
 use Rattle.minimize.specs.Agree.{hasKey, valuesAgree, keysAgree, Valued, rowKey, rowWidth, firstEntry, SameOffers, StartsOf, targetsAgree, LevelRows, TwoRows}
 use Rattle.minimize.specs.Leaders.{rowsAlike}
 use Rattle.minimize.proofs.Agree.{value-at-bound, bound-hit, bound-miss}

@@ -4,7 +4,6 @@ pub mod NodeRows
 pub mod Level
 pub mod Leaders
 -- numbers
-pub mod SearchArcs
 pub mod SearchOrder
 -- words
 pub mod Runs

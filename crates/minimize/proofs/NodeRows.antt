@@ -18,7 +18,7 @@ use Rattle.graph.proofs.Readable.{known, words}
 use Rattle.graph.proofs.Starts.{arcs-start-is, counts-start-low, counts-start-is}
 use Rattle.graph.proofs.Bounds.{bound-low}
 use Rattle.encoding.proofs.Reading.{arc-inside}
-use Rattle.minimize.specs.Tables.{classIn}
+use Rattle.breadth_first.specs.Along.{classIn}
 use Rattle.minimize.specs.Agree.{hasKey, keyValue, valuesAgree, keysAgree, Valued, Row, Rows, rowKey, rowWidth, firstEntry}
 use Rattle.minimize.specs.Leaders.{rowsAlike}
 use Rattle.minimize.proofs.Agree.{has-within, has-is}

@@ -17,7 +17,7 @@ use Rattle.sequential.specs.Words.{nodeCount, entryCount, entryValue, entryWith
 use Rattle.net.specs.Net.{placeCount, transitionCount}
 use Rattle.graph.specs.Rows.{arcsStart, countsStart}
 use Rattle.graph.specs.Readable.{Readable}
-use Rattle.minimize.specs.Tables.{classIn}
+use Rattle.breadth_first.specs.Along.{classIn}
 
 -- counts agree if they are equal, targets of arcs if they have the same class
 unfoldable pub valuesAgree : List ℕ → Bool → ℕ → ℕ → Bool

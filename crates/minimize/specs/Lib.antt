@@ -3,4 +3,3 @@ pub mod Both
 pub mod Agree
 pub mod Runs
 pub mod Leaders
-pub mod Search

@@ -9,18 +9,19 @@ use Rattle.automaton.specs.Quotient.{minimal}
 use Rattle.sequential.specs.Petri.{petriNet}
 use Rattle.sequential.specs.Words.{graph}
 use Rattle.graph.specs.Readable.{Readable}
+use Rattle.breadth_first.specs.Along.{classIn}
 use Rattle.encoding.specs.Encoding.{keys}
 use Rattle.encoding.specs.Kept.{Kept}
 use Rattle.minimize.specs.declared.numbering.Numbers.{Numbers}
-
--- the class of a node in a table
-unfoldable pub classIn : List ℕ → ℕ → ℕ
-classIn classes n = getD classes n 0
 
 -- a table of classes: two nodes have the same entry exactly if they are to become one
 pub record Classes (A : Automaton) (classes : List ℕ) : Type 0 where
   pub low : (n : ℕ) → n < A .nodes → classIn classes n < A .nodes
   pub right : (n m : ℕ) → n < A .nodes → m < A .nodes → sameClass (classIn classes) n m ≡ same A n m
+
+-- for each of the first nodes, the index of its class
+pub record Placed (classes index numbers : List ℕ) (nodes : ℕ) : Type 0 where
+  pub right : (m : ℕ) → m < nodes → getD numbers m 0 ≡ getD index (classIn classes m) 0
 
 -- the nodes of the minimal form, for readable words: the old nodes that stand for them, how many there are, and the new number of each node to which an arc leads
 pub record NewNodes (net sheet : List ℕ) (new : Numbers) : Type 0 where

@@ -8,7 +8,8 @@ ghost use Rattle.automaton.specs.Equivalence.{leaderBy};
 ghost use Rattle.sequential.specs.Petri.{petriNet};
 ghost use Rattle.sequential.specs.Words.{nodeCount, entryCount, entryValue, graph};
 ghost use Rattle.graph.specs.Readable.{Readable};
-ghost use Rattle.minimize.specs.Tables.{classIn, Classes};
+ghost use Rattle.breadth_first.specs.Along.{classIn};
+ghost use Rattle.minimize.specs.Tables.{Classes};
 ghost use Rattle.minimize.specs.Agree.{hasKey, valuesAgree, keysAgree, Valued, Rows, rowKey, rowWidth, StartsOf, targetsAgree, LevelRows, TwoRows};
 ghost use Rattle.minimize.specs.Leaders.{LeadersBy, rowsAlike, split, Round, RoundAt, NextLeast, sameEntry};
 

@@ -9,7 +9,7 @@ use Rattle.sequential.specs.Words.{nodeCount, graph}
 use Rattle.minimize.specs.Agree.{StartsOf}
 use Rattle.minimize.specs.Leaders.{LeadersBy}
 use Rattle.minimize.proofs.Leaders.{by-arcs, by-counts, first-reads, next-reads, round-more, round-last, rounds-done}
-use Rattle.minimize.proofs.SearchArcs.{readable-closed}
+use Rattle.breadth_first.proofs.Along.{arcs-closed}
 use Rattle.minimize.proofs.classes.classes.Statement.{statement}
 use Rattle.minimize.proofs.classes.classes.Tie as tie
 
@@ -28,31 +28,31 @@ round-requires-2 c κs =
     let at-round : tie.After-round Inv-loop μ-loop = search in
     let at-starts-of2 : tie.After-starts-of2 Inv-loop μ-loop = search in
     let S = at-starts-of2 .starts-of2 .ensures in
-    next-reads (search needs) S (readable-closed (S .readable)) 0 (by-counts _ _ _ (zeros 128) (at-round .round .ensures)) false (λ e. true-false false e refl)
+    next-reads (search needs) S (arcs-closed (S .readable .arcs)) 0 (by-counts _ _ _ (zeros 128) (at-round .round .ensures)) false (λ e. true-false false e refl)
 
 loop-holds : tie.Need-loop-holds Inv-loop μ-loop
 loop-holds c =
     let at-round : tie.After-round Inv-loop μ-loop = search in
     let at-starts-of2 : tie.After-starts-of2 Inv-loop μ-loop = search in
     let S = at-starts-of2 .starts-of2 .ensures in
-    let a = readable-closed (S .readable) in
+    let a = arcs-closed (S .readable .arcs) in
     (omega arith, omega arith, search needs, S, round-more _ a 0 _ (by-counts _ _ _ (zeros 128) (at-round .round .ensures)) _ (by-arcs _ _ _ (c .round2 .ensures)))
 
 round-requires-3 : tie.Need-round-requires-3 Inv-loop μ-loop
-round-requires-3 c κs = search (next-reads, readable-closed, needs)
+round-requires-3 c κs = search (next-reads, arcs-closed, needs)
 
 returns : tie.Need-returns Inv-loop μ-loop
 returns c =
     let same = sym (c .before .same-tables .ensures) ∙ c .if1 .taken in
-    search (round-last, readable-closed, by-arcs, needs)
+    search (round-last, arcs-closed, by-arcs, needs)
 
 loop-again : tie.Need-loop-again Inv-loop μ-loop
-loop-again c = search (round-more, readable-closed, by-arcs, needs)
+loop-again c = search (round-more, arcs-closed, by-arcs, needs)
 
 returns-2 : tie.Need-returns-2 Inv-loop μ-loop
 returns-2 c =
     let (some, l, long, S, is) = c .before .loop .inv in
-    rounds-done _ (readable-closed (S .readable)) _ _ is (omega arith)
+    rounds-done _ (arcs-closed (S .readable .arcs)) _ _ is (omega arith)
 
 pub classes-spec : {M : Type 1} → statement M
 classes-spec =

@@ -5,7 +5,7 @@ use Rattle.scan.proofs.Least.{least-found, least-none}
 use Rattle.automaton.specs.Equivalence.{inClass, leaderBy}
 use Rattle.sequential.specs.Petri.{petriNet}
 use Rattle.sequential.specs.Words.{nodeCount, graph}
-use Rattle.minimize.specs.Tables.{classIn}
+use Rattle.breadth_first.specs.Along.{classIn}
 use Rattle.minimize.specs.Leaders.{split}
 use Rattle.minimize.proofs.Leaders.{leader-from, leader-not, leader-skip, split-by-rows, node-low, own-class-low}
 use borrow.Author.Needs.{needs}

@@ -1,6 +1,6 @@
 -- `minimize::classes::next_least` meets its contract: the nodes before the counter are passed over.
 use Rattle.scan.proofs.Basics.{ℕ, _-_, _≤_, _<_, arith}
-use Rattle.minimize.specs.Tables.{classIn}
+use Rattle.breadth_first.specs.Along.{classIn}
 use Rattle.minimize.specs.Leaders.{LeastIn}
 use Rattle.minimize.proofs.Leaders.{skips-more}
 use borrow.Author.Needs.{needs}

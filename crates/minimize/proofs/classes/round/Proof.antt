@@ -4,7 +4,7 @@ use borrow.Author.Needs.{needs}
 use Rattle.automaton.proofs.Leader.{leader-le}
 use Rattle.sequential.specs.Petri.{petriNet}
 use Rattle.sequential.specs.Words.{graph}
-use Rattle.minimize.specs.Tables.{classIn}
+use Rattle.breadth_first.specs.Along.{classIn}
 use Rattle.minimize.specs.Leaders.{LeadersBy, split}
 use Rattle.minimize.proofs.Leaders.{leaders-more}
 use Rattle.minimize.proofs.classes.round.Statement.{statement}

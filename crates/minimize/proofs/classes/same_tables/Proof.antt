@@ -4,7 +4,7 @@ use borrow.Author.Needs.{needs}
 use Rattle.scan.proofs.Tests.{eq-eqb, ne-eqb}
 use Rattle.scan.specs.Scan.{all}
 use Rattle.scan.proofs.Every.{all-in, all-fails, all-keeps}
-use Rattle.minimize.specs.Tables.{classIn}
+use Rattle.breadth_first.specs.Along.{classIn}
 use Rattle.minimize.specs.Leaders.{sameEntry}
 use Rattle.minimize.proofs.classes.same_tables.Statement.{statement}
 use Rattle.minimize.proofs.classes.same_tables.Tie as tie

@@ -4,7 +4,7 @@ use borrow.Author.Needs.{needs}
 use Rattle.table.specs.Table.{valueAt}
 use Rattle.automaton.specs.Equivalence.{sameClass}
 use Rattle.sequential.specs.Words.{entryValue}
-use Rattle.minimize.specs.Tables.{classIn}
+use Rattle.breadth_first.specs.Along.{classIn}
 use Rattle.minimize.specs.Agree.{valuesAgree}
 use Rattle.minimize.proofs.Agree.{target-read}
 use Rattle.minimize.proofs.classes.values_agree.Statement.{statement}
