@@ -44,7 +44,7 @@ unfolding orElse when found first all any bit count passing least tabulate great
     words.arcNode words.arcTransition check.arcHolds check.arcHasRoom check.landsAt check.arcLands check.graphFault check.scheduleFault check.arcCount
     check.awaitCount check.scheduleReply equalLabels agree sameIn same classAt indexOf enter expand explored order merged minimalBy minimal encoding.gather
     encoding.gatherRows encoding.keyOfArc encoding.held encoding.keyOfCount encoding.valueOfCount encoding.keys encoding.values encoding.encode
-    minimalForm heldAt bound bounds countsOf digits decimal lines.field lines.joined lines.answerLine lines.countsLine lines.boundLine
-    lines.boundLineOf lines.boundLines lines.wordOf lines.formLine lines.acceptedLines wordFrom wordAt isLong isRagged wordCount wordsOf
+    minimalForm heldAt bound bounds countsOf digits decimal lines.field lines.joined lines.answerText lines.answerLine lines.countsLine lines.boundLine
+    lines.boundLineOf lines.boundLines lines.wordOf lines.wordsText lines.formLine lines.acceptedLines wordFrom wordAt isLong isRagged wordCount wordsOf
     readReply readAnswer filesAnswer programAnswer refusedText textOf printed
 samples-printed = refl

@@ -1,8 +1,8 @@
 -- The program's buffers hold all that is handed on and printed, so that what is printed for what was read is what is printed for the files.
-use Rattle.scan.proofs.Basics.{ℕ, _*_, _≤_, arith, _≡_, refl, sym, ap, _∙_, List, length, take}
+use Rattle.scan.proofs.Basics.{ℕ, _*_, _≤_, arith, _≡_, refl, sym, _∙_, List, length, take}
 use lib.Seq.{length-take-le}
 use Rattle.text.specs.Buffer.{Put}
-use Rattle.text.proofs.Put.{all-put, put-front, put-length}
+use Rattle.text.proofs.Put.{all-put, put-front, same-length}
 use Rattle.refusal.specs.declared.Verdict.the-variants.{Accepted}
 use Rattle.lending.proofs.Lent.{room-enough}
 use Rattle.sequential.specs.Check.{scheduleReply}
@@ -65,6 +65,6 @@ module _ (netBytes sheetBytes netBuffer sheetBuffer net sheet form out net′ sh
         arith,
         all-put (omega (arith, b .text-bytes)) text-put,
         b .text-bytes,
-        ap (length {A = ℕ}) (text-put .held) ∙ put-length out 0 (printed netBytes sheetBytes),
+        same-length text-put,
       ) in
       (l, sym (length-take-le r out′ l))

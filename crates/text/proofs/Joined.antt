@@ -21,6 +21,9 @@ module _ (f : ℕ → List ℕ) where
   pub more-joined : {out mid out′ : List ℕ} {at m r : ℕ} (i : ℕ) → Put out at (joined f i) m mid → Put mid m (f i) r out′ → Put out at (joined f (i + 1)) r out′
   more-joined i a b = rw (← joined-more i) (both-put a b)
 
+  pub all-joined : {out out′ : List ℕ} {at r : ℕ} (i n : ℕ) → i ≤ n → n ≤ i → Put out at (joined f i) r out′ → Put out at (joined f n) r out′
+  all-joined i n l h a = let e : i ≡ n = omega arith in rw e at a
+
 module _ {out out′ : List ℕ} {at r : ℕ} where
   -- a byte more, and all of them
   pub more-taken : {mid : List ℕ} {m : ℕ} (bytes : List ℕ) (i : ℕ) → i < length bytes

@@ -3,7 +3,7 @@ use Rattle.scan.proofs.Basics.{ℕ, zero, suc, _+_, _*_, _≤_, _<_, arith, Lis
 use Prim.Native.Nat.{_^_}
 use Prim.Native.String.{String}
 use Rattle.text.specs.Decimal.{ascii}
-use Rattle.text.specs.Lines.{field, joined, kindName, answerLine, countsLine, boundLine, boundLineOf, boundLines, wordOf, formLine, acceptedLines}
+use Rattle.text.specs.Lines.{field, joined, kindName, answerText, answerLine, countsLine, boundLine, boundLineOf, boundLines, wordOf, wordsText, formLine, acceptedLines}
 use Rattle.text.proofs.Decimal.{decimal-length}
 
 abbrev pub Short : ℕ → Type 0
@@ -29,7 +29,7 @@ kind-length (suc (suc (suc zero))) = omega arith
 kind-length (suc (suc (suc (suc k)))) = omega arith
 
 pub answer-length : (number kind index : ℕ) → Short number → Short index → length (answerLine number kind index) ≤ 36
-unfolding answerLine
+unfolding answerText answerLine
 answer-length number kind index a b = simp length-append (omega (arith, field-length "answer " number a, kind-length kind, field-length " " index b))
 
 module _ (bounds : List ℕ) (few : length bounds ≤ 10 ^ 9) (short : AllShort bounds) where
@@ -47,7 +47,7 @@ module _ (form : List ℕ) (short : AllShort form) where
   word-length i l = field-length " " (getD form i 0) (short i l)
 
   form-length : length (formLine form) ≤ 6 + 11 * length form
-  unfolding formLine
+  unfolding wordsText formLine
   form-length = simp length-append (omega (arith, joined-length (wordOf form) 11 (length form) word-length))
 
 pub accepted-length : (nodes arcs awaits : ℕ) (bounds form : List ℕ) → Short nodes → Short arcs → Short awaits → length bounds ≤ 10 ^ 9 → AllShort bounds → AllShort form

@@ -13,7 +13,7 @@ put-none [] at = refl
 put-none (x ∷ out) zero = refl
 put-none (x ∷ out) (suc at) = ap (λ (l : List ℕ). x ∷ l) (put-none out at)
 
-pub put-length : (out : List ℕ) (at : ℕ) (bytes : List ℕ) → length (putAt out at bytes) ≡ length out
+put-length : (out : List ℕ) (at : ℕ) (bytes : List ℕ) → length (putAt out at bytes) ≡ length out
 unfolding putAt
 put-length [] at bytes = refl
 put-length (x ∷ out) (suc at) bytes = ap suc (put-length out at bytes)
@@ -53,11 +53,13 @@ join (x ∷ out) zero [] ys m h = let e : m ≡ 0 = omega arith in rw e
 join (x ∷ out) zero (b ∷ xs) ys zero h = absurd (omega arith)
 join (x ∷ out) zero (b ∷ xs) ys (suc m) h = ap (λ (l : List ℕ). b ∷ l) (join out zero xs ys m (omega arith))
 
+pub same-length : {out bytes out′ : List ℕ} {at r : ℕ} → Put out at bytes r out′ → length out′ ≡ length out
+same-length {out} {bytes} {out′} {at} p = ap length (p .held) ∙ put-length out at bytes
+
 pub both-put : {out xs mid ys out′ : List ℕ} {at m r : ℕ} → Put out at xs m mid → Put mid m ys r out′ → Put out at (xs ++ ys) r out′
 both-put {out} {xs} {mid} {ys} {out′} {at} {m} {r} a b =
-    let l : length mid ≡ length out = ap length (a .held) ∙ put-length out at xs in
     record {
-      behind = omega (arith, a .behind, b .behind, length-append xs ys);
+      behind = omega (arith, a .behind, b .behind, same-length a, length-append xs ys);
       held = b .held ∙ rw (a .held) (join out at xs ys m (a .behind));
     }
 

@@ -24,8 +24,12 @@ kindName (suc (suc zero)) = " place"
 kindName (suc (suc (suc zero))) = " node"
 kindName (suc (suc (suc (suc k)))) = " record"
 
+-- without its line end
+unfoldable pub answerText : ℕ → ℕ → ℕ → List ℕ
+answerText number kind index = field "answer " number ++ (ascii (kindName kind) ++ field " " index)
+
 unfoldable pub answerLine : ℕ → ℕ → ℕ → List ℕ
-answerLine number kind index = field "answer " number ++ (ascii (kindName kind) ++ (field " " index ++ ascii "\n"))
+answerLine number kind index = answerText number kind index ++ ascii "\n"
 
 -- ---- the lines after line 1: §12.7
 
@@ -42,10 +46,14 @@ unfoldable pub boundLines : List ℕ → List ℕ
 boundLines bounds = joined (boundLineOf bounds) (length bounds)
 
 unfoldable pub wordOf : List ℕ → ℕ → List ℕ
-wordOf form i = field " " (getD form i 0)
+wordOf words i = field " " (getD words i 0)
+
+-- each word after a blank
+unfoldable pub wordsText : List ℕ → List ℕ
+wordsText words = joined (wordOf words) (length words)
 
 unfoldable pub formLine : List ℕ → List ℕ
-formLine form = ascii "short" ++ (joined (wordOf form) (length form) ++ ascii "\n")
+formLine form = ascii "short" ++ (wordsText form ++ ascii "\n")
 
 -- all lines of an accepted schedule; a refusal has line 1 only
 unfoldable pub acceptedLines : ℕ → ℕ → ℕ → List ℕ → List ℕ → List ℕ

@@ -1,5 +1,5 @@
 // Bytes, and numbers as decimal text.
-ghost use mathlib.Core.List.{[], _∷_, _++_};
+ghost use mathlib.Core.List.{[], _∷_};
 ghost use Prim.Native.Nat.{_/_, _%_};
 ghost use Rattle.text.specs.Buffer.{Put};
 ghost use Rattle.text.specs.Decimal.{digit, decimal as Decimal·decimal};
@@ -46,12 +46,4 @@ pub(crate) fn decimal(out: &mut [u8], at: usize, n: u64) -> usize
     }
     let next = decimal(out, at, n / 100);
     two_digits(out, next, n)
-}
-
-// A text, and a number after it.
-pub(crate) fn field(out: &mut [u8], at: usize, name: &[u8], n: u64) -> usize
-    ensures { λ r. ⌜ Put (now (out .entry)) at (now (name .entry) ++ Decimal·decimal n) r (now (out .exit)) ⌝ }
-{
-    let next = bytes(out, at, name);
-    decimal(out, next, n)
 }

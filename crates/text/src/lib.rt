@@ -1,13 +1,21 @@
-// Numbers as decimal text, and the lines that the program prints, put into a lent buffer. Every function puts its text at an index and answers the
+// Numbers as decimal text, and the lines that the programs print, put into a lent buffer. Every function puts its text at an index and answers the
 // index after it. Bytes for which the buffer has no room are dropped.
 mod buffer;
 
-ghost use lib.ListN.{length};
+ghost use mathlib.Core.List.{_++_};
 ghost use Rattle.text.specs.Buffer.{Put};
-ghost use Rattle.text.specs.Decimal.{ascii};
-ghost use Rattle.text.specs.Lines.{field, joined, kindName, answerLine, countsLine, boundLine, boundLines, wordOf, formLine, acceptedLines};
+ghost use Rattle.text.specs.Decimal.{ascii, decimal};
+ghost use Rattle.text.specs.Lines.{kindName, answerText, answerLine, countsLine, boundLine, boundLines, wordsText, formLine, acceptedLines};
 
-fn kind_name(out: &mut [u8], at: usize, kind: u32) -> usize
+// A text, and a number after it.
+pub fn field(out: &mut [u8], at: usize, name: &[u8], n: u64) -> usize
+    ensures { λ r. ⌜ Put (now (out .entry)) at (now (name .entry) ++ decimal n) r (now (out .exit)) ⌝ }
+{
+    let next = buffer::bytes(out, at, name);
+    buffer::decimal(out, next, n)
+}
+
+fn kind_name(out: &mut [u8], at: usize, kind: u64) -> usize
     ensures { λ r. ⌜ Put (now (out .entry)) at (ascii (kindName kind)) r (now (out .exit)) ⌝ }
 {
     match kind {
@@ -19,30 +27,37 @@ fn kind_name(out: &mut [u8], at: usize, kind: u32) -> usize
     }
 }
 
-// Line 1, for an answer's number, the number of its kind of position and the index: §12.6.
+// Line 1 without its line end, for an answer's number, the number of its kind of position and the index: §12.6. They are as wide as an answer's plain numbers.
+pub fn answer(out: &mut [u8], at: usize, number: u64, kind: u64, index: u64) -> usize
+    ensures { λ r. ⌜ Put (now (out .entry)) at (answerText number kind index) r (now (out .exit)) ⌝ }
+{
+    let at = field(out, at, b"answer ", number);
+    let at = kind_name(out, at, kind);
+    field(out, at, b" ", index)
+}
+
+// Line 1: §12.6.
 pub fn answer_line(out: &mut [u8], at: usize, number: u32, kind: u32, index: usize) -> usize
     ensures { λ r. ⌜ Put (now (out .entry)) at (answerLine number kind index) r (now (out .exit)) ⌝ }
 {
-    let at = buffer::field(out, at, b"answer ", number as u64);
-    let at = kind_name(out, at, kind);
-    let at = buffer::field(out, at, b" ", index as u64);
+    let at = answer(out, at, number as u64, kind as u64, index as u64);
     buffer::byte(out, at, b'\n')
 }
 
 fn counts_line(out: &mut [u8], at: usize, nodes: u32, arcs: u32, awaits: u32) -> usize
     ensures { λ r. ⌜ Put (now (out .entry)) at (countsLine nodes arcs awaits) r (now (out .exit)) ⌝ }
 {
-    let at = buffer::field(out, at, b"nodes ", nodes as u64);
-    let at = buffer::field(out, at, b" arcs ", arcs as u64);
-    let at = buffer::field(out, at, b" awaits ", awaits as u64);
+    let at = field(out, at, b"nodes ", nodes as u64);
+    let at = field(out, at, b" arcs ", arcs as u64);
+    let at = field(out, at, b" awaits ", awaits as u64);
     buffer::byte(out, at, b'\n')
 }
 
 fn bound_line(out: &mut [u8], at: usize, place: usize, bound: u32) -> usize
     ensures { λ r. ⌜ Put (now (out .entry)) at (boundLine place bound) r (now (out .exit)) ⌝ }
 {
-    let at = buffer::field(out, at, b"place ", place as u64);
-    let at = buffer::field(out, at, b" bound ", bound as u64);
+    let at = field(out, at, b"place ", place as u64);
+    let at = field(out, at, b" bound ", bound as u64);
     buffer::byte(out, at, b'\n')
 }
 
@@ -59,19 +74,14 @@ fn bound_lines(out: &mut [u8], at: usize, bounds: &[u32]) -> usize
     next
 }
 
-fn word(out: &mut [u8], at: usize, word: u32) -> usize
-    ensures { λ r. ⌜ Put (now (out .entry)) at (field " " word) r (now (out .exit)) ⌝ }
-{
-    buffer::field(out, at, b" ", word as u64)
-}
-
-fn words(out: &mut [u8], at: usize, words: &[u32]) -> usize
-    ensures { λ r. ⌜ Put (now (out .entry)) at (joined (wordOf (now (words .entry))) (length (now (words .entry)))) r (now (out .exit)) ⌝ }
+// Each word after a blank.
+pub fn words(out: &mut [u8], at: usize, words: &[u32]) -> usize
+    ensures { λ r. ⌜ Put (now (out .entry)) at (wordsText (now (words .entry))) r (now (out .exit)) ⌝ }
 {
     let mut next = at;
     let mut i = 0;
     while i < words.len() {
-        next = word(out, next, words[i]);
+        next = field(out, next, b" ", words[i] as u64);
         i += 1;
     }
     next

@@ -1,16 +1,13 @@
 -- `text::answer_line` meets its contract.
 use borrow.Author.Needs.{needs}
-use Rattle.text.specs.Lines.{field, answerLine}
+use Rattle.text.specs.Lines.{answerLine}
 use Rattle.text.proofs.Put.{both-put}
 use Rattle.text.proofs.answer_line.Statement.{statement}
 use Rattle.text.proofs.answer_line.Tie as tie
 
 returns : tie.Need-returns
-unfolding field answerLine
+unfolding answerLine
 returns c = search (both-put, needs)
 
 pub answer-line-spec : {M : Type 1} → statement M
-answer-line-spec =
-    tie.close
-    (tie.spec (λ c. search needs) (λ c κs. search needs) (λ c κs. search needs) (λ c. search needs) (λ c κs. search needs) (λ c κs. search needs)
-    (λ c. search needs) returns)
+answer-line-spec = tie.close (tie.spec (λ c κs. search needs) (λ c κs. search needs) (λ c. search needs) returns)

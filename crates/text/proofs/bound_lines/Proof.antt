@@ -1,10 +1,10 @@
 -- `text::bound_lines` meets its contract: when the counter is p the first p lines are put.
-use Rattle.scan.proofs.Basics.{_-_, _≤_, arith, _≡_, ap, _∙_, length}
+use Rattle.scan.proofs.Basics.{_-_, _≤_, arith, length}
 use borrow.Author.Needs.{needs}
 use Rattle.text.specs.Buffer.{Put}
 use Rattle.text.specs.Lines.{joined, boundLineOf, boundLines}
-use Rattle.text.proofs.Put.{put-length}
-use Rattle.text.proofs.Joined.{none-joined, more-joined}
+use Rattle.text.proofs.Put.{same-length}
+use Rattle.text.proofs.Joined.{none-joined, more-joined, all-joined}
 use Rattle.text.proofs.bound_lines.Statement.{statement}
 use Rattle.text.proofs.bound_lines.Tie as tie
 
@@ -21,18 +21,12 @@ loop-again : tie.Need-loop-again Inv-loop μ-loop
 unfolding boundLineOf
 loop-again c = search (more-joined, needs)
 
-same-length : tie.Need-same-length Inv-loop μ-loop
-same-length c = ap length (c .before .loop .inv .1 .held) ∙ put-length _ _ _
-
 returns : tie.Need-returns Inv-loop μ-loop
 unfolding boundLines
-returns c =
-    let start : tie.Start Inv-loop μ-loop = search in
-    let e : c .before .loop .p ≡ length (start .args .bounds .now) = omega arith in
-    rw e at (c .before .loop .inv .1)
+returns c = search (all-joined, needs)
 
 pub bound-lines-spec : {M : Type 1} → statement M
 bound-lines-spec =
     tie.close
     (tie.spec Inv-loop μ-loop loop-holds (λ c. search needs) (λ c. search needs) (λ c κs. search needs) (λ c. search needs) (λ c. search needs)
-    loop-again same-length returns)
+    loop-again (λ c. same-length (c .before .loop .inv .1)) returns)

@@ -1,8 +1,8 @@
 -- `text::buffer::bytes` meets its contract: when the counter is i the first i bytes are put.
-use Rattle.scan.proofs.Basics.{_-_, _≤_, arith, ap, _∙_, length, take}
+use Rattle.scan.proofs.Basics.{_-_, _≤_, arith, length, take}
 use borrow.Author.Needs.{needs}
 use Rattle.text.specs.Buffer.{Put}
-use Rattle.text.proofs.Put.{nothing-put, put-length}
+use Rattle.text.proofs.Put.{nothing-put, same-length}
 use Rattle.text.proofs.Joined.{more-taken, all-taken}
 use Rattle.text.proofs.buffer.bytes.Statement.{statement}
 use Rattle.text.proofs.buffer.bytes.Tie as tie
@@ -19,14 +19,11 @@ loop-holds c = (omega arith, nothing-put _ _)
 loop-again : tie.Need-loop-again Inv-loop μ-loop
 loop-again c = (omega arith, search (more-taken, needs))
 
-same-length : tie.Need-same-length Inv-loop μ-loop
-same-length c = ap length (c .before .loop .inv .1 .held) ∙ put-length _ _ _
-
 returns : tie.Need-returns Inv-loop μ-loop
 returns c = search (all-taken, needs)
 
 pub bytes-spec : {M : Type 1} → statement M
 bytes-spec =
     tie.close
-    (tie.spec Inv-loop μ-loop loop-holds (λ c. search needs) (λ c κs. search needs) (λ c. search needs) (λ c. search needs) loop-again same-length
+    (tie.spec Inv-loop μ-loop loop-holds (λ c. search needs) (λ c κs. search needs) (λ c. search needs) (λ c. search needs) loop-again (λ c. same-length (c .before .loop .inv .1))
     returns)

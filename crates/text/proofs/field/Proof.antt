@@ -1,8 +1,8 @@
--- `text::buffer::field` meets its contract.
+-- `text::field` meets its contract.
 use borrow.Author.Needs.{needs}
 use Rattle.text.proofs.Put.{both-put}
-use Rattle.text.proofs.buffer.field.Statement.{statement}
-use Rattle.text.proofs.buffer.field.Tie as tie
+use Rattle.text.proofs.field.Statement.{statement}
+use Rattle.text.proofs.field.Tie as tie
 
 returns : tie.Need-returns
 returns c = search (both-put, needs)
