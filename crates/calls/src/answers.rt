@@ -1,4 +1,4 @@
-// Makes the call of a case, and prints a line with what it answers and what it leaves in the buffers.
+// Makes the call of a case, and prints a line with what it answers and what it leaves in the buffers. The front of an array is lent as in `print`.
 ghost use Prim.Native.Nat.{_≤_};
 ghost use lib.ListN.{length};
 use super::cases;
@@ -131,7 +131,7 @@ fn left(shape: Shape, out: &[u32], second: &[u32], scratch: &[u32]) {
     if 0 < shape.sheets {
         print::scratch(scratch, 7);
     }
-    print::text(b"\n");
+    print::bytes(b"\n");
 }
 
 // Prints the line of a case, given the buffers for its call.
@@ -171,9 +171,9 @@ fn lending(
         net,
         sheet,
         words,
-        &mut out[..outs],
-        &mut second[..seconds],
-        &mut scratch[..scratches],
+        &mut out[0..outs],
+        &mut second[0..seconds],
+        &mut scratch[0..scratches],
     );
 }
 
@@ -207,7 +207,7 @@ fn replayed(
     print::numbers(taken, 9);
     print::numbers(put, 9);
     print::scratch(scratch, 7);
-    print::text(b"\n");
+    print::bytes(b"\n");
 }
 
 // Prints the line of a replay. Its output buffers hold numbers of 64 bits.
@@ -230,9 +230,9 @@ fn lending_wide(
         net,
         sheet,
         log,
-        &mut taken[..takens],
-        &mut put[..puts],
-        &mut scratch[..scratches],
+        &mut taken[0..takens],
+        &mut put[0..puts],
+        &mut scratch[0..scratches],
     );
 }
 
@@ -350,9 +350,9 @@ fn several<'a>(
         second,
         third,
         fourth,
-        &mut out[..outs],
-        &mut other[..seconds],
-        &mut scratch[..scratches],
+        &mut out[0..outs],
+        &mut other[0..seconds],
+        &mut scratch[0..scratches],
     );
 }
 
@@ -375,7 +375,7 @@ pub(crate) fn line(operation: u32, shape: Shape, all: &[u32], marks: Marks, lent
         several(
             operation,
             shape,
-            &all[..net],
+            &all[0..net],
             at(&all[net..numbers], 0),
             &all[numbers..first],
             &all[first..second],
@@ -388,7 +388,7 @@ pub(crate) fn line(operation: u32, shape: Shape, all: &[u32], marks: Marks, lent
     one_sheet(
         operation,
         shape,
-        &all[..net],
+        &all[0..net],
         &all[numbers..first],
         &all[fourth..words],
         lent,

@@ -223,7 +223,7 @@ fn answered(operation: u32, buffer: &mut [u8], from: Text, into: &mut [u32]) -> 
     let lent = lent(shape, marks.fits, buffer, marks.rest);
     let rest = lent.rest;
     if !lent.fits {
-        print::text(b"too long\n");
+        print::bytes(b"too long\n");
         return Next { more: false, rest };
     }
     answers::line(operation, shape, into, marks, lent);
@@ -245,7 +245,7 @@ fn ends(operation: u32) -> bool {
         return true;
     }
     if !stands(operation) {
-        print::text(b"no such call\n");
+        print::bytes(b"no such call\n");
         return true;
     }
     false

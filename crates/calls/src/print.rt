@@ -1,7 +1,7 @@
 // Prints answers as words: the number, the kind of position, the position, then the call's own numbers, and what the buffers hold.
+// What stands at the front is lent as `0..n`, of which the prover asks only that n is no more than the length.
 ghost use Prim.Native.Nat.{_≤_};
-ghost use mathlib.Core.Path.{_≡_};
-ghost use lib.ListN.{length, take};
+ghost use lib.ListN.{length};
 use compare::CompareAnswer;
 use composed::ComposeAnswer;
 use judge::CheckAnswer;
@@ -17,32 +17,29 @@ use schedule::RunAnswer;
 use schedule::Walker;
 use trimmed::TrimAnswer;
 
-pub(crate) fn text(bytes: &[u8]) {
+pub(crate) fn bytes(bytes: &[u8]) {
     io::write_all(STDOUT_FILENO, bytes);
 }
 
-// A word, a blank, a number.
-fn named(name: &[u8], n: u64) {
-    text(name);
-    text(b" ");
-    io::print_decimal(STDOUT_FILENO, n);
-}
-
-fn kind(kind: u64) {
-    match kind {
-        0 => text(b" none"),
-        1 => text(b" entry"),
-        2 => text(b" place"),
-        3 => text(b" node"),
-        _ => text(b" record"),
+// The bytes of a block before an index.
+fn front(block: &[u8], end: usize) {
+    if end <= block.len() {
+        bytes(&block[0..end]);
     }
 }
 
-// The three numbers that every answer begins with: §8.1.
+// A text, and a number after it. No text here is longer than 44 bytes, and no number has more than 20 digits.
+fn field(name: &[u8], n: u64) {
+    let mut line = [0u8; 64];
+    let end = text::field(&mut line, 0, name, n);
+    front(&line, end);
+}
+
+// The three numbers that every answer begins with (§8.1): 55 bytes at most.
 fn begin(plain: [u64; 6]) {
-    named(b"answer", plain[0]);
-    kind(plain[1]);
-    named(b"", plain[2]);
+    let mut line = [0u8; 64];
+    let end = text::answer(&mut line, 0, plain[0], plain[1], plain[2]);
+    front(&line, end);
 }
 
 pub(crate) fn verdict(verdict: Verdict) {
@@ -53,151 +50,103 @@ pub(crate) fn verdict(verdict: Verdict) {
 pub(crate) fn check_answer(answer: CheckAnswer) {
     let plain = answer.plain();
     begin(plain);
-    named(b" nodes", plain[3]);
-    named(b" arcs", plain[4]);
-    named(b" awaits", plain[5]);
+    field(b" nodes ", plain[3]);
+    field(b" arcs ", plain[4]);
+    field(b" awaits ", plain[5]);
 }
 
 pub(crate) fn fire_answer(answer: FireAnswer) {
     let plain = answer.plain();
     begin(plain);
-    named(b" entry", plain[3]);
+    field(b" entry ", plain[3]);
 }
 
 pub(crate) fn run_answer(answer: RunAnswer) {
     let plain = answer.plain();
     begin(plain);
-    named(b" fired", plain[3]);
-    named(b" node", plain[4]);
-    named(b" entry", plain[5]);
+    field(b" fired ", plain[3]);
+    field(b" node ", plain[4]);
+    field(b" entry ", plain[5]);
 }
 
 pub(crate) fn replay_answer(answer: ReplayAnswer) {
     let plain = answer.plain();
     begin(plain);
-    named(b" taken", plain[3]);
-    named(b" put", plain[4]);
-    named(b" entry", plain[5]);
+    field(b" taken ", plain[3]);
+    field(b" put ", plain[4]);
+    field(b" entry ", plain[5]);
 }
 
 pub(crate) fn form_answer(answer: FormAnswer) {
     let plain = answer.plain();
     begin(plain);
-    named(b" length", plain[3]);
+    field(b" length ", plain[3]);
 }
 
 pub(crate) fn mend_answer(answer: MendAnswer) {
     let plain = answer.plain();
     begin(plain);
-    named(b" length", plain[3]);
-    named(b" list", plain[4]);
+    field(b" length ", plain[3]);
+    field(b" list ", plain[4]);
 }
 
 pub(crate) fn compose_answer(answer: ComposeAnswer) {
     let plain = answer.plain();
     begin(plain);
-    named(b" length", plain[3]);
-    named(b" sheet", answer.sheet());
+    field(b" length ", plain[3]);
+    field(b" sheet ", answer.sheet());
 }
 
 pub(crate) fn trim_answer(answer: TrimAnswer) {
     let plain = answer.plain();
     begin(plain);
-    named(b" length", plain[3]);
-    named(b" list", plain[4]);
+    field(b" length ", plain[3]);
+    field(b" list ", plain[4]);
 }
 
 pub(crate) fn reaction_answer(answer: ReactionAnswer) {
     let plain = answer.plain();
     begin(plain);
-    named(b" length", plain[3]);
+    field(b" length ", plain[3]);
 }
 
 pub(crate) fn compare_answer(answer: CompareAnswer) {
     let plain = answer.plain();
     begin(plain);
-    named(b" length", plain[3]);
-    named(b" length", plain[4]);
-    named(b" same", plain[5]);
-    named(b" sheet", answer.sheet());
+    field(b" length ", plain[3]);
+    field(b" length ", plain[4]);
+    field(b" same ", plain[5]);
+    field(b" sheet ", answer.sheet());
 }
 
 // What a transition takes and puts at a place, what the place starts with and its capacity.
 pub(crate) fn weights(taken: u32, put: u32, start: u32, capacity: PlaceCapacity) {
-    named(b"taken", taken as u64);
-    named(b" put", put as u64);
-    named(b" start", start as u64);
-    named(b" capacity", capacity.plain() as u64);
+    field(b"taken ", taken as u64);
+    field(b" put ", put as u64);
+    field(b" start ", start as u64);
+    field(b" capacity ", capacity.plain() as u64);
 }
 
-// Puts a byte at an index of a block and answers the next index; past the block it puts nothing.
-fn byte(block: &mut [u8], at: usize, b: u8) -> usize
-    ensures { λ r. ⌜ r ≤ length (now (block .exit)) ⌝ }
-{
-    if block.len() <= at {
-        return block.len();
-    }
-    block[at] = b;
-    at + 1
-}
-
-// Puts a blank and bytes into a block from an index on, and answers the index after them.
-fn put(block: &mut [u8], at: usize, bytes: &[u8]) -> usize
-    ensures { λ r. ⌜ r ≤ length (now (block .exit)) ⌝ }
-{
-    let mut end = byte(block, at, b' ');
-    let mut i = 0;
-    while i < bytes.len() {
-        end = byte(block, end, bytes[i]);
-        i += 1;
-    }
-    end
-}
-
-// Puts a blank and a number into a block from an index on, and answers the index after them.
-fn number(block: &mut [u8], at: usize, n: u64) -> usize
-    ensures { λ r. ⌜ r ≤ length (now (block .exit)) ⌝ }
-{
-    let mut digits = [0u8; 20];
-    let k = io::decimal(n, &mut digits);
-    put(block, at, &digits[..k])
-}
-
-fn word(block: &mut [u8], at: usize, w: u32) -> usize
-    ensures { λ r. ⌜ r ≤ length (now (block .exit)) ⌝ }
-{
-    number(block, at, w as u64)
-}
-
-// The index in a block where the next number goes. A system call for each number would be slow, so the block is printed only when another may not fit.
-fn room(block: &[u8], at: usize) -> usize
-    ensures { λ r. ⌜ r ≤ length (now (block .entry)) ⌝ }
-{
-    if block.len() < at {
-        return 0;
-    }
-    if 21 <= block.len() - at {
-        return at;
-    }
-    text(&block[..at]);
-    0
-}
-
-fn all(words: &[u32]) {
+// Words that fit a block: a blank and ten digits at most for each.
+fn few(words: &[u32]) {
     let mut block = io::buffer();
-    let mut at = 0;
+    let end = text::words(&mut block, 0, words);
+    front(&block, end);
+}
+
+// All words, 372 at a time: so many fit a block, and a call of the system for each would be slow.
+fn all(words: &[u32]) {
     let mut i = 0;
-    while i < words.len() {
-        at = room(&block, at);
-        at = word(&mut block, at, words[i]);
-        i += 1;
+    while 372 < words.len() - i {
+        few(&words[i..i + 372]);
+        i += 372;
     }
-    text(&block[..at]);
+    few(&words[i..]);
 }
 
 // How many words there are up to the last that is not `blank`.
 fn used(words: &[u32], blank: u32) -> usize
-    ensures { λ r. ⌜ (r ≤ length (now (words .entry))) × (r ≡ length (take r (now (words .entry)))) ⌝ }
+    ensures { λ r. ⌜ r ≤ length (now (words .entry)) ⌝ }
 {
     let mut n = words.len();
     while n > 0 {
@@ -237,14 +186,14 @@ fn first(words: &[u32], word: u32) -> usize {
 // The words up to the last that is not `blank`, and how many follow.
 pub(crate) fn out(words: &[u32], blank: u32) {
     let n = used(words, blank);
-    text(b" out");
-    all(&words[..n]);
-    named(b" rest", (words.len() - n) as u64);
+    bytes(b" out");
+    all(&words[0..n]);
+    field(b" rest ", (words.len() - n) as u64);
 }
 
 // How many numbers there are up to the last that is not `blank`.
 fn used_numbers(numbers: &[u64], blank: u64) -> usize
-    ensures { λ r. ⌜ (r ≤ length (now (numbers .entry))) × (r ≡ length (take r (now (numbers .entry)))) ⌝ }
+    ensures { λ r. ⌜ r ≤ length (now (numbers .entry)) ⌝ }
 {
     let mut n = numbers.len();
     while n > 0 {
@@ -256,42 +205,30 @@ fn used_numbers(numbers: &[u64], blank: u64) -> usize
     n
 }
 
-fn all_numbers(numbers: &[u64]) {
-    let mut block = io::buffer();
-    let mut at = 0;
-    let mut i = 0;
-    while i < numbers.len() {
-        at = room(&block, at);
-        at = number(&mut block, at, numbers[i]);
-        i += 1;
-    }
-    text(&block[..at]);
-}
-
-// The numbers up to the last that is not `blank`, and how many follow.
+// The numbers up to the last that is not `blank`, and how many follow. A replay writes one for each place, few enough to print each by itself.
 pub(crate) fn numbers(numbers: &[u64], blank: u64) {
     let n = used_numbers(numbers, blank);
-    text(b" out");
-    all_numbers(&numbers[..n]);
-    named(b" rest", (numbers.len() - n) as u64);
+    bytes(b" out");
+    let mut i = 0;
+    while i < n {
+        field(b" ", numbers[i]);
+        i += 1;
+    }
+    field(b" rest ", (numbers.len() - n) as u64);
 }
 
 // Prints how many words are 0, how many are still `blank`, and the index of the first `blank`.
 pub(crate) fn scratch(words: &[u32], blank: u32) {
-    named(b" scratch", times(words, 0) as u64);
-    named(b"", times(words, blank) as u64);
-    named(b"", first(words, blank) as u64);
-}
-
-fn counts(words: &[u32]) {
-    let n = used(words, 0);
-    text(b" counts");
-    all(&words[..n]);
+    field(b" scratch ", times(words, 0) as u64);
+    field(b" ", times(words, blank) as u64);
+    field(b" ", first(words, blank) as u64);
 }
 
 // The node, and the counts up to the last that is not 0.
 pub(crate) fn walker(walker: Walker) {
     let held = walker.counts;
-    named(b" node", walker.node as u64);
-    counts(&held);
+    let n = used(&held, 0);
+    field(b" node ", walker.node as u64);
+    bytes(b" counts");
+    all(&held[0..n]);
 }

@@ -1,8 +1,7 @@
 -- `calls::print::used_numbers` is safe and ends: what is left falls, and is no longer than the numbers.
 use Prim.Native.Nat.{_≤_}
 use borrow.Author.Needs.{needs}
-use native.Mathlib.Omega.{arith}
-use lib.ListN.{length, length-take}
+use lib.ListN.{length}
 use Rattle.calls.proofs.print.used_numbers.Statement.{statement}
 use Rattle.calls.proofs.print.used_numbers.Tie as tie
 
@@ -12,14 +11,8 @@ Inv-loop numbers blank n₀ n = n ≤ length numbers
 abbrev μ-loop : tie.MeasureT-loop
 μ-loop numbers blank n₀ n = n
 
-returns : tie.Need-returns Inv-loop μ-loop
-returns c = (search needs, simp length-take (omega arith))
-
-returns-2 : tie.Need-returns-2 Inv-loop μ-loop
-returns-2 c = (search needs, simp length-take (omega arith))
-
 pub used-numbers-spec : {M : Type 1} → statement M
 used-numbers-spec =
     tie.close
     (tie.spec Inv-loop μ-loop (λ c. search needs) (λ c. search needs) (λ c. search needs) (λ c. search needs) (λ c. search needs) (λ c. search needs)
-    (λ c. search needs) returns returns-2)
+    (λ c. search needs) (λ c. search needs) (λ c. search needs))
