@@ -1,8 +1,7 @@
 -- The scan over the nodes: nothing is found before node n, and the marks are those of the await nodes below n.
-use Rattle.scan.proofs.Basics.{ℕ, _+_, _<_, arith, _≡_, refl, sym, ap, _∙_, Bool, true, false, not, _&&_, ltb, eqb, some, List, getD, set, replicate, length-set}
+use Rattle.scan.proofs.Basics.{ℕ, _+_, _<_, arith, _≡_, refl, sym, ap, _∙_, Bool, true, false, not, _&&_, ltb, eqb, some, List, getD, set, replicate, length-set, getD-set-same, getD-set-other}
 use Prim.Native.Nat.{min}
 use lib.ListN.{getD-replicate}
-use lib.Seq.{getD-set-same, getD-set-other}
 use Rattle.scan.proofs.Tests.{ltb-true, lt-ltb, le-ltb, eqb-true, eqb-false, ne-eqb, byTest, iff→eq}
 use Rattle.scan.specs.Scan.{when, bit, tabulate, found}
 use Rattle.scan.proofs.First.{first-none, first-more, first-hit, orElse-hit, orElse-next}

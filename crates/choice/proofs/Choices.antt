@@ -1,7 +1,6 @@
 -- The table of choice sets: what the loops over rows of weights find, and what is known of a set from its least transition.
-use Rattle.scan.proofs.Basics.{ℕ, _≤_, _<_, arith, _≡_, refl, subst, sym, ap, _∙_, true, false, cond, ltb, eqb, List, length, getD, set}
+use Rattle.scan.proofs.Basics.{ℕ, _≤_, _<_, arith, _≡_, refl, subst, sym, ap, _∙_, true, false, cond, ltb, eqb, List, length, getD, set, getD-set-same, getD-set-other}
 use Prim.Native.Nat.{min}
-use lib.Seq.{getD-set-same, getD-set-other}
 use Rattle.scan.proofs.Tests.{ltb-true, ltb-false, lt-ltb, le-ltb, eqb-true, eqb-false, eq-eqb, ne-eqb, byTest, iff→eq, true-false, not-true→false}
 use Rattle.scan.specs.Scan.{all, least}
 use Rattle.scan.proofs.Every.{all-out, all-in, all-fails}

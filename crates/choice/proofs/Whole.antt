@@ -1,9 +1,8 @@
 -- The walk along the arcs: as far as it has come in a row, the row has the arcs of the choice set and no others; where a choice set ends; what such a node offers.
-use Rattle.scan.proofs.Basics.{ℕ, _+_, _-_, _≤_, _<_, arith, _≡_, refl, sym, _∙_, Bool, true, false, eqb, List, length, getD, set, replicate, length-set}
+use Rattle.scan.proofs.Basics.{ℕ, _+_, _-_, _≤_, _<_, arith, _≡_, refl, sym, _∙_, Bool, true, false, eqb, List, length, getD, set, replicate, length-set, getD-set-same, getD-set-other}
 use mathlib.Core.Bool.{Bool·beq}
 use native.Mathlib.Decide.{decLt, ℕ-discrete}
 use lib.ListN.{getD-replicate, List·getD-eq-default}
-use lib.Seq.{getD-set-same, getD-set-other}
 use Rattle.scan.proofs.Tests.{lt-ltb, le-ltb, le-leb, eq-eqb, ne-eqb, byLess}
 use Rattle.scan.specs.Scan.{all, least}
 use Rattle.scan.proofs.Every.{all-in, all-out}

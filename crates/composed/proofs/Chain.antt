@@ -1,6 +1,6 @@
 -- The checks of composition: each test decides its clause, and what they find is the check that fails first.
+use Rattle.scan.proofs.Basics.{arith}
 use Prim.Native.Nat.{ℕ, zero, suc, _<_}
-use native.Mathlib.Omega.{arith}
 use mathlib.Core.Path.{_≡_, refl, sym, subst}
 use mathlib.Core.Logic.{_↔_, ⊎-elim}
 use mathlib.Core.Bool.{false, not}

@@ -1,7 +1,7 @@
 -- 30 without a search, and source document 001's Corollary 1.
+use Rattle.scan.proofs.Basics.{arith}
 use Prim.Native.Nat.{ℕ, zero, suc, _+_, _*_, _-_, _≤_, _<_}
 use native.Mathlib.Nat.{zero-mul, suc-mul}
-use native.Mathlib.Omega.{arith}
 use mathlib.Core.Path.{_≡_, refl, ap}
 use mathlib.Core.Option.{none}
 use mathlib.Core.Logic.{_↔_, ⊎-elim}

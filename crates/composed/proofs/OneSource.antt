@@ -1,7 +1,7 @@
 -- With one source the product is the task itself, so that the composed schedule is the given one, numbered breadth first (§10.33).
+use Rattle.scan.proofs.Basics.{arith}
 use Prim.Native.Nat.{ℕ, _-_, _*_, _<_}
 use native.Mathlib.Nat.{mod-eq-of-lt, div-one, zero-mul}
-use native.Mathlib.Omega.{arith}
 use mathlib.Core.Path.{_≡_, refl, sym, ap, _∙_}
 use mathlib.Core.Option.{Option, none, some, Option·map}
 use lib.ListN.{length, getD}

@@ -1,6 +1,6 @@
 -- The graph of all tuples: which task fires, one busy task at most, and a task's own path followed while the others wait.
+use Rattle.scan.proofs.Basics.{arith}
 use Prim.Native.Nat.{ℕ, zero, suc, _<_}
-use native.Mathlib.Omega.{arith}
 use mathlib.Core.Path.{_≡_, refl, sym, ap, _∙_}
 use mathlib.Core.Logic.{_⊎_, inl, inr, ⊎-elim}
 use mathlib.Core.Bool.{Bool, true, false, not}

@@ -1,6 +1,6 @@
 -- Lists in which no source but that of one task occurs: the product allows those that the task allows (§10.34).
+use Rattle.scan.proofs.Basics.{arith}
 use Prim.Native.Nat.{ℕ, suc, _<_}
-use native.Mathlib.Omega.{arith}
 use mathlib.Core.Path.{_≡_, refl, sym, ap, _∙_}
 use mathlib.Core.Logic.{⊎-elim}
 use mathlib.Core.List.{List, [], _∷_}

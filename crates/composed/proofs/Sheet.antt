@@ -1,6 +1,6 @@
 -- The composed schedule's words: accepted with the whole net, and the graph of the reached states.
+use Rattle.scan.proofs.Basics.{arith}
 use Prim.Native.Nat.{ℕ, _≤_, _<_}
-use native.Mathlib.Omega.{arith}
 use mathlib.Core.Path.{_≡_, sym, ap, _∙_, subst}
 use mathlib.Core.List.{List}
 use lib.ListN.{length}

@@ -1,6 +1,6 @@
 -- The reached states are exactly the tuples in which at most one task is busy.
+use Rattle.scan.proofs.Basics.{arith}
 use Prim.Native.Nat.{ℕ, zero, suc, _≤_, _<_}
-use native.Mathlib.Omega.{arith}
 use mathlib.Core.Path.{_≡_, refl, sym, ap, _∙_}
 use mathlib.Core.Logic.{_↔_, ⊎-elim}
 use mathlib.Core.Bool.{true}

@@ -1,8 +1,8 @@
 -- Tuples as numbers: a component is what was put there, the others stay, and equal components make equal tuples.
+use Rattle.scan.proofs.Basics.{arith}
 use Prim.Native.Nat.{ℕ, zero, suc, _+_, _*_, _/_, _%_, _≤_, _<_}
 use native.Mathlib.Nat.{add-mul, mul-assoc, mul-comm, mul-pos, zero-div, zero-mod, mod-lt, mod-eq-of-lt}
 use native.Mathlib.Nat.{div-add-mod', mul-add-div-right, mul-add-mod-self-right, div-div-eq-div-mul, div-lt-iff-lt-mul}
-use native.Mathlib.Omega.{arith}
 use mathlib.Core.Path.{_≡_, refl, sym, ap, _∙_}
 use mathlib.Core.Logic.{⊎-elim}
 use lib.Dec.{ltb}

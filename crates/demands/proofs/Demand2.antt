@@ -1,6 +1,5 @@
 -- Demand 2, proved.
-use Rattle.scan.proofs.Basics.{ℕ, zero, suc, _+_, _≤_, _<_, arith, _≡_, refl, sym, ap, subst, _∙_, _↔_, Bool, true, List, [], _++_, length, getD, drop}
-use native.Mathlib.Numerals.{add-one}
+use Rattle.scan.proofs.Basics.{ℕ, zero, suc, _+_, _≤_, _<_, add-one, arith, _≡_, refl, sym, ap, subst, _∙_, _↔_, Bool, true, List, [], _++_, length, getD, drop}
 use lib.ListN.{List·getD-append}
 use Rattle.scan.specs.Scan.{bit, count}
 use Rattle.scan.proofs.Tests.{byTest}

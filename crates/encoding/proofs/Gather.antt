@@ -1,7 +1,6 @@
 -- What is gathered over indices, and over rows: how long the list is, at which index each finding is, and how two lists gathered together correspond.
 -- f finds something
-use Rattle.scan.proofs.Basics.{ℕ, zero, suc, _+_, _*_, _<_, arith, _≡_, refl, sym, ap, _∙_, ⊎-elim, Bool, Option, none, some, [], _++_, length, length-append}
-use native.Mathlib.Numerals.{add-one}
+use Rattle.scan.proofs.Basics.{ℕ, zero, suc, _+_, _*_, _<_, add-one, arith, _≡_, refl, sym, ap, _∙_, ⊎-elim, Bool, Option, none, some, [], _++_, length, length-append}
 use native.Mathlib.Nat.{suc-mul}
 use Rattle.scan.specs.Scan.{found, bit, count, sum}
 use Rattle.scan.proofs.Tests.{true-false, lt-suc-cases}

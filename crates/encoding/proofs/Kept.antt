@@ -1,9 +1,7 @@
 -- The cells of the arcs of kept nodes, with new numbers, as the code makes them.
-use Rattle.scan.proofs.Basics.{ℕ, zero, suc, _+_, _-_, _≤_, _<_, arith, _≡_, refl, _∙_, ⊎-elim, List, length, getD, set, replicate, length-set}
+use Rattle.scan.proofs.Basics.{ℕ, zero, suc, _+_, _-_, _≤_, _<_, add-one, arith, _≡_, refl, _∙_, ⊎-elim, List, length, getD, set, replicate, length-set, getD-set-other}
 use Rattle.scan.proofs.Basics.{length-replicate}
-use native.Mathlib.Numerals.{add-one}
 use lib.ListN.{List·getD-eq-default}
-use lib.Seq.{getD-set-other}
 use Rattle.scan.proofs.Tests.{lt-suc-cases}
 use Rattle.scan.proofs.Tabulate.{stored-more}
 use Rattle.scan.proofs.Front.{zeros}

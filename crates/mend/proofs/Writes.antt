@@ -1,6 +1,5 @@
 -- What is written: words that are copied, and the rows of a part, which are the counts that the arcs force, or their changes.
-use Rattle.scan.proofs.Basics.{ℕ, zero, suc, _+_, _-_, _*_, _≤_, _<_, arith, _≡_, refl, sym, ap, _∙_, not, ltb, eqb, Option, List, [], _∷_, _++_, length, getD, length-append}
-use native.Mathlib.Numerals.{add-one}
+use Rattle.scan.proofs.Basics.{ℕ, zero, suc, _+_, _-_, _*_, _≤_, _<_, add-one, arith, _≡_, refl, sym, ap, _∙_, not, ltb, eqb, Option, List, [], _∷_, _++_, length, getD, length-append}
 use mathlib.Core.Bool.{and-false}
 use Rattle.scan.proofs.Tests.{lt-ltb, le-ltb, byTest}
 use Rattle.scan.specs.Scan.{when, count, tabulate}

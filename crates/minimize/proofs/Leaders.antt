@@ -1,6 +1,5 @@
 -- Tables of leaders: a loop that looks for a leader, a round that passes over nodes which do not lead, and the last round.
-use Rattle.scan.proofs.Basics.{ℕ, suc, _+_, _-_, _≤_, _<_, arith, _≡_, refl, sym, ap, _∙_, Bool, true, false, Option, List, length, getD, set}
-use native.Mathlib.Numerals.{add-one}
+use Rattle.scan.proofs.Basics.{ℕ, suc, _+_, _-_, _≤_, _<_, add-one, arith, _≡_, refl, sym, ap, _∙_, Bool, true, false, Option, List, length, getD, set}
 use native.Mathlib.Decide.{le-ind}
 use Rattle.scan.proofs.Tests.{byLess, byEqual, eqb-true, eq-eqb, ne-eqb, true-false, not-true→false, and-left, and-right, and-both}
 use Rattle.scan.specs.Scan.{all, any, least, found}

@@ -1,7 +1,6 @@
 -- Level rows: if two nodes have arcs by the same transitions, their entries correspond one by one, and the rows agree if the targets do, entry by entry.
-use Rattle.scan.proofs.Basics.{ℕ, zero, suc, _+_, _-_, _≤_, _<_, arith, _≡_, refl, sym, ap, _∙_, Bool, true, false, cond, none, some, List, length, getD}
+use Rattle.scan.proofs.Basics.{ℕ, zero, suc, _+_, _-_, _≤_, _<_, add-one, arith, _≡_, refl, sym, ap, _∙_, Bool, true, false, cond, none, some, List, length, getD}
 use native.Mathlib.Nat.{add-zero, add-assoc, suc-mul}
-use native.Mathlib.Numerals.{add-one}
 use Rattle.scan.proofs.Tests.{byTest, byLess, lt-ltb, eq-eqb, and-both, and-true}
 use Rattle.scan.specs.Scan.{all, found}
 use Rattle.scan.proofs.Every.{all-next}

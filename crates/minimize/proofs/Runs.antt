@@ -1,8 +1,7 @@
 -- A run of rising keys gathered into words, and what a column has by its entry.
-use Rattle.scan.proofs.Basics.{ℕ, zero, suc, _+_, _-_, _≤_, _<_, arith, _≡_, refl, sym, ap, _∙_, Bool, true, false, cond, ltb, Option, none, some, Option·map, List, [], _∷_}
+use Rattle.scan.proofs.Basics.{ℕ, zero, suc, _+_, _-_, _≤_, _<_, add-one, arith, _≡_, refl, sym, ap, _∙_, Bool, true, false, cond, ltb, Option, none, some, Option·map, List, [], _∷_}
 use Rattle.scan.proofs.Basics.{length, length-append}
 use mathlib.Core.List.{append-nil}
-use native.Mathlib.Numerals.{add-one}
 use Rattle.scan.specs.Scan.{when, found, foundOr}
 use Rattle.scan.proofs.Tests.{lt-ltb, le-ltb, byTest, byLess}
 use Rattle.scan.proofs.First.{when-hit, when-miss}

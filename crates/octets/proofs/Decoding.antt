@@ -1,6 +1,5 @@
 -- How much of a file is handed on, the turns of the decoding, and that a file is read as its cut is.
-use Rattle.scan.proofs.Basics.{ℕ, _+_, _*_, _/_, _%_, _≤_, _<_, arith, _≡_, sym, ap, _∙_, true, false, not, leb, eqb, List, length, getD, take, set, length-take}
-use native.Mathlib.Numerals.{add-one}
+use Rattle.scan.proofs.Basics.{ℕ, _+_, _*_, _/_, _%_, _≤_, _<_, add-one, arith, _≡_, sym, ap, _∙_, true, false, not, leb, eqb, List, length, getD, take, set, length-take}
 use lib.ListN.{List·getD-eq-default}
 use lib.Seq.{getD-take, take-all, take-append-seam}
 use Rattle.scan.proofs.Tests.{leb-true, leb-false, le-leb, lt-leb, byTest}

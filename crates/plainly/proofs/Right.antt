@@ -1,7 +1,6 @@
 -- What the clauses find over the graph of the words is what the definitions of the fast engine find.
-use Rattle.scan.proofs.Basics.{ℕ, zero, suc, _+_, _*_, _/_, _%_, _≤_, _<_, arith, _≡_, refl, sym, ap, _∙_, true, false, Option, none, some, Option·map, List}
+use Rattle.scan.proofs.Basics.{ℕ, zero, suc, _+_, _*_, _/_, _%_, _≤_, _<_, add-one, arith, _≡_, refl, sym, ap, _∙_, true, false, Option, none, some, Option·map, List}
 use native.Mathlib.Nat.{div-lt-iff-lt-mul, mod-lt, div-add-mod'}
-use native.Mathlib.Numerals.{add-one}
 use native.Mathlib.Decide.{le-ind}
 use Rattle.scan.specs.Scan.{orElse, first, found, count, bit}
 use Rattle.scan.proofs.First.{first-ext}

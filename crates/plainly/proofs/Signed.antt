@@ -1,9 +1,8 @@
 -- The difference of two unsigned numbers that fit the lower half of a width: it fits, and is what the machine gives. A table that is filled in order.
-use Rattle.scan.proofs.Basics.{ℕ, zero, suc, _+_, _-_, _≤_, _<_, arith, _≡_, refl, sym, ap, _∙_, _↔_, true, false, eqb, List, length, getD, set, ltb}
+use Rattle.scan.proofs.Basics.{ℕ, zero, suc, _+_, _-_, _≤_, _<_, arith, _≡_, refl, sym, ap, _∙_, _↔_, true, false, eqb, List, length, getD, set, ltb, getD-set-same, getD-set-other}
 use Prim.Native.Nat.{_^_}
 use lib.IntN.{ℤ, pos, negsuc, subℕ, _+ℤ_, _-ℤ_}
 use lib.Signed.{mag}
-use lib.Seq.{getD-set-same, getD-set-other}
 use mir.Val.{SFits, hbits, toZ, ofZ}
 use mir.Syntax.{Width}
 use mir.ValLaws.{toZ-pos, toZ-ofZ}

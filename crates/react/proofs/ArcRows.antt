@@ -1,8 +1,7 @@
 -- The arcs of a node are the entries from its start to the next, in the order of their transitions.
-use Rattle.scan.proofs.Basics.{ℕ, zero, suc, _+_, _*_, _-_, _≤_, _<_, arith, _≡_, subst, sym, ap, _∙_, none, some, List, length, getD, set}
+use Rattle.scan.proofs.Basics.{ℕ, zero, suc, _+_, _*_, _-_, _≤_, _<_, arith, _≡_, subst, sym, ap, _∙_, none, some, List, length, getD, set, getD-set-same, getD-set-other}
 use native.Mathlib.Nat.{div-add-mod'}
 use Rattle.scan.proofs.Tests.{byEqual, byLess, lt-ltb}
-use lib.Seq.{getD-set-same, getD-set-other}
 use Rattle.table.specs.Table.{keyAt, Rising}
 use Rattle.table.specs.Bisection.{lowerBound}
 use Rattle.table.proofs.Table.{rising, entry-at}

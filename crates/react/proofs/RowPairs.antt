@@ -1,7 +1,6 @@
 -- The pairs of a node, one behind another: an arc has one, a transition without an arc none, and a busy node none at all.
-use Rattle.scan.proofs.Basics.{ℕ, zero, suc, _+_, _≤_, _<_, _≡_, refl, ap, _∙_, true, false, none, some, List, [], _∷_, _++_, length, length-append}
+use Rattle.scan.proofs.Basics.{ℕ, zero, suc, _+_, _≤_, _<_, add-one, _≡_, refl, ap, _∙_, true, false, none, some, List, [], _∷_, _++_, length, length-append}
 use mathlib.Core.List.{append-nil}
-use native.Mathlib.Numerals.{add-one}
 use Rattle.scan.proofs.Tests.{byTest}
 use Rattle.encoding.specs.Rows.{Appended}
 use Rattle.encoding.proofs.Rows.{appended-none, appended-more}

@@ -1,6 +1,5 @@
 -- Following a log turn by turn: what is known after i firings, one firing more, and the firings at which it ends.
-use Rattle.scan.proofs.Basics.{ℕ, _+_, _≤_, _<_, arith, _≡_, refl, sym, ap, _∙_, none, some, List, length, getD}
-use native.Mathlib.Numerals.{add-one}
+use Rattle.scan.proofs.Basics.{ℕ, _+_, _≤_, _<_, add-one, arith, _≡_, refl, sym, ap, _∙_, none, some, List, length, getD}
 use Rattle.scan.proofs.Tabulate.{tabulate-length, tabulate-at}
 use Rattle.scan.specs.Scan.{first}
 use Rattle.scan.proofs.First.{first-none, first-more, first-hit}

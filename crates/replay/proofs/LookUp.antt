@@ -1,9 +1,8 @@
 -- The look-up of a firing's arc: a guess whose key is the arc's is its entry, and what is looked up lies in the node's row.
-use Rattle.scan.proofs.Basics.{ℕ, _+_, _*_, _≤_, _<_, arith, _≡_, refl, sym, ap, _∙_, some, List, getD, set, replicate, length-set}
+use Rattle.scan.proofs.Basics.{ℕ, _+_, _*_, _≤_, _<_, arith, _≡_, refl, sym, ap, _∙_, some, List, getD, set, replicate, length-set, getD-set-same, getD-set-other}
 use native.Mathlib.Decide.{decLt}
 use native.Mathlib.Nat.{mul-le-mul}
 use lib.ListN.{getD-replicate}
-use lib.Seq.{getD-set-same, getD-set-other}
 use Rattle.scan.proofs.Tests.{lt-ltb, le-ltb}
 use Rattle.table.specs.Table.{keyAt}
 use Rattle.table.specs.Bisection.{foundOf}

@@ -1,8 +1,7 @@
 -- How many indices pass: subsets, proper subsets, rows, and the pigeonhole principle.
-use Rattle.scan.proofs.Basics.{ℕ, zero, suc, _+_, _≤_, _<_, arith, _≡_, refl, ⊎-elim, _↔_, Bool, true, false, ltb, eqb}
+use Rattle.scan.proofs.Basics.{ℕ, zero, suc, _+_, _≤_, _<_, add-one, arith, _≡_, refl, ⊎-elim, _↔_, Bool, true, false, ltb, eqb}
 use Prim.Native.Nat.{zero-le}
 use native.Mathlib.Nat.{add-zero, add-suc}
-use native.Mathlib.Numerals.{add-one}
 use native.Mathlib.Decide.{decLt}
 use Rattle.scan.proofs.Tests.{eqb-true, eqb-false, eq-eqb, byTest, true-false, not-true→false, lt-suc-cases}
 use Rattle.scan.specs.Scan.{any, bit, count}

@@ -1,6 +1,5 @@
 -- Every index passes, some index passes.
-use Rattle.scan.proofs.Basics.{ℕ, zero, suc, _+_, _<_, arith, _≡_, refl, sym, _∙_, ⊎-elim, Bool, true, false, _&&_}
-use native.Mathlib.Numerals.{add-one}
+use Rattle.scan.proofs.Basics.{ℕ, zero, suc, _+_, _<_, add-one, arith, _≡_, refl, sym, _∙_, ⊎-elim, Bool, true, false, _&&_}
 use Rattle.scan.specs.Scan.{all, any}
 use Rattle.scan.proofs.Tests.{true-false, not-true→false, and-left, and-right, and-both, and-true, or-left, or-right, or-cases, lt-suc-cases}
 

@@ -1,6 +1,5 @@
 -- The first finding of a scan: what each turn of a loop shows, what a loop that runs out shows, what one left early shows.
-use Rattle.scan.proofs.Basics.{ℕ, zero, suc, _+_, _≤_, _<_, arith, _≡_, refl, _⊎_, inl, inr, ⊎-elim, Bool, true, false, Option, none, some, Option·map}
-use native.Mathlib.Numerals.{add-one}
+use Rattle.scan.proofs.Basics.{ℕ, zero, suc, _+_, _≤_, _<_, add-one, arith, _≡_, refl, _⊎_, inl, inr, ⊎-elim, Bool, true, false, Option, none, some, Option·map}
 use native.Mathlib.Decide.{le-ind}
 use Rattle.scan.specs.Scan.{orElse, when, found, first}
 use Rattle.scan.proofs.Tests.{lt-suc-cases}

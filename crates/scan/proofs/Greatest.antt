@@ -1,8 +1,7 @@
 -- The greatest value: it bounds every value, and some value equals it.
 -- a turn of a loop
-use Rattle.scan.proofs.Basics.{ℕ, zero, suc, _+_, _≤_, _<_, arith, _≡_, ⊎-elim}
+use Rattle.scan.proofs.Basics.{ℕ, zero, suc, _+_, _≤_, _<_, add-one, arith, _≡_, ⊎-elim}
 use Prim.Native.Nat.{max}
-use native.Mathlib.Numerals.{add-one}
 use native.Mathlib.Decide.{decLt}
 use Rattle.scan.specs.Scan.{greatest}
 use Rattle.scan.proofs.Tests.{lt-suc-cases}

@@ -1,7 +1,6 @@
 -- Words written one after the other from an index on: more words, one more word, and a buffer that is full.
-use Rattle.scan.proofs.Basics.{ℕ, suc, _+_, _≤_, _<_, arith, _≡_, refl, sym, ap, _∙_, leb, List, [], _∷_, _++_, length, getD, take, drop, set, length-append}
+use Rattle.scan.proofs.Basics.{ℕ, suc, _+_, _≤_, _<_, add-one, arith, _≡_, refl, sym, ap, _∙_, leb, List, [], _∷_, _++_, length, getD, take, drop, set, length-append}
 use native.Mathlib.Nat.{add-zero, zero-add}
-use native.Mathlib.Numerals.{add-one}
 use lib.ListN.{take-append-drop}
 use lib.Seq.{sets, sets-eq, length-sets, set-out, take-suc, take-take, take-all, length-take-le}
 use Rattle.scan.proofs.Tests.{leb-true, leb-false, byTest}

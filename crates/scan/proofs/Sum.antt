@@ -1,9 +1,8 @@
 -- Sums.
 -- a turn of a loop
-use Rattle.scan.proofs.Basics.{ℕ, zero, suc, _+_, _*_, _/_, _%_, _≤_, _<_, arith, _≡_, refl, _∙_, ⊎-elim, Bool, true, false, cond, eqb}
+use Rattle.scan.proofs.Basics.{ℕ, zero, suc, _+_, _*_, _/_, _%_, _≤_, _<_, add-one, arith, _≡_, refl, _∙_, ⊎-elim, Bool, true, false, cond, eqb}
 use Prim.Native.Nat.{zero-le}
 use native.Mathlib.Nat.{add-zero, zero-mul, suc-mul, mul-add-div-right, mul-add-mod-self-right, div-eq-of-lt, mod-eq-of-lt}
-use native.Mathlib.Numerals.{add-one}
 use Rattle.scan.proofs.Tests.{eqb-true, eq-eqb, byTest, not-true→false, lt-suc-cases}
 use Rattle.scan.specs.Scan.{any, count, sum}
 use Rattle.scan.proofs.Every.{any-in, any-out}

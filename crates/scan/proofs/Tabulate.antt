@@ -1,8 +1,7 @@
 -- A function's values as a list: its length, its elements, and the table that a loop fills.
-use Rattle.scan.proofs.Basics.{ℕ, zero, suc, _+_, _≤_, _<_, arith, _≡_, refl, sym, _∙_, ⊎-elim, List, [], _∷_, length, getD, take, set, length-append}
+use Rattle.scan.proofs.Basics.{ℕ, zero, suc, _+_, _≤_, _<_, arith, _≡_, refl, sym, _∙_, ⊎-elim, List, [], _∷_, length, getD, take, set, length-append, getD-set-same, getD-set-other, below-more}
 use lib.ListN.{List·getD-append}
-use lib.Seq.{getD-at, ext-getD, getD-set-same, getD-set-other, getD-take, length-take-le}
-use borrow.Author.Count.{below-more}
+use lib.Seq.{getD-at, ext-getD, getD-take, length-take-le}
 use Rattle.scan.specs.Scan.{tabulate}
 use Rattle.scan.proofs.Tests.{lt-suc-cases}
 

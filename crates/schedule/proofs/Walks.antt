@@ -1,6 +1,5 @@
 -- Walks along the arcs: where an arc's entry leads, the faults of a walker, a single firing, and a list of firings from node 0.
-use Rattle.scan.proofs.Basics.{ℕ, _+_, _*_, _≤_, _<_, arith, _≡_, refl, sym, ap, _∙_, not, _&&_, ltb, none, some, List, [], getD}
-use native.Mathlib.Numerals.{add-one}
+use Rattle.scan.proofs.Basics.{ℕ, _+_, _*_, _≤_, _<_, add-one, arith, _≡_, refl, sym, ap, _∙_, not, _&&_, ltb, none, some, List, [], getD}
 use Rattle.scan.proofs.Tests.{le-leb, lt-leb, eq-eqb, ne-eqb, byTest}
 use Rattle.scan.specs.Scan.{found, first}
 use Rattle.scan.proofs.First.{none-some, orElse-next, orElse-hit, when-hit, when-miss, first-hit}

@@ -1,6 +1,5 @@
 -- Keyed words whose keys rise: at most one entry has a key, each is found at its key, and a key that no entry has is absent.
-use Rattle.scan.proofs.Basics.{ℕ, suc, _<_, arith, _≡_, eqb, Option, none, some, List}
-use native.Mathlib.Numerals.{add-one}
+use Rattle.scan.proofs.Basics.{ℕ, suc, _<_, add-one, arith, _≡_, eqb, Option, none, some, List}
 use native.Mathlib.Decide.{le-ind, decLt}
 use Rattle.scan.specs.Scan.{when}
 use Rattle.scan.proofs.Tests.{eqb-true, eqb-false, eq-eqb, ne-eqb}

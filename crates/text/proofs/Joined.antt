@@ -1,6 +1,5 @@
 -- Bytes, digits and texts one after the other.
-use Rattle.scan.proofs.Basics.{ℕ, zero, suc, _+_, _/_, _%_, _≤_, _<_, arith, _≡_, refl, List, [], _∷_, _++_, length, getD, take}
-use native.Mathlib.Numerals.{add-one}
+use Rattle.scan.proofs.Basics.{ℕ, zero, suc, _+_, _/_, _%_, _≤_, _<_, add-one, arith, _≡_, refl, List, [], _∷_, _++_, length, getD, take}
 use lib.Seq.{take-suc, take-all}
 use Rattle.text.specs.Buffer.{Put}
 use Rattle.text.specs.Decimal.{digit, decimal}

@@ -1,7 +1,5 @@
 -- The marked nodes, numbered in rising order, are the kept nodes with their new numbers.
-use Rattle.scan.proofs.Basics.{ℕ, _+_, _≤_, _<_, arith, _≡_, refl, sym, _∙_, ⊎-elim, Bool, true, false, List, set, replicate, length-set, length-replicate}
-use native.Mathlib.Numerals.{add-one}
-use lib.Seq.{getD-set-other}
+use Rattle.scan.proofs.Basics.{ℕ, _+_, _≤_, _<_, add-one, arith, _≡_, refl, sym, _∙_, ⊎-elim, Bool, true, false, List, set, replicate, length-set, length-replicate, getD-set-other}
 use Rattle.scan.specs.Scan.{bit, count}
 use Rattle.scan.proofs.Tests.{lt-suc-cases}
 use Rattle.scan.proofs.Count.{count-ext, count-more, bit-mark}

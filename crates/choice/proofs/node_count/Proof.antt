@@ -1,6 +1,5 @@
 -- `choice::node_count` meets its contract.
-use Rattle.scan.proofs.Basics.{arith, _≡_, getD}
-use borrow.Author.Needs.{needs}
+use Rattle.scan.proofs.Basics.{arith, needs, _≡_, getD}
 use lib.ListN.{List·getD-eq-default}
 use Rattle.choice.proofs.node_count.Statement.{statement}
 use Rattle.choice.proofs.node_count.Tie as tie

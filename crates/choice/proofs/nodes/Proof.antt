@@ -1,6 +1,5 @@
 -- `choice::nodes` meets its contract: 32 is no transition, so that no source is removed.
-use Rattle.scan.proofs.Basics.{_∙_}
-use borrow.Author.Needs.{needs}
+use Rattle.scan.proofs.Basics.{needs, _∙_}
 use Rattle.choice.proofs.Right.{whole-nodes}
 use Rattle.choice.proofs.nodes.Statement.{statement}
 use Rattle.choice.proofs.nodes.Tie as tie

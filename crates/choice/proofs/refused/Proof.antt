@@ -1,5 +1,5 @@
 -- `choice::refused` meets its contract.
-use borrow.Author.Needs.{needs}
+use Rattle.scan.proofs.Basics.{needs}
 use Rattle.choice.proofs.refused.Statement.{statement}
 use Rattle.choice.proofs.refused.Tie as tie
 

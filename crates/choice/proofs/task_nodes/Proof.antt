@@ -1,6 +1,5 @@
 -- `choice::task_nodes` meets its contract: nothing is found at the nodes before the counter, and their marks are right.
-use Rattle.scan.proofs.Basics.{_-_, _≤_, arith, refl}
-use borrow.Author.Needs.{needs}
+use Rattle.scan.proofs.Basics.{_-_, _≤_, arith, needs, refl}
 use Rattle.choice.specs.Passing.{Passing}
 use Rattle.choice.proofs.Answer.{ground-is, offering, row-tells, refused-at, passes-at, busy-root, all-pass}
 use Rattle.choice.proofs.task_nodes.Statement.{statement}

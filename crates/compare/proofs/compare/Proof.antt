@@ -1,7 +1,6 @@
 -- `compare::compare` meets its contract.
-use Rattle.scan.proofs.Basics.{sym, _∙_}
+use Rattle.scan.proofs.Basics.{needs, sym, _∙_}
 use Rattle.lending.proofs.Laws.{refused-scratch, served}
-use borrow.Author.Needs.{needs}
 use Rattle.compare.proofs.Paths.{scratch-missing}
 use Rattle.compare.proofs.Says.{compare-done}
 use Rattle.compare.proofs.compare.Statement.{statement}

@@ -1,6 +1,5 @@
 -- `compare::compare_into` meets its contract.
-use Rattle.scan.proofs.Basics.{sym, _∙_}
-use borrow.Author.Needs.{needs}
+use Rattle.scan.proofs.Basics.{needs, sym, _∙_}
 use Rattle.compare.proofs.Paths.{first-refused, second-refused, forms-refused, forms-lie, compared}
 use Rattle.compare.proofs.compare_into.Statement.{statement}
 use Rattle.compare.proofs.compare_into.Tie as tie

@@ -1,6 +1,5 @@
 -- `compare::refused` meets its contract.
-use Rattle.scan.proofs.Basics.{sym, _∙_}
-use borrow.Author.Needs.{needs}
+use Rattle.scan.proofs.Basics.{needs, sym, _∙_}
 use Rattle.compare.proofs.refused.Statement.{statement}
 use Rattle.compare.proofs.refused.Tie as tie
 

@@ -1,6 +1,5 @@
 -- `compare::same_fronts` meets its contract: it is known whether the words before the counter are equal.
-use Rattle.scan.proofs.Basics.{_-_, _≤_, arith, _≡_, refl, sym, _∙_, ⊎-elim}
-use borrow.Author.Needs.{needs}
+use Rattle.scan.proofs.Basics.{_-_, _≤_, arith, needs, _≡_, refl, sym, _∙_, ⊎-elim}
 use Rattle.scan.proofs.Tests.{eq-eqb, ne-eqb}
 use Rattle.scan.specs.Scan.{all}
 use Rattle.scan.proofs.Every.{all-fails, all-keeps}

@@ -1,6 +1,5 @@
 -- `encoding::append` meets its contract: when the counter is c the words of the first c columns are written.
-use Rattle.scan.proofs.Basics.{_-_, _≤_, arith, _≡_}
-use borrow.Author.Needs.{needs}
+use Rattle.scan.proofs.Basics.{_-_, _≤_, arith, needs, _≡_}
 use Rattle.encoding.specs.Encoding.{gather}
 use Rattle.encoding.specs.Rows.{columnWord, rowWords, Appended}
 use Rattle.encoding.proofs.Rows.{appended-none, appended-length, column-hit, column-miss, gathered-hit, gathered-miss}

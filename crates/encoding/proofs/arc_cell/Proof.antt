@@ -1,6 +1,5 @@
 -- `encoding::arc_cell` meets its contract.
-use Rattle.scan.proofs.Basics.{arith}
-use borrow.Author.Needs.{needs}
+use Rattle.scan.proofs.Basics.{arith, needs}
 use Rattle.encoding.proofs.Kept.{cell-number, cell-past}
 use Rattle.encoding.proofs.arc_cell.Statement.{statement}
 use Rattle.encoding.proofs.arc_cell.Tie as tie

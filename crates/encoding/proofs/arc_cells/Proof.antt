@@ -1,6 +1,5 @@
 -- `encoding::arc_cells` meets its contract: when the counter is t the cells of the first t transitions are there.
-use Rattle.scan.proofs.Basics.{_-_, _≤_, arith, _≡_, _∙_}
-use borrow.Author.Needs.{needs}
+use Rattle.scan.proofs.Basics.{_-_, _≤_, arith, needs, _≡_, _∙_}
 use Rattle.scan.proofs.Tabulate.{tabulate-is}
 use Rattle.graph.specs.Rows.{arcEntryRow}
 use Rattle.encoding.specs.Kept.{arcCellAt, arcCells}

@@ -1,6 +1,5 @@
 -- `encoding::filled` meets its contract: when the counter is c the entries of the first c columns are counted.
-use Rattle.scan.proofs.Basics.{_-_, _≤_, arith, _≡_, refl}
-use borrow.Author.Needs.{needs}
+use Rattle.scan.proofs.Basics.{_-_, _≤_, arith, needs, _≡_, refl}
 use Rattle.scan.proofs.Tests.{lt-ltb, le-ltb}
 use Rattle.scan.specs.Scan.{count, bit}
 use Rattle.scan.proofs.Count.{count-le, count-more}

@@ -1,6 +1,5 @@
 -- `encoding::word` meets its contract.
-use borrow.Author.Needs.{needs}
-use Rattle.scan.proofs.Basics.{refl}
+use Rattle.scan.proofs.Basics.{needs, refl}
 use Rattle.encoding.proofs.word.Statement.{statement}
 use Rattle.encoding.proofs.word.Tie as tie
 

@@ -1,9 +1,8 @@
 -- `files::check_files` meets its contract.
-use Rattle.scan.proofs.Basics.{sym}
+use Rattle.scan.proofs.Basics.{needs, sym}
 use lib.Seq.{length-take-le}
 use Rattle.octets.proofs.Decoding.{words-fit}
 use Rattle.files.proofs.Replies.{files-read}
-use borrow.Author.Needs.{needs}
 use Rattle.files.proofs.check_files.Statement.{statement}
 use Rattle.files.proofs.check_files.Tie as tie
 

@@ -1,7 +1,6 @@
 -- `files::check_read` meets its contract.
-use Rattle.scan.proofs.Basics.{sym, _∙_}
+use Rattle.scan.proofs.Basics.{needs, sym, _∙_}
 use Rattle.files.proofs.Replies.{net-tail, net-refused, sheet-tail, no-tail}
-use borrow.Author.Needs.{needs}
 use Rattle.files.proofs.check_read.Statement.{statement}
 use Rattle.files.proofs.check_read.Tie as tie
 

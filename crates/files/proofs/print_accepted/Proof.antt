@@ -1,7 +1,6 @@
 -- `files::print_accepted` meets its contract.
-use Rattle.scan.proofs.Basics.{sym}
+use Rattle.scan.proofs.Basics.{needs, sym}
 use lib.Seq.{length-take-le}
-use borrow.Author.Needs.{needs}
 use Rattle.judge.proofs.Judged.{accepted-readable}
 use Rattle.minimal.proofs.Done.{words-accepted}
 use Rattle.files.proofs.Printing.{written-form, refused-form, form-fits, bounds-fit, too-long-printed, accepted-printed}

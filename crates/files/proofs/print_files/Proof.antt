@@ -1,7 +1,6 @@
 -- `files::print_files` meets its contract.
-use Rattle.scan.proofs.Basics.{sym}
+use Rattle.scan.proofs.Basics.{needs, sym}
 use lib.Seq.{length-take-le}
-use borrow.Author.Needs.{needs}
 use Rattle.octets.proofs.Decoding.{words-fit}
 use Rattle.files.proofs.Replies.{files-accepted, refused-files, accepted-files}
 use Rattle.files.proofs.print_files.Statement.{statement}

@@ -1,5 +1,5 @@
 -- `files::print_refusal` meets its contract.
-use borrow.Author.Needs.{needs}
+use Rattle.scan.proofs.Basics.{needs}
 use Rattle.files.specs.Printed.{refusedText}
 use Rattle.files.proofs.print_refusal.Statement.{statement}
 use Rattle.files.proofs.print_refusal.Tie as tie

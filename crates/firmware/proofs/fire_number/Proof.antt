@@ -1,8 +1,7 @@
 -- `firmware::fire_number` meets its contract.
-use Rattle.scan.proofs.Basics.{arith}
+use Rattle.scan.proofs.Basics.{arith, needs}
 use Rattle.firmware.proofs.Early.{number-of}
 use Rattle.firmware.proofs.Firing.{number-early, number-words}
-use borrow.Author.Needs.{needs}
 use Rattle.firmware.proofs.fire_number.Statement.{statement}
 use Rattle.firmware.proofs.fire_number.Tie as tie
 

@@ -1,6 +1,6 @@
 -- `firmware::run_six` meets its contract.
+use Rattle.scan.proofs.Basics.{needs}
 use Rattle.firmware.proofs.Early.{served-early, served-words}
-use borrow.Author.Needs.{needs}
 use Rattle.firmware.proofs.run_six.Statement.{statement}
 use Rattle.firmware.proofs.run_six.Tie as tie
 

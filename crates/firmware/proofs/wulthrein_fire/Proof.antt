@@ -1,5 +1,5 @@
 -- `firmware::wulthrein_fire` meets its contract.
-use borrow.Author.Needs.{needs}
+use Rattle.scan.proofs.Basics.{needs}
 use Rattle.firmware.proofs.wulthrein_fire.Statement.{statement}
 use Rattle.firmware.proofs.wulthrein_fire.Tie as tie
 

@@ -1,6 +1,6 @@
 -- `firmware::wulthrein_short_form` meets its contract.
+use Rattle.scan.proofs.Basics.{needs}
 use Rattle.firmware.proofs.Early.{done-small, done-enough}
-use borrow.Author.Needs.{needs}
 use Rattle.firmware.proofs.wulthrein_short_form.Statement.{statement}
 use Rattle.firmware.proofs.wulthrein_short_form.Tie as tie
 

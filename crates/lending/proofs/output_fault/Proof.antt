@@ -1,5 +1,5 @@
 -- `lending::output_fault` meets its contract.
-use borrow.Author.Needs.{needs}
+use Rattle.scan.proofs.Basics.{needs}
 use Rattle.scan.proofs.Tests.{lt-ltb, le-ltb}
 use Rattle.scan.specs.Scan.{when}
 use Rattle.lending.specs.Call.{roomFault}

@@ -1,9 +1,8 @@
 -- `mend::mend_into` meets its contract.
-use Rattle.scan.proofs.Basics.{arith, refl, sym, _∙_}
+use Rattle.scan.proofs.Basics.{arith, needs, refl, sym, _∙_}
 use Rattle.lending.proofs.Laws.{refused-words}
 use Rattle.mend.specs.Measure.{Ready}
 use Rattle.mend.proofs.Done.{few, sheet-short, list-short, both-written}
-use borrow.Author.Needs.{needs}
 use Rattle.mend.proofs.mend_into.Statement.{statement}
 use Rattle.mend.proofs.mend_into.Tie as tie
 

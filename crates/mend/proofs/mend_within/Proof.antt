@@ -1,7 +1,6 @@
 -- `mend::mend_within` meets its contract.
-use Rattle.scan.proofs.Basics.{refl, sym, _∙_}
+use Rattle.scan.proofs.Basics.{needs, refl, sym, _∙_}
 use Rattle.lending.proofs.Laws.{refused-scratch, served}
-use borrow.Author.Needs.{needs}
 use Rattle.mend.proofs.mend_within.Statement.{statement}
 use Rattle.mend.proofs.mend_within.Tie as tie
 

@@ -1,6 +1,5 @@
 -- `minimize::form_into` meets its contract.
-use Rattle.scan.proofs.Basics.{refl}
-use borrow.Author.Needs.{needs}
+use Rattle.scan.proofs.Basics.{needs, refl}
 use Rattle.lending.proofs.Laws.{refused-words}
 use Rattle.minimal.proofs.Done.{form-of-schedule}
 use Rattle.minimize.proofs.Told.{told}

@@ -1,6 +1,5 @@
 -- `minimize::form_of` meets its contract.
-use Rattle.scan.proofs.Basics.{refl}
-use borrow.Author.Needs.{needs}
+use Rattle.scan.proofs.Basics.{needs, refl}
 use Rattle.lending.proofs.Laws.{refused-words}
 use Rattle.minimize.proofs.Told.{told}
 use Rattle.minimize.proofs.form_of.Statement.{statement}

@@ -1,6 +1,5 @@
 -- `minimize::forms_of` meets its contract.
-use Rattle.scan.proofs.Basics.{refl, sym, _∙_}
-use borrow.Author.Needs.{needs}
+use Rattle.scan.proofs.Basics.{needs, refl, sym, _∙_}
 use Rattle.refusal.proofs.Verdicts.{then-next, then-refused}
 use Rattle.lending.proofs.Laws.{refused-words}
 use Rattle.minimize.proofs.Told.{told}

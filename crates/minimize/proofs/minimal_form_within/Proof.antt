@@ -1,7 +1,6 @@
 -- `minimize::minimal_form_within` meets its contract.
-use Rattle.scan.proofs.Basics.{refl}
+use Rattle.scan.proofs.Basics.{needs, refl}
 use Rattle.lending.proofs.Laws.{refused-scratch, served}
-use borrow.Author.Needs.{needs}
 use Rattle.minimize.proofs.Told.{told}
 use Rattle.minimize.proofs.minimal_form_within.Statement.{statement}
 use Rattle.minimize.proofs.minimal_form_within.Tie as tie

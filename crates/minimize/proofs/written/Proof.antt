@@ -1,5 +1,5 @@
 -- `minimize::written` meets its contract.
-use borrow.Author.Needs.{needs}
+use Rattle.scan.proofs.Basics.{needs}
 use Rattle.graph.proofs.Readable.{reply-readable}
 use Rattle.minimize.proofs.written.Statement.{statement}
 use Rattle.minimize.proofs.written.Tie as tie

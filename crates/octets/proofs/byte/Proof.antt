@@ -1,6 +1,5 @@
 -- `octets::byte` meets its contract.
-use Rattle.scan.proofs.Basics.{arith, refl}
-use borrow.Author.Needs.{needs}
+use Rattle.scan.proofs.Basics.{arith, needs, refl}
 use Rattle.octets.proofs.byte.Statement.{statement}
 use Rattle.octets.proofs.byte.Tie as tie
 

@@ -1,5 +1,5 @@
 -- `octets::byte_of` meets its contract.
-use borrow.Author.Needs.{needs}
+use Rattle.scan.proofs.Basics.{needs}
 use Rattle.octets.specs.Bytes.{byteOf}
 use Rattle.octets.proofs.Writing.{shift-bytes}
 use Rattle.octets.proofs.byte_of.Statement.{statement}

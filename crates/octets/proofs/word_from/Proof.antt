@@ -1,5 +1,5 @@
 -- `octets::word_from` meets its contract.
-use borrow.Author.Needs.{needs}
+use Rattle.scan.proofs.Basics.{needs}
 use Rattle.octets.specs.Words.{wordFrom}
 use Rattle.octets.proofs.word_from.Statement.{statement}
 use Rattle.octets.proofs.word_from.Tie as tie

@@ -1,7 +1,6 @@
 -- `octets::write_byte` meets its contract.
-use Rattle.scan.proofs.Basics.{arith, sym}
+use Rattle.scan.proofs.Basics.{arith, needs, sym}
 use lib.Seq.{set-out}
-use borrow.Author.Needs.{needs}
 use Rattle.octets.proofs.write_byte.Statement.{statement}
 use Rattle.octets.proofs.write_byte.Tie as tie
 

@@ -1,7 +1,6 @@
 -- `octets::write_six` meets its contract: when the counter is i the first i bytes are those of the numbers.
-use Rattle.scan.proofs.Basics.{_-_, _≤_, arith, _≡_, refl, _∙_, length, length-set}
+use Rattle.scan.proofs.Basics.{_-_, _≤_, arith, needs, _≡_, refl, _∙_, length, length-set}
 use Prim.Native.Nat.{min}
-use borrow.Author.Needs.{needs}
 use Rattle.scan.specs.Scan.{tabulate}
 use Rattle.scan.specs.Placed.{placed}
 use Rattle.scan.proofs.Placed.{placed-none}

@@ -1,6 +1,5 @@
 -- `octets::write_word` meets its contract.
-use Rattle.scan.proofs.Basics.{arith, length-set}
-use borrow.Author.Needs.{needs}
+use Rattle.scan.proofs.Basics.{arith, needs, length-set}
 use Rattle.octets.proofs.Writing.{word-out}
 use Rattle.octets.proofs.write_word.Statement.{statement}
 use Rattle.octets.proofs.write_word.Tie as tie

@@ -1,9 +1,8 @@
 -- `plainly::answered` meets its contract.
-use Rattle.scan.proofs.Basics.{arith, refl, sym, _∙_}
+use Rattle.scan.proofs.Basics.{arith, needs, refl, sym, _∙_}
 use Rattle.graph.specs.Readable.{Readable}
 use Rattle.graph.proofs.Readable.{reply-readable}
 use Rattle.plainly.proofs.Whole.{fit, spread-answer, refused-answer, accepted-answer}
-use borrow.Author.Needs.{needs}
 use Rattle.plainly.proofs.answered.Statement.{statement}
 use Rattle.plainly.proofs.answered.Tie as tie
 

@@ -1,10 +1,9 @@
 -- `plainly::check` meets its contract.
-use Rattle.scan.proofs.Basics.{refl, sym, _∙_}
+use Rattle.scan.proofs.Basics.{needs, refl, sym, _∙_}
 use Rattle.lending.proofs.Laws.{refused-scratch, served}
 use Rattle.lending.proofs.Lent.{scratch-holds}
 use Rattle.plainly.proofs.Answer.{cleared-same}
 use Rattle.plainly.proofs.Whole.{slow-words}
-use borrow.Author.Needs.{needs}
 use Rattle.plainly.proofs.check.Statement.{statement}
 use Rattle.plainly.proofs.check.Tie as tie
 

@@ -1,8 +1,7 @@
 -- `react::checked` meets its contract.
-use Rattle.scan.proofs.Basics.{arith, sym, _∙_}
+use Rattle.scan.proofs.Basics.{arith, needs, sym, _∙_}
 use Rattle.judge.proofs.Judged.{accepted-readable}
 use Rattle.react.proofs.Done.{sheet-refused, durations-told}
-use borrow.Author.Needs.{needs}
 use Rattle.react.proofs.checked.Statement.{statement}
 use Rattle.react.proofs.checked.Tie as tie
 

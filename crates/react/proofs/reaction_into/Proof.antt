@@ -1,7 +1,6 @@
 -- `react::reaction_into` meets its contract.
-use Rattle.scan.proofs.Basics.{sym, _∙_}
+use Rattle.scan.proofs.Basics.{needs, sym, _∙_}
 use Rattle.react.proofs.Done.{checked-refused}
-use borrow.Author.Needs.{needs}
 use Rattle.react.proofs.reaction_into.Statement.{statement}
 use Rattle.react.proofs.reaction_into.Tie as tie
 

@@ -1,7 +1,6 @@
 -- `react::reactions` meets its contract.
-use Rattle.scan.proofs.Basics.{refl, sym, _∙_}
+use Rattle.scan.proofs.Basics.{needs, refl, sym, _∙_}
 use Rattle.lending.proofs.Laws.{refused-scratch, served}
-use borrow.Author.Needs.{needs}
 use Rattle.react.proofs.reactions.Statement.{statement}
 use Rattle.react.proofs.reactions.Tie as tie
 

@@ -1,7 +1,7 @@
 -- `react::reported` meets its contract.
+use Rattle.scan.proofs.Basics.{needs}
 use Rattle.react.proofs.ArcRows.{rows}
 use Rattle.react.proofs.Done.{arcs-readable, judged, loops-refused, ready, too-short, report-written}
-use borrow.Author.Needs.{needs}
 use Rattle.react.proofs.reported.Statement.{statement}
 use Rattle.react.proofs.reported.Tie as tie
 

@@ -1,6 +1,5 @@
 -- `replay::checked` meets its contract.
-use Rattle.scan.proofs.Basics.{sym, _∙_}
-use borrow.Author.Needs.{needs}
+use Rattle.scan.proofs.Basics.{needs, sym, _∙_}
 use Rattle.refusal.proofs.Verdicts.{answer-none}
 use Rattle.judge.proofs.Judged.{accepted-readable}
 use Rattle.replay.proofs.Logs.{log-holds}

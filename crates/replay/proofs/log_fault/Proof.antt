@@ -1,5 +1,5 @@
 -- `replay::log_fault` meets its contract.
-use borrow.Author.Needs.{needs}
+use Rattle.scan.proofs.Basics.{needs}
 use Rattle.replay.specs.Log.{firingCount}
 use Rattle.replay.proofs.Logs.{no-word, too-many, other-length, log-passes}
 use Rattle.replay.proofs.log_fault.Statement.{statement}

@@ -1,6 +1,5 @@
 -- `replay::replay_into` meets its contract.
-use Rattle.scan.proofs.Basics.{arith, refl, sym, _∙_}
-use borrow.Author.Needs.{needs}
+use Rattle.scan.proofs.Basics.{arith, needs, refl, sym, _∙_}
 use Rattle.lending.proofs.Lent.{room-holds}
 use Rattle.lending.proofs.Laws.{refused-words}
 use Rattle.replay.proofs.Replays.{countable}

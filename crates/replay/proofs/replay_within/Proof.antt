@@ -1,6 +1,5 @@
 -- `replay::replay_within` meets its contract.
-use Rattle.scan.proofs.Basics.{refl, sym, _∙_}
-use borrow.Author.Needs.{needs}
+use Rattle.scan.proofs.Basics.{needs, refl, sym, _∙_}
 use Rattle.lending.proofs.Laws.{refused-scratch, served}
 use Rattle.replay.proofs.replay_within.Statement.{statement}
 use Rattle.replay.proofs.replay_within.Tie as tie

@@ -1,6 +1,5 @@
 -- `row_starts::number` meets its contract.
-use Rattle.scan.proofs.Basics.{arith, _≡_}
-use borrow.Author.Needs.{needs}
+use Rattle.scan.proofs.Basics.{arith, needs, _≡_}
 use Rattle.row_starts.proofs.Page.{passed}
 use Rattle.row_starts.proofs.number.Statement.{statement}
 use Rattle.row_starts.proofs.number.Tie as tie

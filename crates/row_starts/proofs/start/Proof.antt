@@ -1,6 +1,5 @@
 -- `row_starts::start` meets its contract.
-use Rattle.scan.proofs.Basics.{arith, _∙_}
-use borrow.Author.Needs.{needs}
+use Rattle.scan.proofs.Basics.{arith, needs, _∙_}
 use Rattle.row_starts.proofs.Page.{none-high, none-few, none-many, one-there}
 use Rattle.row_starts.proofs.start.Statement.{statement}
 use Rattle.row_starts.proofs.start.Tie as tie

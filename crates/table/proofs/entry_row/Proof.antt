@@ -1,6 +1,5 @@
 -- `table::entry_row` meets its contract: each turn of the loop is a turn of the walk.
-use Rattle.scan.proofs.Basics.{_-_, arith}
-use borrow.Author.Needs.{needs}
+use Rattle.scan.proofs.Basics.{_-_, arith, needs}
 use Rattle.table.specs.Row.{sectionCell, entryRow}
 use Rattle.table.proofs.Walk.{Walking, walk-starts, walk-goes, walk-ends, walk-over}
 use Rattle.table.proofs.entry_row.Statement.{statement}

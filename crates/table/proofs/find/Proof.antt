@@ -1,6 +1,5 @@
 -- `table::find` meets its contract.
-use Rattle.scan.proofs.Basics.{arith}
-use borrow.Author.Needs.{needs}
+use Rattle.scan.proofs.Basics.{arith, needs}
 use Rattle.table.specs.Table.{keyAt}
 use Rattle.table.proofs.Bisection.{lower-bound-fits, look-up-hit, look-up-miss}
 use Rattle.table.proofs.find.Statement.{statement}

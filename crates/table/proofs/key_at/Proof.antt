@@ -1,6 +1,5 @@
 -- `table::key_at` meets its contract.
-use borrow.Author.Needs.{needs}
-use Rattle.scan.proofs.Basics.{arith}
+use Rattle.scan.proofs.Basics.{arith, needs}
 use Rattle.table.proofs.Keys.{key-past}
 use Rattle.table.specs.Table.{keyAt}
 use Rattle.table.proofs.key_at.Statement.{statement}

@@ -1,7 +1,6 @@
 -- `table::key_fails` meets its contract.
-use borrow.Author.Needs.{needs}
 use Rattle.scan.proofs.Tests.{lt-ltb, le-leb, lt-leb}
-use Rattle.scan.proofs.Basics.{arith}
+use Rattle.scan.proofs.Basics.{arith, needs}
 use Rattle.table.specs.Keys.{keyFails}
 use Rattle.table.proofs.key_fails.Statement.{statement}
 use Rattle.table.proofs.key_fails.Tie as tie

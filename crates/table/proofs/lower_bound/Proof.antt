@@ -1,6 +1,5 @@
 -- `table::lower_bound` meets its contract: each turn of the loop is a turn of `bisect`.
-use Rattle.scan.proofs.Basics.{_-_, _≤_, arith, _≡_, refl, sym, _∙_}
-use borrow.Author.Needs.{needs}
+use Rattle.scan.proofs.Basics.{_-_, _≤_, arith, needs, _≡_, refl, sym, _∙_}
 use Rattle.scan.proofs.Tests.{lt-ltb, le-ltb}
 use Rattle.table.specs.Table.{keyAt}
 use Rattle.table.specs.Bisection.{bisect, keyBelow}

@@ -1,6 +1,5 @@
 -- `table::run_place` meets its contract.
-use Rattle.scan.proofs.Basics.{_+_, arith}
-use borrow.Author.Needs.{needs}
+use Rattle.scan.proofs.Basics.{_+_, arith, needs}
 use Rattle.scan.proofs.Tests.{lt-ltb, le-ltb, le-leb, lt-leb}
 use Rattle.table.specs.Table.{keyAt}
 use Rattle.table.specs.Row.{runPlace}

@@ -1,6 +1,5 @@
 -- `table::value_row` meets its contract: each turn of the loop is a turn of the walk.
-use Rattle.scan.proofs.Basics.{_+_, _-_, _*_, _≤_, arith, _∙_, length}
-use borrow.Author.Needs.{needs}
+use Rattle.scan.proofs.Basics.{_+_, _-_, _*_, _≤_, arith, needs, _∙_, length}
 use Rattle.table.specs.Table.{valueAt}
 use Rattle.table.proofs.Walk.{Walking, walk-starts, walk-goes, walk-ends, walk-over}
 use Rattle.table.proofs.Row.{value-row-unfit, value-row-fits}

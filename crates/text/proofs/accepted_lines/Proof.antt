@@ -1,5 +1,5 @@
 -- `text::accepted_lines` meets its contract.
-use borrow.Author.Needs.{needs}
+use Rattle.scan.proofs.Basics.{needs}
 use Rattle.text.specs.Lines.{acceptedLines}
 use Rattle.text.proofs.Put.{both-put}
 use Rattle.text.proofs.accepted_lines.Statement.{statement}

@@ -1,5 +1,5 @@
 -- `text::answer` meets its contract.
-use borrow.Author.Needs.{needs}
+use Rattle.scan.proofs.Basics.{needs}
 use Rattle.text.specs.Lines.{field, answerText}
 use Rattle.text.proofs.Put.{both-put}
 use Rattle.text.proofs.answer.Statement.{statement}

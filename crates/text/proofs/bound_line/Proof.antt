@@ -1,5 +1,5 @@
 -- `text::bound_line` meets its contract.
-use borrow.Author.Needs.{needs}
+use Rattle.scan.proofs.Basics.{needs}
 use Rattle.text.specs.Lines.{field, boundLine}
 use Rattle.text.proofs.Put.{both-put}
 use Rattle.text.proofs.bound_line.Statement.{statement}

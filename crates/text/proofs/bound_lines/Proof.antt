@@ -1,6 +1,5 @@
 -- `text::bound_lines` meets its contract: when the counter is p the first p lines are put.
-use Rattle.scan.proofs.Basics.{_-_, _≤_, arith, length}
-use borrow.Author.Needs.{needs}
+use Rattle.scan.proofs.Basics.{_-_, _≤_, arith, needs, length}
 use Rattle.text.specs.Buffer.{Put}
 use Rattle.text.specs.Lines.{joined, boundLineOf, boundLines}
 use Rattle.text.proofs.Put.{same-length}

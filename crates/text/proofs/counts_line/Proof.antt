@@ -1,5 +1,5 @@
 -- `text::counts_line` meets its contract.
-use borrow.Author.Needs.{needs}
+use Rattle.scan.proofs.Basics.{needs}
 use Rattle.text.specs.Lines.{field, countsLine}
 use Rattle.text.proofs.Put.{both-put}
 use Rattle.text.proofs.counts_line.Statement.{statement}

@@ -1,5 +1,5 @@
 -- `text::form_line` meets its contract.
-use borrow.Author.Needs.{needs}
+use Rattle.scan.proofs.Basics.{needs}
 use Rattle.text.specs.Lines.{formLine}
 use Rattle.text.proofs.Put.{both-put}
 use Rattle.text.proofs.form_line.Statement.{statement}

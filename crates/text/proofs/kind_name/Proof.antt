@@ -1,6 +1,5 @@
 -- `text::kind_name` meets its contract.
-use Rattle.scan.proofs.Basics.{arith}
-use borrow.Author.Needs.{needs}
+use Rattle.scan.proofs.Basics.{arith, needs}
 use Rattle.text.proofs.Joined.{record-name}
 use Rattle.text.proofs.kind_name.Statement.{statement}
 use Rattle.text.proofs.kind_name.Tie as tie

@@ -1,6 +1,5 @@
 -- `text::words` meets its contract: when the counter is i the first i words are put.
-use Rattle.scan.proofs.Basics.{_-_, _≤_, arith, length}
-use borrow.Author.Needs.{needs}
+use Rattle.scan.proofs.Basics.{_-_, _≤_, arith, needs, length}
 use Rattle.text.specs.Buffer.{Put}
 use Rattle.text.specs.Lines.{field, joined, wordOf, wordsText}
 use Rattle.text.proofs.Put.{same-length}

@@ -1,7 +1,6 @@
 -- `trim::trim` meets its contract.
-use Rattle.scan.proofs.Basics.{refl, sym, _∙_}
+use Rattle.scan.proofs.Basics.{needs, refl, sym, _∙_}
 use Rattle.lending.proofs.Laws.{refused-scratch, served}
-use borrow.Author.Needs.{needs}
 use Rattle.trim.proofs.trim.Statement.{statement}
 use Rattle.trim.proofs.trim.Tie as tie
 

@@ -1,6 +1,5 @@
 -- `trim::trim_into` meets its contract.
-use Rattle.scan.proofs.Basics.{refl, sym, _∙_}
-use borrow.Author.Needs.{needs}
+use Rattle.scan.proofs.Basics.{needs, refl, sym, _∙_}
 use Rattle.graph.proofs.Readable.{reply-readable}
 use Rattle.lending.proofs.Laws.{refused-words}
 use Rattle.trim.proofs.trim_into.Statement.{statement}

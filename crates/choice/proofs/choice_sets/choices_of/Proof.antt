@@ -1,7 +1,6 @@
 -- `choice::choice_sets::choices_of` meets its contract: the leaders before the counter are right, and so are the notes.
-use Rattle.scan.proofs.Basics.{ℕ, _-_, _≤_, _<_, arith, _≡_, _∙_, length, getD, length-set}
+use Rattle.scan.proofs.Basics.{ℕ, _-_, _≤_, _<_, arith, needs, _≡_, _∙_, length, getD, length-set}
 use lib.ListN.{getD-replicate}
-use borrow.Author.Needs.{needs}
 use Rattle.scan.proofs.Tabulate.{stored-more}
 use Rattle.automaton.proofs.Leader.{leader-le}
 use Rattle.sequential.specs.Tests.{takesSame}

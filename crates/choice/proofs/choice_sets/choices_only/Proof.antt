@@ -1,7 +1,6 @@
 -- `choice::choice_sets::choices_only` meets its contract: before the counter the table is that of the net with one source left.
-use Rattle.scan.proofs.Basics.{ℕ, _-_, _≤_, _<_, arith, _≡_, _∙_, List, length, getD, length-set}
+use Rattle.scan.proofs.Basics.{ℕ, _-_, _≤_, _<_, arith, needs, _≡_, _∙_, List, length, getD, length-set}
 use Prim.Native.Nat.{min}
-use borrow.Author.Needs.{needs}
 use Rattle.scan.proofs.Tabulate.{stored-more}
 use Rattle.net.specs.Net.{transitionCount}
 use Rattle.sequential.specs.Only.{only}

@@ -1,6 +1,5 @@
 -- `choice::choice_sets::first_places` meets its contract: the transitions before the counter have their places.
-use Rattle.scan.proofs.Basics.{ℕ, _-_, _≤_, _<_, arith, _≡_, _∙_, length, getD, length-set}
-use borrow.Author.Needs.{needs}
+use Rattle.scan.proofs.Basics.{ℕ, _-_, _≤_, _<_, arith, needs, _≡_, _∙_, length, getD, length-set}
 use Rattle.scan.specs.Scan.{least}
 use Rattle.scan.proofs.Tabulate.{stored-more}
 use Rattle.net.specs.Accessors.{takenRowReply}

@@ -1,6 +1,5 @@
 -- `choice::choice_sets::first_source` meets its contract: no transition before the counter is a source.
-use Rattle.scan.proofs.Basics.{_-_, _≤_, arith, _≡_, sym, _∙_, false}
-use borrow.Author.Needs.{needs}
+use Rattle.scan.proofs.Basics.{_-_, _≤_, arith, needs, _≡_, sym, _∙_, false}
 use Rattle.scan.specs.Scan.{any}
 use Rattle.scan.proofs.Every.{any-none-yet, any-more}
 use Rattle.scan.proofs.Least.{least-found, least-none}

@@ -1,7 +1,6 @@
 -- `choice::choice_sets::first_weight` meets its contract: no place before the counter has a weight.
-use Rattle.scan.proofs.Basics.{_-_, _≤_, arith, _≡_, sym, false}
+use Rattle.scan.proofs.Basics.{_-_, _≤_, arith, needs, _≡_, sym, false}
 use Rattle.scan.proofs.Tests.{lt-ltb, le-ltb}
-use borrow.Author.Needs.{needs}
 use Rattle.scan.specs.Scan.{any}
 use Rattle.scan.proofs.Every.{any-none-yet, any-more}
 use Rattle.scan.proofs.Least.{least-found, least-none}

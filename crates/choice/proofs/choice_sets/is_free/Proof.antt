@@ -1,7 +1,6 @@
 -- `choice::choice_sets::is_free` meets its contract: a source's choice is free; else no transition before the counter draws on a place of t's without taking the same.
-use Rattle.scan.proofs.Basics.{_-_, _≤_, arith, _≡_, sym, _∙_, true}
+use Rattle.scan.proofs.Basics.{_-_, _≤_, arith, needs, _≡_, sym, _∙_, true}
 use Rattle.scan.proofs.Tests.{not-true, not-false}
-use borrow.Author.Needs.{needs}
 use Rattle.scan.specs.Scan.{all}
 use Rattle.scan.proofs.Every.{all-in, all-more, all-fails}
 use Rattle.sequential.specs.Tests.{sharesAlike, freeChoice}

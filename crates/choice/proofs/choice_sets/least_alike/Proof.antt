@@ -1,6 +1,5 @@
 -- `choice::choice_sets::least_alike` meets its contract: no transition before the counter takes the same as t.
-use Rattle.scan.proofs.Basics.{_-_, _≤_, arith, _≡_, sym, _∙_, false}
-use borrow.Author.Needs.{needs}
+use Rattle.scan.proofs.Basics.{_-_, _≤_, arith, needs, _≡_, sym, _∙_, false}
 use Rattle.scan.proofs.Tests.{not-true→false}
 use Rattle.scan.specs.Scan.{any}
 use Rattle.scan.proofs.Every.{any-none-yet, any-more}

@@ -1,6 +1,5 @@
 -- `choice::choice_sets::noted` meets its contract: a note stays, and nothing is asked for the leader itself.
-use Rattle.scan.proofs.Basics.{arith, sym, _∙_}
-use borrow.Author.Needs.{needs}
+use Rattle.scan.proofs.Basics.{arith, needs, sym, _∙_}
 use Rattle.choice.proofs.Choices.{nothing-noted}
 use Rattle.choice.proofs.choice_sets.noted.Statement.{statement}
 use Rattle.choice.proofs.choice_sets.noted.Tie as tie

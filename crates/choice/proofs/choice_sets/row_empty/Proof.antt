@@ -1,7 +1,6 @@
 -- `choice::choice_sets::row_empty` meets its contract: the row has no weight before the counter.
-use Rattle.scan.proofs.Basics.{_-_, _≤_, arith, _≡_, sym, true}
+use Rattle.scan.proofs.Basics.{_-_, _≤_, arith, needs, _≡_, sym, true}
 use Rattle.scan.proofs.Tests.{eq-eqb, ne-eqb}
-use borrow.Author.Needs.{needs}
 use Rattle.scan.specs.Scan.{all}
 use Rattle.scan.proofs.Every.{all-in, all-more, all-fails}
 use Rattle.choice.specs.Choices.{zeroAt}

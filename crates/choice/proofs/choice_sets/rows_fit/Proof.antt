@@ -1,6 +1,5 @@
 -- `choice::choice_sets::rows_fit` meets its contract: by whether the rows meet.
-use Rattle.scan.proofs.Basics.{sym, _∙_}
-use borrow.Author.Needs.{needs}
+use Rattle.scan.proofs.Basics.{needs, sym, _∙_}
 use Rattle.choice.specs.Choices.{rowsFit}
 use Rattle.choice.proofs.choice_sets.rows_fit.Statement.{statement}
 use Rattle.choice.proofs.choice_sets.rows_fit.Tie as tie

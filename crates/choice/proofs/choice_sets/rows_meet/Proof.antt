@@ -1,6 +1,5 @@
 -- `choice::choice_sets::rows_meet` meets its contract: the rows meet at no place before the counter.
-use Rattle.scan.proofs.Basics.{_-_, _≤_, arith, _≡_, sym, false}
-use borrow.Author.Needs.{needs}
+use Rattle.scan.proofs.Basics.{_-_, _≤_, arith, needs, _≡_, sym, false}
 use Rattle.scan.specs.Scan.{any}
 use Rattle.scan.proofs.Every.{any-none-yet, any-in, any-more}
 use Rattle.choice.specs.Choices.{bothAt}

@@ -1,7 +1,6 @@
 -- `choice::offers::are_choice` meets its contract: the arcs before the counter are those of the choice set.
-use Rattle.scan.proofs.Basics.{_-_, _≤_, arith, _≡_, sym, true}
+use Rattle.scan.proofs.Basics.{_-_, _≤_, arith, needs, _≡_, sym, true}
 use Rattle.scan.proofs.Tests.{not-true, not-false}
-use borrow.Author.Needs.{needs}
 use Rattle.scan.specs.Scan.{all}
 use Rattle.scan.proofs.Every.{all-in, all-more, all-fails}
 use Rattle.choice.specs.Rows.{present}

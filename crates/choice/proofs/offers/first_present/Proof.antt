@@ -1,7 +1,6 @@
 -- `choice::offers::first_present` meets its contract: no transition before the counter has an arc.
-use Rattle.scan.proofs.Basics.{_-_, _≤_, arith, _≡_, sym, false}
+use Rattle.scan.proofs.Basics.{_-_, _≤_, arith, needs, _≡_, sym, false}
 use Rattle.scan.proofs.Tests.{lt-ltb, le-ltb}
-use borrow.Author.Needs.{needs}
 use Rattle.scan.specs.Scan.{any}
 use Rattle.scan.proofs.Every.{any-none-yet, any-more}
 use Rattle.scan.proofs.Least.{least-found, least-none}

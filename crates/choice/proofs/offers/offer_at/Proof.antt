@@ -1,6 +1,5 @@
 -- `choice::offers::offer_at` meets its contract.
-use Rattle.scan.proofs.Basics.{_∙_}
-use borrow.Author.Needs.{needs}
+use Rattle.scan.proofs.Basics.{needs, _∙_}
 use Rattle.choice.proofs.offers.offer_at.Statement.{statement}
 use Rattle.choice.proofs.offers.offer_at.Tie as tie
 

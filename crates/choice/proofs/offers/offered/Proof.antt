@@ -1,7 +1,6 @@
 -- `choice::offers::offered` meets its contract.
 use Rattle.scan.proofs.Tests.{lt-ltb, le-ltb}
-use borrow.Author.Needs.{needs}
-use Rattle.scan.proofs.Basics.{sym, _∙_}
+use Rattle.scan.proofs.Basics.{needs, sym, _∙_}
 use Rattle.choice.specs.Choices.{offerFrom, offerOf}
 use Rattle.choice.proofs.offers.offered.Statement.{statement}
 use Rattle.choice.proofs.offers.offered.Tie as tie

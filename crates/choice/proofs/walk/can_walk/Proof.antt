@@ -1,6 +1,5 @@
 -- `choice::walk::can_walk` meets its contract.
-use Rattle.scan.proofs.Basics.{refl, sym, _∙_}
-use borrow.Author.Needs.{needs}
+use Rattle.scan.proofs.Basics.{needs, refl, sym, _∙_}
 use Rattle.scan.proofs.Tests.{true-false}
 use Rattle.choice.proofs.Passed.{shape, root-row}
 use Rattle.choice.proofs.walk.can_walk.Statement.{statement}

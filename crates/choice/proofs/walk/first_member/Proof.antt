@@ -1,6 +1,5 @@
 -- `choice::walk::first_member` meets its contract.
-use Rattle.scan.proofs.Basics.{_+_, arith}
-use borrow.Author.Needs.{needs}
+use Rattle.scan.proofs.Basics.{_+_, arith, needs}
 use Rattle.choice.proofs.Whole.{row-above}
 use Rattle.choice.proofs.walk.first_member.Statement.{statement}
 use Rattle.choice.proofs.walk.first_member.Tie as tie

@@ -1,6 +1,5 @@
 -- `choice::walk::set_ends` meets its contract: the ends are those of the transitions before the counter.
-use Rattle.scan.proofs.Basics.{_-_, _≤_, arith, _≡_}
-use borrow.Author.Needs.{needs}
+use Rattle.scan.proofs.Basics.{_-_, _≤_, arith, needs, _≡_}
 use Rattle.choice.proofs.Whole.{EndsBelow, no-ends, ends-later, ends-there}
 use Rattle.choice.proofs.walk.set_ends.Statement.{statement}
 use Rattle.choice.proofs.walk.set_ends.Tie as tie

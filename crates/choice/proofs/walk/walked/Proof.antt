@@ -1,6 +1,5 @@
 -- `choice::walk::walked` meets its contract: the walk stands before the node of the counter.
-use Rattle.scan.proofs.Basics.{_-_, arith}
-use borrow.Author.Needs.{needs}
+use Rattle.scan.proofs.Basics.{_-_, arith, needs}
 use Rattle.scan.proofs.Tests.{not-false}
 use Rattle.choice.proofs.Whole.{few-transitions, set-from}
 use Rattle.choice.proofs.Answer.{none-passed}

@@ -1,6 +1,5 @@
 -- `choice::walk::whole_end` meets its contract: below the counter the row that the entries make is the choice set's.
-use Rattle.scan.proofs.Basics.{_-_, _≤_, arith}
-use borrow.Author.Needs.{needs}
+use Rattle.scan.proofs.Basics.{_-_, _≤_, arith, needs}
 use Rattle.table.specs.Table.{keyAt}
 use Rattle.choice.proofs.Whole.{Matching, matching-first, passed-by, matched, passed-all, row-whole}
 use Rattle.choice.proofs.walk.whole_end.Statement.{statement}

@@ -1,6 +1,5 @@
 -- `compare::CompareAnswer::plain` meets its contract.
-use Rattle.scan.proofs.Basics.{sym, ap}
-use borrow.Author.Needs.{needs}
+use Rattle.scan.proofs.Basics.{needs, sym, ap}
 use Rattle.compare.specs.Compare.{plainCompare}
 use Rattle.compare.proofs.CompareAnswer.plain.Statement.{statement}
 use Rattle.compare.proofs.CompareAnswer.plain.Tie as tie

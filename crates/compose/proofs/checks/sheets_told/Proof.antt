@@ -1,7 +1,5 @@
 -- `compose::checks::sheets_told` meets its contract: no schedule before the counter is refused.
-use Rattle.scan.proofs.Basics.{ℕ, _-_, _≤_, _<_, arith, _≡_, refl, none}
-use borrow.Author.Needs.{needs}
-use borrow.Author.Count.{below-more}
+use Rattle.scan.proofs.Basics.{ℕ, _-_, _≤_, _<_, arith, needs, _≡_, refl, none, below-more}
 use Rattle.refusal.specs.declared.Verdict.the-variants.{Accepted}
 use Rattle.refusal.proofs.Verdicts.{accepted-refused}
 use Rattle.sequential.specs.Petri.{petriNet}

@@ -1,6 +1,5 @@
 -- `composed::ComposeAnswer::plain` meets its contract.
-use Rattle.scan.proofs.Basics.{sym, ap}
-use borrow.Author.Needs.{needs}
+use Rattle.scan.proofs.Basics.{needs, sym, ap}
 use Rattle.composed.specs.Call.{plainCompose}
 use Rattle.composed.proofs.ComposeAnswer.plain.Statement.{statement}
 use Rattle.composed.proofs.ComposeAnswer.plain.Tie as tie

@@ -1,10 +1,9 @@
 -- `firmware::decoded::check` meets its contract.
-use Rattle.scan.proofs.Basics.{ℕ, sym, length-replicate}
+use Rattle.scan.proofs.Basics.{ℕ, needs, sym, length-replicate}
 use lib.Seq.{length-take-le}
 use Rattle.octets.proofs.Decoding.{words-fit}
 use Rattle.schedule.specs.Calls.{checkCore}
 use Rattle.firmware.proofs.Cut.{written-decoded, check-written, check-asks}
-use borrow.Author.Needs.{needs}
 use Rattle.firmware.proofs.decoded.check.Statement.{statement}
 use Rattle.firmware.proofs.decoded.check.Tie as tie
 

@@ -1,7 +1,6 @@
 -- `firmware::decoded::fire` meets its contract.
-use Rattle.scan.proofs.Basics.{ℕ, sym, length-replicate}
+use Rattle.scan.proofs.Basics.{ℕ, needs, sym, length-replicate}
 use lib.Seq.{length-take-le}
-use borrow.Author.Needs.{needs}
 use Rattle.octets.proofs.Decoding.{words-fit}
 use Rattle.firmware.proofs.Firing.{number-decoded}
 use Rattle.firmware.proofs.decoded.fire.Statement.{statement}

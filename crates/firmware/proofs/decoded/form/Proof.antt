@@ -1,10 +1,9 @@
 -- `firmware::decoded::form` meets its contract.
-use Rattle.scan.proofs.Basics.{ℕ, sym, length-replicate}
+use Rattle.scan.proofs.Basics.{ℕ, needs, sym, length-replicate}
 use lib.Seq.{length-take-le}
 use Rattle.octets.proofs.Decoding.{words-fit}
 use Rattle.minimal.specs.Form.{formCore}
 use Rattle.firmware.proofs.Cut.{written-decoded, form-asks}
-use borrow.Author.Needs.{needs}
 use Rattle.firmware.proofs.decoded.form.Statement.{statement}
 use Rattle.firmware.proofs.decoded.form.Tie as tie
 

@@ -1,11 +1,10 @@
 -- `firmware::decoded::run` meets its contract.
-use Rattle.scan.proofs.Basics.{ℕ, sym, length-replicate}
+use Rattle.scan.proofs.Basics.{ℕ, needs, sym, length-replicate}
 use lib.Seq.{length-take-le}
 use Rattle.octets.proofs.Decoding.{words-fit}
 use Rattle.schedule.specs.Calls.{runCore}
 use Rattle.octets.specs.Words.{allWords}
 use Rattle.firmware.proofs.Cut.{written-decoded, run-asks}
-use borrow.Author.Needs.{needs}
 use Rattle.firmware.proofs.decoded.run.Statement.{statement}
 use Rattle.firmware.proofs.decoded.run.Tie as tie
 

@@ -1,6 +1,5 @@
 -- `firmware::lent::clear` meets its contract: when the counter is i the buffer is `cleared i` of what it was.
-use Rattle.scan.proofs.Basics.{ℕ, _-_, _≤_, arith, _≡_, ap, _∙_, List, length, set, length-set}
-use borrow.Author.Needs.{needs}
+use Rattle.scan.proofs.Basics.{ℕ, _-_, _≤_, arith, needs, _≡_, ap, _∙_, List, length, set, length-set}
 use Rattle.scan.specs.Front.{cleared}
 use Rattle.scan.proofs.Front.{cleared-none, cleared-more}
 use Rattle.firmware.proofs.Early.{scratch-small, scratch-cleared}

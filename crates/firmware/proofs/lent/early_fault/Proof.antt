@@ -1,7 +1,6 @@
 -- `firmware::lent::early_fault` meets its contract.
-use Rattle.scan.proofs.Basics.{arith, _∙_}
+use Rattle.scan.proofs.Basics.{arith, needs, _∙_}
 use Rattle.firmware.proofs.Early.{early-small, early-net, early-sheet, early-record, early-whole, number-low}
-use borrow.Author.Needs.{needs}
 use Rattle.firmware.proofs.lent.early_fault.Statement.{statement}
 use Rattle.firmware.proofs.lent.early_fault.Tie as tie
 

@@ -1,6 +1,5 @@
 -- `firmware::lent::finish` meets its contract.
-use Rattle.scan.proofs.Basics.{arith, _≡_, refl, _∙_, length}
-use borrow.Author.Needs.{needs}
+use Rattle.scan.proofs.Basics.{arith, needs, _≡_, refl, _∙_, length}
 use Rattle.octets.proofs.Writing.{bytes-over}
 use Rattle.firmware.proofs.lent.finish.Statement.{statement}
 use Rattle.firmware.proofs.lent.finish.Tie as tie

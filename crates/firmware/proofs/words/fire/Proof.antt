@@ -1,6 +1,5 @@
 -- `firmware::words::fire` meets its contract.
-use Rattle.scan.proofs.Basics.{arith, sym, ap, _∙_}
-use borrow.Author.Needs.{needs}
+use Rattle.scan.proofs.Basics.{arith, needs, sym, ap, _∙_}
 use Rattle.schedule.specs.declared.FireAnswer.{FireAnswer}
 use Rattle.firmware.specs.Calls.{oneNumber}
 use Rattle.firmware.proofs.Numbers.{step-small}

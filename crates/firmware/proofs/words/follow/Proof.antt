@@ -1,5 +1,5 @@
 -- `firmware::words::follow` meets its contract: the node is the one after the firings before the counter, each of which is offered.
-use Rattle.scan.proofs.Basics.{_-_, _/_, _≤_, _<_, arith, _≡_, sym, ap, _∙_, none, length}
+use Rattle.scan.proofs.Basics.{_-_, _/_, _≤_, _<_, arith, needs, _≡_, sym, ap, _∙_, none, length}
 use Rattle.scan.specs.Scan.{first}
 use Rattle.scan.proofs.First.{first-none, first-more, first-hit}
 use Rattle.refusal.specs.Verdict.{verdictOf}
@@ -11,7 +11,6 @@ use Rattle.graph.proofs.LookUp.{arc-found, arc-missing}
 use Rattle.schedule.proofs.Walks.{target-node, entry-fits, after-none, after-more, entry-none, entry-more, firing-passes, firing-fails}
 use Rattle.octets.specs.Words.{allWords}
 use Rattle.octets.proofs.Decoding.{words-count}
-use borrow.Author.Needs.{needs}
 use Rattle.refusal.proofs.Verdicts.{accepted-refused}
 use Rattle.firmware.proofs.words.follow.Statement.{statement}
 use Rattle.firmware.proofs.words.follow.Tie as tie

@@ -1,7 +1,6 @@
 -- `firmware::words::form` meets its contract.
-use Rattle.scan.proofs.Basics.{ℕ, refl, sym, ap, _∙_, List, length-replicate}
+use Rattle.scan.proofs.Basics.{ℕ, needs, refl, sym, ap, _∙_, List, length-replicate}
 use lib.Seq.{length-take-le}
-use borrow.Author.Needs.{needs}
 use Rattle.scan.specs.Placed.{placed}
 use Rattle.minimal.specs.declared.FormAnswer.the-variants.{Written}
 use Rattle.octets.specs.Bytes.{bytesOf}

@@ -1,5 +1,5 @@
 -- `firmware::words::run` meets its contract.
-use Rattle.scan.proofs.Basics.{ℕ, arith, refl, sym, ap, _∙_, List, take}
+use Rattle.scan.proofs.Basics.{ℕ, arith, needs, refl, sym, ap, _∙_, List, take}
 use lib.Seq.{length-take-le}
 use Rattle.refusal.proofs.Verdicts.{answer-none, then-next, then-refused}
 use Rattle.net.specs.Net.{placeCount}
@@ -15,7 +15,6 @@ use Rattle.octets.specs.Bytes.{bytesOf}
 use Rattle.octets.proofs.Decoding.{words-count}
 use Rattle.firmware.proofs.Cut.{refused-written}
 use Rattle.firmware.proofs.Results.{refused-room, answered-room}
-use borrow.Author.Needs.{needs}
 use Rattle.firmware.proofs.words.run.Statement.{statement}
 use Rattle.firmware.proofs.words.run.Tie as tie
 

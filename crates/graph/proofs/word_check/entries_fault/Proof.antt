@@ -1,6 +1,5 @@
 -- `graph::word_check::entries_fault` meets its contract: all pass, or nothing is found at the entries before the counter.
-use Rattle.scan.proofs.Basics.{_-_, _≤_, arith, _≡_, sym, ap, _∙_, none}
-use borrow.Author.Needs.{needs}
+use Rattle.scan.proofs.Basics.{_-_, _≤_, arith, needs, _≡_, sym, ap, _∙_, none}
 use Rattle.scan.specs.Scan.{first}
 use Rattle.scan.proofs.First.{first-none, first-more}
 use Rattle.refusal.specs.Verdict.{verdictOf}

@@ -1,8 +1,7 @@
 -- `graph::word_check::entry_fault` meets its contract.
 use Rattle.scan.specs.Scan.{orElse, when}
 use Rattle.sequential.specs.Check.{entryFault}
-use borrow.Author.Needs.{needs}
-use Rattle.scan.proofs.Basics.{sym, _∙_}
+use Rattle.scan.proofs.Basics.{needs, sym, _∙_}
 use Rattle.graph.proofs.word_check.entry_fault.Statement.{statement}
 use Rattle.graph.proofs.word_check.entry_fault.Tie as tie
 

@@ -3,8 +3,7 @@ use Rattle.scan.proofs.Tests.{lt-ltb, le-ltb, eq-eqb, ne-eqb, not-true, not-fal
 use Rattle.scan.specs.Scan.{orElse, when}
 use Rattle.refusal.specs.Finding.{foundBy, finding}
 use Rattle.sequential.specs.Check.{shapeFault}
-use borrow.Author.Needs.{needs}
-use Rattle.scan.proofs.Basics.{arith, sym, _∙_}
+use Rattle.scan.proofs.Basics.{arith, needs, sym, _∙_}
 use Rattle.graph.proofs.word_check.shape_fault.Statement.{statement}
 use Rattle.graph.proofs.word_check.shape_fault.Tie as tie
 

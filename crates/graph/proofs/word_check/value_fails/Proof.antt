@@ -1,6 +1,5 @@
 -- `graph::word_check::value_fails` meets its contract.
-use Rattle.scan.proofs.Basics.{ℕ, _<_, _≡_, Bool, true, false, leb, List}
-use borrow.Author.Needs.{needs}
+use Rattle.scan.proofs.Basics.{ℕ, _<_, needs, _≡_, Bool, true, false, leb, List}
 use Rattle.scan.proofs.Tests.{lt-ltb, le-ltb, ne-eqb, not-true, not-false}
 use Rattle.table.specs.Table.{keyAt, valueAt}
 use Rattle.sequential.specs.Words.{nodeCount, entryKey, entryValue}

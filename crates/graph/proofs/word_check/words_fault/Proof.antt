@@ -1,6 +1,5 @@
 -- `graph::word_check::words_fault` meets its contract: the shape, then the entries.
-use Rattle.scan.proofs.Basics.{arith, sym, _∙_}
-use borrow.Author.Needs.{needs}
+use Rattle.scan.proofs.Basics.{arith, needs, sym, _∙_}
 use Rattle.refusal.proofs.Verdicts.{answer-none, answer-left, verdict-next}
 use Rattle.sequential.specs.Words.{arcKeys, keyLimit}
 use Rattle.sequential.specs.Known.{ShapePasses}

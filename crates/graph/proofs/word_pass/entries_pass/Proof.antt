@@ -1,6 +1,5 @@
 -- `graph::word_pass::entries_pass` meets its contract: what it has found of keys and values is what 8 and 9 ask.
-use Rattle.scan.proofs.Basics.{arith, refl}
-use borrow.Author.Needs.{needs}
+use Rattle.scan.proofs.Basics.{arith, needs, refl}
 use Rattle.scan.proofs.Tests.{true-false, not-true, not-false}
 use Rattle.scan.proofs.First.{first-empty}
 use Rattle.graph.proofs.Pass.{ends-within, arcs-pass, all-pass}

@@ -1,7 +1,6 @@
 -- `graph::word_pass::values_lie` meets its contract: where nothing was found, the values before the counter lie in their range.
-use Rattle.scan.proofs.Basics.{_-_, _≤_, arith, _≡_, sym, _∙_, ⊎-elim, true}
+use Rattle.scan.proofs.Basics.{_-_, _≤_, arith, needs, _≡_, sym, _∙_, ⊎-elim, true}
 use native.Mathlib.Decide.{decLt}
-use borrow.Author.Needs.{needs}
 use Rattle.scan.proofs.Tests.{true-false, not-false}
 use Rattle.table.specs.Table.{valueAt}
 use Rattle.sequential.specs.Words.{entryValue}

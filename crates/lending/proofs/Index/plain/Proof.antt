@@ -1,6 +1,5 @@
 -- `lending::Index::plain` meets its contract.
-use Rattle.scan.proofs.Basics.{sym, ap}
-use borrow.Author.Needs.{needs}
+use Rattle.scan.proofs.Basics.{needs, sym, ap}
 use Rattle.lending.specs.Index.{plainIndex}
 use Rattle.lending.proofs.Index.plain.Statement.{statement}
 use Rattle.lending.proofs.Index.plain.Tie as tie

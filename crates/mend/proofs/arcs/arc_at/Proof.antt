@@ -1,7 +1,6 @@
 -- `mend::arcs::arc_at` meets its contract.
 use Rattle.mend.proofs.Reading.{arc-read}
-use borrow.Author.Needs.{needs}
-use Rattle.scan.proofs.Basics.{arith}
+use Rattle.scan.proofs.Basics.{arith, needs}
 use Rattle.mend.proofs.arcs.arc_at.Statement.{statement}
 use Rattle.mend.proofs.arcs.arc_at.Tie as tie
 

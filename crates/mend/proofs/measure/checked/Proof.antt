@@ -1,7 +1,6 @@
 -- `mend::measure::checked` meets its contract: each check is asked if those before it refuse nothing.
-use Rattle.scan.proofs.Basics.{refl, sym, _∙_}
+use Rattle.scan.proofs.Basics.{needs, refl, sym, _∙_}
 use Rattle.mend.proofs.Measuring.{words-refused, nodes-refused, paths-judged}
-use borrow.Author.Needs.{needs}
 use Rattle.mend.proofs.measure.checked.Statement.{statement}
 use Rattle.mend.proofs.measure.checked.Tie as tie
 

@@ -1,5 +1,5 @@
 -- `mend::measure::measured` meets its contract.
-use Rattle.scan.proofs.Basics.{_+_, arith, _≡_, sym, _∙_}
+use Rattle.scan.proofs.Basics.{_+_, arith, needs, _≡_, sym, _∙_}
 use Rattle.scan.proofs.Tests.{not-true, not-false}
 use Rattle.refusal.specs.declared.Verdict.the-variants.{Accepted}
 use Rattle.graph.proofs.ArcCount.{arc-count-right}
@@ -8,7 +8,6 @@ use Rattle.mend.specs.Writing.{entriesOf}
 use Rattle.mend.specs.Measure.{arcsVerdict}
 use Rattle.mend.proofs.Writes.{entries-most}
 use Rattle.mend.proofs.Measuring.{before-readable, before-reached, before-refused, refused-measured, place-measured, entries-measured, all-measured}
-use borrow.Author.Needs.{needs}
 use Rattle.mend.proofs.measure.measured.Statement.{statement}
 use Rattle.mend.proofs.measure.measured.Tie as tie
 

@@ -1,6 +1,5 @@
 -- `mend::measure::no_counts` meets its contract.
-use Rattle.scan.proofs.Basics.{_∙_}
-use borrow.Author.Needs.{needs}
+use Rattle.scan.proofs.Basics.{needs, _∙_}
 use Rattle.mend.proofs.measure.no_counts.Statement.{statement}
 use Rattle.mend.proofs.measure.no_counts.Tie as tie
 

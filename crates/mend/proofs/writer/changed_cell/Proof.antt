@@ -1,7 +1,7 @@
 -- `mend::writer::changed_cell` meets its contract.
+use Rattle.scan.proofs.Basics.{needs}
 use Rattle.scan.proofs.Tests.{eq-eqb, ne-eqb}
 use Rattle.mend.specs.Writing.{changedNumber}
-use borrow.Author.Needs.{needs}
 use Rattle.mend.proofs.writer.changed_cell.Statement.{statement}
 use Rattle.mend.proofs.writer.changed_cell.Tie as tie
 

@@ -1,8 +1,7 @@
 -- `mend::writer::changed_cells` meets its contract: the places before the counter have their cells.
-use Rattle.scan.proofs.Basics.{_-_, arith}
+use Rattle.scan.proofs.Basics.{_-_, arith, needs}
 use Rattle.mend.specs.Writing.{changedCell}
 use Rattle.mend.proofs.Storing.{Storing, storing-none, storing-more, storing-all}
-use borrow.Author.Needs.{needs}
 use Rattle.mend.proofs.writer.changed_cells.Statement.{statement}
 use Rattle.mend.proofs.writer.changed_cells.Tie as tie
 

@@ -1,11 +1,10 @@
 -- `mend::writer::copy` meets its contract: the words before the counter are written.
-use Rattle.scan.proofs.Basics.{_-_, _≤_, arith, _≡_}
+use Rattle.scan.proofs.Basics.{_-_, _≤_, arith, needs, _≡_}
 use Rattle.scan.specs.Scan.{tabulate}
 use Rattle.encoding.specs.Rows.{Appended}
 use Rattle.encoding.proofs.Rows.{appended-none, appended-length}
 use Rattle.mend.specs.Writing.{copied}
 use Rattle.mend.proofs.Writes.{copied-more}
-use borrow.Author.Needs.{needs}
 use Rattle.mend.proofs.writer.copy.Statement.{statement}
 use Rattle.mend.proofs.writer.copy.Tie as tie
 

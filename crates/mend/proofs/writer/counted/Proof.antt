@@ -1,11 +1,10 @@
 -- `mend::writer::counted` meets its contract: the entries of the rows before the counter are counted.
-use Rattle.scan.proofs.Basics.{_-_, arith, _≡_, refl, length}
+use Rattle.scan.proofs.Basics.{_-_, arith, needs, _≡_, refl, length}
 use Rattle.sequential.specs.Words.{nodeCount}
 use Rattle.encoding.specs.declared.Section.the-variants.{CountKeys}
 use Rattle.mend.specs.Writing.{partTo}
 use Rattle.mend.proofs.Climbing.{RowsTo, rows-none, rows-more}
 use Rattle.mend.proofs.Writes.{part-count, part-few}
-use borrow.Author.Needs.{needs}
 use Rattle.mend.proofs.writer.counted.Statement.{statement}
 use Rattle.mend.proofs.writer.counted.Tie as tie
 

@@ -1,8 +1,7 @@
 -- `mend::writer::part_row` meets its contract.
-use Rattle.scan.proofs.Basics.{arith, refl, getD}
+use Rattle.scan.proofs.Basics.{arith, needs, refl, getD}
 use Rattle.graph.proofs.Starts.{counts-start-low}
 use Rattle.mend.proofs.Climbing.{row-few}
-use borrow.Author.Needs.{needs}
 use Rattle.mend.proofs.writer.part_row.Statement.{statement}
 use Rattle.mend.proofs.writer.part_row.Tie as tie
 

@@ -2,8 +2,7 @@
 use Rattle.graph.proofs.ArcCount.{arcs-within, arc-count-right}
 use Rattle.encoding.proofs.Rows.{appended-more}
 use Rattle.mend.specs.Writing.{halfOf}
-use borrow.Author.Needs.{needs}
-use Rattle.scan.proofs.Basics.{arith}
+use Rattle.scan.proofs.Basics.{arith, needs}
 use Rattle.mend.proofs.writer.write_half.Statement.{statement}
 use Rattle.mend.proofs.writer.write_half.Tie as tie
 

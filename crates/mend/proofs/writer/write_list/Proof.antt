@@ -3,8 +3,7 @@ use Rattle.encoding.specs.declared.Section.the-variants.{CountKeys}
 use Rattle.encoding.proofs.Rows.{appended-more}
 use Rattle.mend.specs.declared.writer.Part.the-variants.{Changes}
 use Rattle.mend.proofs.Writes.{part-most, list-words, written-from}
-use borrow.Author.Needs.{needs}
-use Rattle.scan.proofs.Basics.{arith}
+use Rattle.scan.proofs.Basics.{arith, needs}
 use Rattle.mend.proofs.writer.write_list.Statement.{statement}
 use Rattle.mend.proofs.writer.write_list.Tie as tie
 

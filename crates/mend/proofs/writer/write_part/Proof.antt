@@ -1,12 +1,11 @@
 -- `mend::writer::write_part` meets its contract: the rows before the counter are written.
-use Rattle.scan.proofs.Basics.{_-_, arith, _≡_}
+use Rattle.scan.proofs.Basics.{_-_, arith, needs, _≡_}
 use Rattle.sequential.specs.Words.{nodeCount}
 use Rattle.encoding.specs.Rows.{Appended}
 use Rattle.encoding.proofs.Rows.{appended-length}
 use Rattle.mend.specs.Writing.{partTo}
 use Rattle.mend.proofs.Climbing.{RowsTo, rows-none, rows-more}
 use Rattle.mend.proofs.Writes.{part-none, part-more}
-use borrow.Author.Needs.{needs}
 use Rattle.mend.proofs.writer.write_part.Statement.{statement}
 use Rattle.mend.proofs.writer.write_part.Tie as tie
 

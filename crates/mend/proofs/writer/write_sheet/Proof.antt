@@ -1,8 +1,7 @@
 -- `mend::writer::write_sheet` meets its contract: the two sizes, then the keys, then the values.
 use Rattle.encoding.proofs.Rows.{appended-more}
 use Rattle.mend.proofs.Writes.{entries-most, sheet-words, written-from}
-use borrow.Author.Needs.{needs}
-use Rattle.scan.proofs.Basics.{arith}
+use Rattle.scan.proofs.Basics.{arith, needs}
 use Rattle.mend.proofs.writer.write_sheet.Statement.{statement}
 use Rattle.mend.proofs.writer.write_sheet.Tie as tie
 

@@ -1,6 +1,5 @@
 -- `mended::MendAnswer::plain` meets its contract.
-use Rattle.scan.proofs.Basics.{sym, ap}
-use borrow.Author.Needs.{needs}
+use Rattle.scan.proofs.Basics.{needs, sym, ap}
 use Rattle.mended.specs.Call.{plainMend}
 use Rattle.mended.proofs.MendAnswer.plain.Statement.{statement}
 use Rattle.mended.proofs.MendAnswer.plain.Tie as tie

@@ -1,6 +1,5 @@
 -- `minimal::FormAnswer::plain` meets its contract.
-use Rattle.scan.proofs.Basics.{sym, ap}
-use borrow.Author.Needs.{needs}
+use Rattle.scan.proofs.Basics.{needs, sym, ap}
 use Rattle.minimal.specs.Form.{plainForm}
 use Rattle.minimal.proofs.FormAnswer.plain.Statement.{statement}
 use Rattle.minimal.proofs.FormAnswer.plain.Tie as tie

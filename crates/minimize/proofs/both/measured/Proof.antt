@@ -1,5 +1,5 @@
 -- `minimize::both::measured` meets its contract.
-use borrow.Author.Needs.{needs}
+use Rattle.scan.proofs.Basics.{needs}
 use Rattle.graph.proofs.Readable.{reply-readable}
 use Rattle.minimize.proofs.both.measured.Statement.{statement}
 use Rattle.minimize.proofs.both.measured.Tie as tie

@@ -1,5 +1,5 @@
 -- `minimize::both::written` meets its contract.
-use borrow.Author.Needs.{needs}
+use Rattle.scan.proofs.Basics.{needs}
 use Rattle.minimize.proofs.TwoForms.{first-short, second-short, both-written}
 use Rattle.minimize.proofs.both.written.Statement.{statement}
 use Rattle.minimize.proofs.both.written.Tie as tie

@@ -1,6 +1,5 @@
 -- `minimize::classes::classes` meets its contract: after k rounds the table holds the leaders of k rounds.
-use Rattle.scan.proofs.Basics.{_-_, _≤_, arith, _≡_, refl, sym, _∙_, false, length}
-use borrow.Author.Needs.{needs}
+use Rattle.scan.proofs.Basics.{_-_, _≤_, arith, needs, _≡_, refl, sym, _∙_, false, length}
 use Rattle.scan.proofs.Tests.{true-false}
 use Rattle.scan.proofs.Front.{zeros}
 use Rattle.automaton.specs.Equivalence.{sameIn}

@@ -1,5 +1,5 @@
 -- `minimize::classes::first_key` meets its contract.
-use borrow.Author.Needs.{needs}
+use Rattle.scan.proofs.Basics.{needs}
 use Rattle.minimize.specs.Agree.{rowKey}
 use Rattle.minimize.proofs.classes.first_key.Statement.{statement}
 use Rattle.minimize.proofs.classes.first_key.Tie as tie

@@ -1,9 +1,8 @@
 -- `minimize::classes::has_key` meets its contract.
-use Rattle.scan.proofs.Basics.{arith}
+use Rattle.scan.proofs.Basics.{arith, needs}
 use Rattle.scan.proofs.Tests.{lt-ltb, le-ltb}
 use Rattle.table.specs.Table.{keyAt}
 use Rattle.minimize.specs.Agree.{hasKey}
-use borrow.Author.Needs.{needs}
 use Rattle.minimize.proofs.classes.has_key.Statement.{statement}
 use Rattle.minimize.proofs.classes.has_key.Tie as tie
 

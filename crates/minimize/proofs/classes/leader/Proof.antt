@@ -1,5 +1,5 @@
 -- `minimize::classes::leader` meets its contract: no node before the counter is in n's new class, and the node at the counter is in its old class.
-use Rattle.scan.proofs.Basics.{_-_, _≤_, _<_, arith, _≡_, sym, _∙_, false}
+use Rattle.scan.proofs.Basics.{_-_, _≤_, _<_, arith, needs, _≡_, sym, _∙_, false}
 use Rattle.scan.specs.Scan.{any}
 use Rattle.scan.proofs.Least.{least-found, least-none}
 use Rattle.automaton.specs.Equivalence.{inClass, leaderBy}
@@ -8,7 +8,6 @@ use Rattle.sequential.specs.Words.{nodeCount, graph}
 use Rattle.breadth_first.specs.Along.{classIn}
 use Rattle.minimize.specs.Leaders.{split}
 use Rattle.minimize.proofs.Leaders.{leader-from, leader-not, leader-skip, split-by-rows, node-low, own-class-low}
-use borrow.Author.Needs.{needs}
 use Rattle.minimize.proofs.classes.leader.Statement.{statement}
 use Rattle.minimize.proofs.classes.leader.Tie as tie
 

@@ -1,9 +1,8 @@
 -- `minimize::classes::next_least` meets its contract: the nodes before the counter are passed over.
-use Rattle.scan.proofs.Basics.{ℕ, _-_, _≤_, _<_, arith}
+use Rattle.scan.proofs.Basics.{ℕ, _-_, _≤_, _<_, arith, needs}
 use Rattle.breadth_first.specs.Along.{classIn}
 use Rattle.minimize.specs.Leaders.{LeastIn}
 use Rattle.minimize.proofs.Leaders.{skips-more}
-use borrow.Author.Needs.{needs}
 use Rattle.minimize.proofs.classes.next_least.Statement.{statement}
 use Rattle.minimize.proofs.classes.next_least.Tie as tie
 

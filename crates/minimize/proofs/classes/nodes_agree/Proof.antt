@@ -1,6 +1,5 @@
 -- `minimize::classes::nodes_agree` meets its contract.
-use Rattle.scan.proofs.Basics.{arith, _∙_}
-use borrow.Author.Needs.{needs}
+use Rattle.scan.proofs.Basics.{arith, needs, _∙_}
 use Rattle.minimize.proofs.NodeRows.{rows, walked}
 use Rattle.minimize.proofs.Level.{left-low, right-low, end-inside, end-low, even-rows, even-walked}
 use Rattle.minimize.proofs.classes.nodes_agree.Statement.{statement}

@@ -1,6 +1,5 @@
 -- `minimize::classes::round` meets its contract: the entries are right before the counter.
-use Rattle.scan.proofs.Basics.{_-_, _≤_, arith, _≡_, refl, length, length-set}
-use borrow.Author.Needs.{needs}
+use Rattle.scan.proofs.Basics.{_-_, _≤_, arith, needs, _≡_, refl, length, length-set}
 use Rattle.automaton.proofs.Leader.{leader-le}
 use Rattle.sequential.specs.Petri.{petriNet}
 use Rattle.sequential.specs.Words.{graph}

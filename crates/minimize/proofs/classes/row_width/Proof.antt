@@ -1,5 +1,5 @@
 -- `minimize::classes::row_width` meets its contract.
-use borrow.Author.Needs.{needs}
+use Rattle.scan.proofs.Basics.{needs}
 use Rattle.minimize.specs.Agree.{rowWidth}
 use Rattle.minimize.proofs.classes.row_width.Statement.{statement}
 use Rattle.minimize.proofs.classes.row_width.Tie as tie

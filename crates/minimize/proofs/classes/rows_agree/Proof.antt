@@ -1,6 +1,5 @@
 -- `minimize::classes::rows_agree` meets its contract: the keys before the counter agree.
-use Rattle.scan.proofs.Basics.{_-_, arith, _≡_, sym, _∙_}
-use borrow.Author.Needs.{needs}
+use Rattle.scan.proofs.Basics.{_-_, arith, needs, _≡_, sym, _∙_}
 use Rattle.scan.proofs.Tests.{not-true, not-false}
 use Rattle.minimize.proofs.Agree.{Walk, walk-start, walk-differ, walk-miss, walk-values, walk-apart, walk-hit}
 use Rattle.minimize.proofs.classes.rows_agree.Statement.{statement}

@@ -1,6 +1,5 @@
 -- `minimize::classes::starts_of` meets its contract: the entries are right before the counter.
-use Rattle.scan.proofs.Basics.{ℕ, _-_, _≤_, _<_, arith, _≡_, refl, _∙_, length, getD, length-set}
-use borrow.Author.Needs.{needs}
+use Rattle.scan.proofs.Basics.{ℕ, _-_, _≤_, _<_, arith, needs, _≡_, refl, _∙_, length, getD, length-set}
 use Rattle.scan.proofs.Tabulate.{stored-more}
 use Rattle.graph.specs.Readable.{Readable}
 use Rattle.minimize.specs.Agree.{firstEntry}

@@ -1,6 +1,5 @@
 -- `minimize::classes::values_agree` meets its contract.
-use Rattle.scan.proofs.Basics.{arith}
-use borrow.Author.Needs.{needs}
+use Rattle.scan.proofs.Basics.{arith, needs}
 use Rattle.table.specs.Table.{valueAt}
 use Rattle.automaton.specs.Equivalence.{sameClass}
 use Rattle.sequential.specs.Words.{entryValue}

@@ -1,6 +1,5 @@
 -- `minimize::writer::entry_count` meets its contract: when the counter is i the entries of the first i rows are counted.
-use Rattle.scan.proofs.Basics.{_+_, _-_, _*_, _≤_, arith, _≡_, refl, _∙_, length}
-use borrow.Author.Needs.{needs}
+use Rattle.scan.proofs.Basics.{_+_, _-_, _*_, _≤_, arith, needs, _≡_, refl, _∙_, length}
 use Rattle.automaton.specs.Quotient.{minimal}
 use Rattle.sequential.specs.Petri.{petriNet}
 use Rattle.sequential.specs.Words.{graph}

@@ -1,6 +1,5 @@
 -- `minimize::writer::entry_value` meets its contract.
-use Rattle.scan.proofs.Basics.{refl}
-use borrow.Author.Needs.{needs}
+use Rattle.scan.proofs.Basics.{needs, refl}
 use Rattle.table.specs.Table.{valueAt}
 use Rattle.sequential.specs.Words.{entryValue}
 use Rattle.minimize.proofs.writer.entry_value.Statement.{statement}

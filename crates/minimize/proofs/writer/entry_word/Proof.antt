@@ -1,6 +1,5 @@
 -- `minimize::writer::entry_word` meets its contract.
-use Rattle.scan.proofs.Basics.{arith, refl, _∙_}
-use borrow.Author.Needs.{needs}
+use Rattle.scan.proofs.Basics.{arith, needs, refl, _∙_}
 use Rattle.table.specs.Table.{keyAt}
 use Rattle.sequential.specs.Words.{entryKey}
 use Rattle.encoding.specs.Kept.{numberIn}

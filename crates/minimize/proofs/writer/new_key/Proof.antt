@@ -1,5 +1,5 @@
 -- `minimize::writer::new_key` meets its contract.
-use borrow.Author.Needs.{needs}
+use Rattle.scan.proofs.Basics.{needs}
 use Rattle.minimize.specs.Runs.{newKey}
 use Rattle.minimize.proofs.writer.new_key.Statement.{statement}
 use Rattle.minimize.proofs.writer.new_key.Tie as tie

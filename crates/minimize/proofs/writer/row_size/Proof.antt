@@ -1,5 +1,5 @@
 -- `minimize::writer::row_size` meets its contract.
-use borrow.Author.Needs.{needs}
+use Rattle.scan.proofs.Basics.{needs}
 use Rattle.minimize.specs.Runs.{rowSize}
 use Rattle.minimize.proofs.NewRows.{row-keyed}
 use Rattle.minimize.proofs.writer.row_size.Statement.{statement}

@@ -1,6 +1,5 @@
 -- `minimize::writer::run_of` meets its contract.
-use Rattle.scan.proofs.Basics.{arith}
-use borrow.Author.Needs.{needs}
+use Rattle.scan.proofs.Basics.{arith, needs}
 use Rattle.minimize.specs.Runs.{runFrom, runSize}
 use Rattle.minimize.proofs.Runs.{runs-rise}
 use Rattle.minimize.proofs.writer.run_of.Statement.{statement}

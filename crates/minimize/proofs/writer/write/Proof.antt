@@ -1,6 +1,5 @@
 -- `minimize::writer::write` meets its contract.
-use Rattle.scan.proofs.Basics.{_≤_, arith, refl, sym, ap, _∙_, length}
-use borrow.Author.Needs.{needs}
+use Rattle.scan.proofs.Basics.{_≤_, arith, needs, refl, sym, ap, _∙_, length}
 use Rattle.scan.proofs.Placed.{placed-front}
 use Rattle.lending.proofs.Lent.{room-holds}
 use Rattle.lending.proofs.Laws.{refused-one, answered-one}

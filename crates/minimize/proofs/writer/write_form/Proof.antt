@@ -1,5 +1,5 @@
 -- `minimize::writer::write_form` meets its contract.
-use borrow.Author.Needs.{needs}
+use Rattle.scan.proofs.Basics.{needs}
 use Rattle.encoding.proofs.Sections.{words-written}
 use Rattle.minimal.specs.Minimal.{minimalForm}
 use Rattle.minimize.proofs.writer.write_form.Statement.{statement}

@@ -1,6 +1,5 @@
 -- `minimize::writer::write_row` meets its contract: when the counter is k the words of the first k entries are written.
-use Rattle.scan.proofs.Basics.{_-_, _≤_, arith}
-use borrow.Author.Needs.{needs}
+use Rattle.scan.proofs.Basics.{_-_, _≤_, arith, needs}
 use Rattle.encoding.specs.Encoding.{gather}
 use Rattle.encoding.specs.Rows.{Appended}
 use Rattle.encoding.proofs.Rows.{appended-none, appended-length}

@@ -1,6 +1,5 @@
 -- `net::capacity_check::overfull_fault` meets its contract: the places before the counter start within their capacities.
-use Rattle.scan.proofs.Basics.{ℕ, _-_, _≤_, _<_, arith, _≡_, sym, ap, _∙_, not, none, getD}
-use borrow.Author.Needs.{needs}
+use Rattle.scan.proofs.Basics.{ℕ, _-_, _≤_, _<_, arith, needs, _≡_, sym, ap, _∙_, not, none, getD}
 use Rattle.scan.specs.Scan.{first, when}
 use Rattle.scan.proofs.First.{first-none, first-more, first-hit, when-hit, when-miss}
 use Rattle.refusal.specs.Refusal.{refusal}

@@ -1,5 +1,5 @@
 -- `net::capacity_check::unlimited` meets its contract: where bisection ends past all entries no key lies in the row.
-use borrow.Author.Needs.{needs}
+use Rattle.scan.proofs.Basics.{needs}
 use Rattle.scan.proofs.Tests.{leb-true}
 use Rattle.net.specs.Net.{placeCount, transitionCount, weightCount}
 use Rattle.net.proofs.Overfull.{unlimited-told}

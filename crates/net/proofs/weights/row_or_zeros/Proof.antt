@@ -1,6 +1,5 @@
 -- `net::weights::row_or_zeros` meets its contract.
-use Rattle.scan.proofs.Basics.{arith, sym, _∙_}
-use borrow.Author.Needs.{needs}
+use Rattle.scan.proofs.Basics.{arith, needs, sym, _∙_}
 use Rattle.scan.proofs.Tests.{not-true, not-false}
 use Rattle.refusal.proofs.Verdicts.{answer-none}
 use Rattle.net.specs.Net.{transitionCount}

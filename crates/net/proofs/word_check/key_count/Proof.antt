@@ -1,7 +1,6 @@
 -- `net::word_check::key_count` meets its contract.
-use Rattle.scan.proofs.Basics.{_+_, _*_, _≤_, arith}
+use Rattle.scan.proofs.Basics.{_+_, _*_, _≤_, arith, needs}
 use native.Mathlib.Nat.{mul-le-mul}
-use borrow.Author.Needs.{needs}
 use Rattle.net.proofs.word_check.key_count.Statement.{statement}
 use Rattle.net.proofs.word_check.key_count.Tie as tie
 

@@ -1,6 +1,5 @@
 -- `net::word_pass::entries_pass` meets its contract: what it has found of keys and weights is what 3 and 4 ask.
-use Rattle.scan.proofs.Basics.{arith, refl}
-use borrow.Author.Needs.{needs}
+use Rattle.scan.proofs.Basics.{arith, needs, refl}
 use Rattle.scan.proofs.Tests.{true-false}
 use Rattle.scan.proofs.First.{first-empty}
 use Rattle.net.specs.Net.{weightCount}

@@ -1,7 +1,5 @@
 -- `net::word_pass::keys_rise` meets its contract: where nothing was found, the keys before the counter rise up to it.
-use Rattle.scan.proofs.Basics.{ℕ, _+_, _-_, _≤_, _<_, arith, _≡_, sym, _∙_, ⊎-elim, true}
-use borrow.Author.Count.{below-more}
-use borrow.Author.Needs.{needs}
+use Rattle.scan.proofs.Basics.{ℕ, _+_, _-_, _≤_, _<_, arith, needs, _≡_, sym, _∙_, ⊎-elim, true, below-more}
 use Rattle.scan.proofs.Tests.{true-false}
 use Rattle.table.specs.Table.{keyAt}
 use Rattle.net.specs.Net.{weightCount}

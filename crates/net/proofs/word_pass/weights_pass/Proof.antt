@@ -1,7 +1,5 @@
 -- `net::word_pass::weights_pass` meets its contract: where nothing was found, the weights before the counter pass.
-use Rattle.scan.proofs.Basics.{_-_, _≤_, arith, _≡_, sym, _∙_, ⊎-elim, true}
-use borrow.Author.Count.{below-more}
-use borrow.Author.Needs.{needs}
+use Rattle.scan.proofs.Basics.{_-_, _≤_, arith, needs, _≡_, sym, _∙_, ⊎-elim, true, below-more}
 use Rattle.scan.proofs.Tests.{true-false}
 use Rattle.table.specs.Table.{valueAt}
 use Rattle.net.specs.Net.{weightCount, entryWeight}

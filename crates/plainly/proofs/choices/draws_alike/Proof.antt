@@ -1,6 +1,6 @@
 -- `plainly::choices::draws_alike` meets its contract.
+use Rattle.scan.proofs.Basics.{needs}
 use Rattle.plainly.specs.Cells.{cellsAlike}
-use borrow.Author.Needs.{needs}
 use Rattle.plainly.proofs.choices.draws_alike.Statement.{statement}
 use Rattle.plainly.proofs.choices.draws_alike.Tie as tie
 

@@ -1,11 +1,10 @@
 -- `plainly::choices::first_offered` meets its contract.
-use Rattle.scan.proofs.Basics.{_-_, _≤_, arith, _≡_, sym, false}
+use Rattle.scan.proofs.Basics.{_-_, _≤_, arith, needs, _≡_, sym, false}
 use Rattle.scan.specs.Scan.{any}
 use Rattle.scan.proofs.Every.{any-more, any-none-yet}
 use Rattle.scan.proofs.Least.{least-found, least-none}
 use Rattle.scan.proofs.Tests.{lt-ltb, le-ltb}
 use Rattle.plainly.specs.Cells.{hasArc}
-use borrow.Author.Needs.{needs}
 use Rattle.plainly.proofs.choices.first_offered.Statement.{statement}
 use Rattle.plainly.proofs.choices.first_offered.Tie as tie
 

@@ -1,10 +1,9 @@
 -- `plainly::choices::is_await` meets its contract.
-use Rattle.scan.proofs.Basics.{_-_, _≤_, arith, _≡_, refl, sym, true}
+use Rattle.scan.proofs.Basics.{_-_, _≤_, arith, needs, _≡_, refl, sym, true}
 use Rattle.scan.specs.Scan.{all}
 use Rattle.scan.proofs.Tests.{not-true, not-false}
 use Rattle.scan.proofs.Every.{all-fails, all-more}
 use Rattle.plainly.specs.Cells.{hasArc, awaitCell, cellsAwait}
-use borrow.Author.Needs.{needs}
 use Rattle.plainly.proofs.choices.is_await.Statement.{statement}
 use Rattle.plainly.proofs.choices.is_await.Tie as tie
 

@@ -1,10 +1,9 @@
 -- `plainly::choices::is_free` meets its contract.
-use Rattle.scan.proofs.Basics.{_-_, _≤_, arith, _≡_, refl, sym, _∙_, true}
+use Rattle.scan.proofs.Basics.{_-_, _≤_, arith, needs, _≡_, refl, sym, _∙_, true}
 use Rattle.scan.proofs.Tests.{not-true, not-false}
 use Rattle.scan.specs.Scan.{all}
 use Rattle.scan.proofs.Every.{all-fails, all-more}
 use Rattle.plainly.specs.Cells.{cellsAlike}
-use borrow.Author.Needs.{needs}
 use Rattle.plainly.proofs.choices.is_free.Statement.{statement}
 use Rattle.plainly.proofs.choices.is_free.Tie as tie
 

@@ -1,10 +1,9 @@
 -- `plainly::choices::is_source` meets its contract.
-use Rattle.scan.proofs.Basics.{_-_, _≤_, arith, _≡_, refl, sym, true}
+use Rattle.scan.proofs.Basics.{_-_, _≤_, arith, needs, _≡_, refl, sym, true}
 use Rattle.scan.proofs.Tests.{eq-eqb, ne-eqb}
 use Rattle.scan.specs.Scan.{all}
 use Rattle.scan.proofs.Every.{all-fails, all-more}
 use Rattle.plainly.specs.Cells.{zeroCell, cellsZero}
-use borrow.Author.Needs.{needs}
 use Rattle.plainly.proofs.choices.is_source.Statement.{statement}
 use Rattle.plainly.proofs.choices.is_source.Tie as tie
 

@@ -1,10 +1,9 @@
 -- `plainly::choices::offers_choice_of` meets its contract.
-use Rattle.scan.proofs.Basics.{_-_, _≤_, arith, _≡_, refl, sym, true}
+use Rattle.scan.proofs.Basics.{_-_, _≤_, arith, needs, _≡_, refl, sym, true}
 use Rattle.scan.specs.Scan.{all}
 use Rattle.scan.proofs.Tests.{not-true, not-false}
 use Rattle.scan.proofs.Every.{all-fails, all-more}
 use Rattle.plainly.specs.Cells.{hasArc, choiceCell, cellsChoice}
-use borrow.Author.Needs.{needs}
 use Rattle.plainly.proofs.choices.offers_choice_of.Statement.{statement}
 use Rattle.plainly.proofs.choices.offers_choice_of.Tie as tie
 

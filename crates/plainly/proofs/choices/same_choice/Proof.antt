@@ -1,7 +1,7 @@
 -- `plainly::choices::same_choice` meets its contract.
+use Rattle.scan.proofs.Basics.{needs}
 use Rattle.scan.proofs.Tests.{eq-eqb, ne-eqb}
 use Rattle.plainly.specs.Cells.{cellsChosen}
-use borrow.Author.Needs.{needs}
 use Rattle.plainly.proofs.choices.same_choice.Statement.{statement}
 use Rattle.plainly.proofs.choices.same_choice.Tie as tie
 

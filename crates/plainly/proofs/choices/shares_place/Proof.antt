@@ -1,9 +1,8 @@
 -- `plainly::choices::shares_place` meets its contract.
-use Rattle.scan.proofs.Basics.{_-_, _≤_, arith, _≡_, sym, false}
+use Rattle.scan.proofs.Basics.{_-_, _≤_, arith, needs, _≡_, sym, false}
 use Rattle.scan.specs.Scan.{any}
 use Rattle.scan.proofs.Every.{any-in, any-more, any-none-yet}
 use Rattle.plainly.specs.Cells.{sharedCell, cellsShared}
-use borrow.Author.Needs.{needs}
 use Rattle.plainly.proofs.choices.shares_place.Statement.{statement}
 use Rattle.plainly.proofs.choices.shares_place.Tie as tie
 

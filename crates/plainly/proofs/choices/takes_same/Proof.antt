@@ -1,10 +1,9 @@
 -- `plainly::choices::takes_same` meets its contract.
-use Rattle.scan.proofs.Basics.{_-_, _≤_, arith, _≡_, refl, sym, true}
+use Rattle.scan.proofs.Basics.{_-_, _≤_, arith, needs, _≡_, refl, sym, true}
 use Rattle.scan.proofs.Tests.{eq-eqb, ne-eqb}
 use Rattle.scan.specs.Scan.{all}
 use Rattle.scan.proofs.Every.{all-fails, all-more}
 use Rattle.plainly.specs.Cells.{sameCell, cellsSame}
-use borrow.Author.Needs.{needs}
 use Rattle.plainly.proofs.choices.takes_same.Statement.{statement}
 use Rattle.plainly.proofs.choices.takes_same.Tie as tie
 

@@ -1,7 +1,6 @@
 -- `plainly::counting::arc_count` meets its contract.
-use Rattle.scan.proofs.Basics.{_-_, arith}
+use Rattle.scan.proofs.Basics.{_-_, arith, needs}
 use Rattle.plainly.proofs.Keys.{Counted, counted-start, counted-more, counted-next, counted-all, counted-fits}
-use borrow.Author.Needs.{needs}
 use Rattle.plainly.proofs.counting.arc_count.Statement.{statement}
 use Rattle.plainly.proofs.counting.arc_count.Tie as tie
 

@@ -1,12 +1,11 @@
 -- `plainly::counting::await_count` meets its contract.
-use Rattle.scan.proofs.Basics.{_-_, _≤_, arith, _≡_, refl, _∙_}
+use Rattle.scan.proofs.Basics.{_-_, _≤_, arith, needs, _≡_, refl, _∙_}
 use Rattle.scan.specs.Scan.{count}
 use Rattle.scan.proofs.Count.{bit-le, count-more, count-le}
 use Rattle.sequential.specs.Tests.{isAwait}
 use Rattle.plainly.specs.Tables.{netOf, graphOf}
 use Rattle.plainly.specs.Clauses.{awaitTotal}
 use Rattle.plainly.proofs.Choosing.{await-told, taking, at-row}
-use borrow.Author.Needs.{needs}
 use Rattle.plainly.proofs.counting.await_count.Statement.{statement}
 use Rattle.plainly.proofs.counting.await_count.Tie as tie
 

@@ -1,8 +1,7 @@
 -- `plainly::spreading::arc_cell` meets its contract.
-use Rattle.scan.proofs.Basics.{arith, _∙_}
+use Rattle.scan.proofs.Basics.{arith, needs, _∙_}
 use Rattle.sequential.proofs.Entries.{rows-few}
 use Rattle.plainly.proofs.LookUp.{keyed, arc-no-node, arc-no-transition, arc-value}
-use borrow.Author.Needs.{needs}
 use Rattle.plainly.proofs.spreading.arc_cell.Statement.{statement}
 use Rattle.plainly.proofs.spreading.arc_cell.Tie as tie
 

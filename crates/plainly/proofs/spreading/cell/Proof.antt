@@ -1,7 +1,6 @@
 -- `plainly::spreading::cell` meets its contract.
-use Rattle.scan.proofs.Basics.{_∙_}
+use Rattle.scan.proofs.Basics.{needs, _∙_}
 use Rattle.plainly.proofs.LookUp.{cell-arc, cell-count}
-use borrow.Author.Needs.{needs}
 use Rattle.plainly.proofs.spreading.cell.Statement.{statement}
 use Rattle.plainly.proofs.spreading.cell.Tie as tie
 

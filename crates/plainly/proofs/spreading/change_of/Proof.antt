@@ -1,8 +1,7 @@
 -- `plainly::spreading::change_of` meets its contract.
-use Rattle.scan.proofs.Basics.{arith}
+use Rattle.scan.proofs.Basics.{arith, needs}
 use mir.Syntax.{w64}
 use Rattle.plainly.proofs.Signed.{difference-fits, difference-is}
-use borrow.Author.Needs.{needs}
 use Rattle.plainly.proofs.spreading.change_of.Statement.{statement}
 use Rattle.plainly.proofs.spreading.change_of.Tie as tie
 

@@ -1,8 +1,7 @@
 -- `plainly::spreading::count_cell` meets its contract.
-use Rattle.scan.proofs.Basics.{arith, _∙_, getD}
+use Rattle.scan.proofs.Basics.{arith, needs, _∙_, getD}
 use Rattle.sequential.proofs.Entries.{rows-few}
 use Rattle.plainly.proofs.LookUp.{keyed, count-no-node, count-no-place, count-value}
-use borrow.Author.Needs.{needs}
 use Rattle.plainly.proofs.spreading.count_cell.Statement.{statement}
 use Rattle.plainly.proofs.spreading.count_cell.Tie as tie
 

@@ -1,5 +1,5 @@
 -- `plainly::spreading::spread_net` meets its contract.
-use Rattle.scan.proofs.Basics.{ℕ, _-_, _≤_, _<_, arith, _≡_, refl, _∙_, getD, length, length-set}
+use Rattle.scan.proofs.Basics.{ℕ, _-_, _≤_, _<_, arith, needs, _≡_, refl, _∙_, getD, length, length-set}
 use mir.Syntax.{w64}
 use mir.ValLaws.{toZ-ofZ}
 use lib.IntN.{pos}
@@ -7,7 +7,6 @@ use Rattle.plainly.specs.Numbers.{takenCell, changeCell}
 use Rattle.plainly.proofs.Signed.{stored-one, same-change}
 use Rattle.net.proofs.Laws.{accessors}
 use Rattle.scan.proofs.Tabulate.{tabulate-at, stored-more}
-use borrow.Author.Needs.{needs}
 use Rattle.plainly.proofs.spreading.spread_net.Statement.{statement}
 use Rattle.plainly.proofs.spreading.spread_net.Tie as tie
 

@@ -1,10 +1,8 @@
 -- `plainly::spreading::spread_sheet` meets its contract.
-use Rattle.scan.proofs.Basics.{ℕ, _-_, _≤_, _<_, arith, _≡_, refl, _∙_, getD, length, length-set}
+use Rattle.scan.proofs.Basics.{ℕ, _-_, _≤_, _<_, arith, needs, _≡_, refl, _∙_, getD, length, length-set, getD-set-other}
 use Rattle.sequential.specs.Petri.{petriNet}
 use Rattle.plainly.specs.Numbers.{cellOf}
-use lib.Seq.{getD-set-other}
 use Rattle.scan.proofs.Tabulate.{stored-more}
-use borrow.Author.Needs.{needs}
 use Rattle.plainly.proofs.spreading.spread_sheet.Statement.{statement}
 use Rattle.plainly.proofs.spreading.spread_sheet.Tie as tie
 

@@ -1,7 +1,6 @@
 -- `plainly::spreading::value_of` meets its contract.
-use Rattle.scan.proofs.Basics.{arith}
+use Rattle.scan.proofs.Basics.{arith, needs}
 use Rattle.plainly.proofs.LookUp.{value-small, value-found, value-absent}
-use borrow.Author.Needs.{needs}
 use Rattle.plainly.proofs.spreading.value_of.Statement.{statement}
 use Rattle.plainly.proofs.spreading.value_of.Tie as tie
 

@@ -1,7 +1,7 @@
 -- `react::durations::duration` meets its contract.
+use Rattle.scan.proofs.Basics.{needs}
 use Rattle.reaction.specs.Words.{early, late}
 use Rattle.react.specs.Times.{durationOf}
-use borrow.Author.Needs.{needs}
 use Rattle.react.proofs.durations.duration.Statement.{statement}
 use Rattle.react.proofs.durations.duration.Tie as tie
 

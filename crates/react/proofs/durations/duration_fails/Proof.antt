@@ -1,6 +1,6 @@
 -- `react::durations::duration_fails` meets its contract.
+use Rattle.scan.proofs.Basics.{needs}
 use Rattle.react.proofs.Lasting.{fails-order, fails-long}
-use borrow.Author.Needs.{needs}
 use Rattle.react.proofs.durations.duration_fails.Statement.{statement}
 use Rattle.react.proofs.durations.duration_fails.Tie as tie
 

@@ -1,10 +1,9 @@
 -- `react::durations::durations_fault` meets its contract: the transitions before the counter pass.
-use Rattle.scan.proofs.Basics.{_-_, arith, _∙_, sym, ap}
+use Rattle.scan.proofs.Basics.{_-_, arith, needs, _∙_, sym, ap}
 use Rattle.refusal.specs.Verdict.{verdictOf}
 use Rattle.scan.proofs.Tests.{not-true, not-false}
 use Rattle.reaction.proofs.Durations.{shape↔, shape-refused, duration-refused, durations-accepted}
 use Rattle.react.proofs.Lasting.{Passing, passing-none, passing-more}
-use borrow.Author.Needs.{needs}
 use Rattle.react.proofs.durations.durations_fault.Statement.{statement}
 use Rattle.react.proofs.durations.durations_fault.Tie as tie
 

@@ -1,7 +1,6 @@
 -- `react::durations::shape_passes` meets its contract.
-use Rattle.scan.proofs.Basics.{arith}
+use Rattle.scan.proofs.Basics.{arith, needs}
 use Rattle.react.proofs.Lasting.{shape-no, shape-yes}
-use borrow.Author.Needs.{needs}
 use Rattle.react.proofs.durations.shape_passes.Statement.{statement}
 use Rattle.react.proofs.durations.shape_passes.Tie as tie
 

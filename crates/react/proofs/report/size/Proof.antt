@@ -1,9 +1,8 @@
 -- `react::report::size` meets its contract: the rows of the nodes before the counter are counted.
-use Rattle.scan.proofs.Basics.{_-_, arith}
+use Rattle.scan.proofs.Basics.{_-_, arith, needs}
 use Rattle.reach.specs.Reach.{isMarked}
 use Rattle.react.proofs.ArcRows.{node-low, start-most, end-most}
 use Rattle.react.proofs.ReportSize.{Sizing, size-start, size-node, size-end, size-busy, size-await}
-use borrow.Author.Needs.{needs}
 use Rattle.react.proofs.report.size.Statement.{statement}
 use Rattle.react.proofs.report.size.Tie as tie
 

@@ -1,9 +1,8 @@
 -- `react::report::write` meets its contract: the rows of the nodes before the counter are written.
-use Rattle.scan.proofs.Basics.{_-_, arith}
+use Rattle.scan.proofs.Basics.{_-_, arith, needs}
 use Rattle.encoding.proofs.Rows.{appended-length}
 use Rattle.react.proofs.ArcRows.{readable, few-nodes}
 use Rattle.react.proofs.Reporting.{Writing, write-start, all-written, write-low, writable, writes-row, skips-row}
-use borrow.Author.Needs.{needs}
 use Rattle.react.proofs.report.write.Statement.{statement}
 use Rattle.react.proofs.report.write.Tie as tie
 

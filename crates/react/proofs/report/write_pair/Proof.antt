@@ -1,6 +1,6 @@
 -- `react::report::write_pair` meets its contract.
+use Rattle.scan.proofs.Basics.{needs}
 use Rattle.encoding.proofs.Rows.{appended-more}
-use borrow.Author.Needs.{needs}
 use Rattle.react.proofs.report.write_pair.Statement.{statement}
 use Rattle.react.proofs.report.write_pair.Tie as tie
 

@@ -1,9 +1,8 @@
 -- `react::report::write_row` meets its contract: the pairs of the arcs before the counter are written.
-use Rattle.scan.proofs.Basics.{_-_, _<_, arith}
+use Rattle.scan.proofs.Basics.{_-_, _<_, arith, needs}
 use Rattle.encoding.proofs.Rows.{appended-length}
 use Rattle.react.proofs.ArcRows.{few-nodes}
 use Rattle.react.proofs.Reporting.{RowWriting, row-start, row-end, row-shape, row-low, early-fits, late-fits, row-more, row-begins, row-ends}
-use borrow.Author.Needs.{needs}
 use Rattle.react.proofs.report.write_row.Statement.{statement}
 use Rattle.react.proofs.report.write_row.Tie as tie
 use Rattle.react.proofs.RowWalks.{entry-there, first-low, within}

@@ -1,8 +1,7 @@
 -- `react::rows::leads_to` meets its contract.
-use Rattle.scan.proofs.Basics.{_+_, arith, refl, getD}
+use Rattle.scan.proofs.Basics.{_+_, arith, needs, refl, getD}
 use Rattle.table.specs.Table.{valueAt}
 use Rattle.sequential.specs.Words.{entryValue}
-use borrow.Author.Needs.{needs}
 use Rattle.react.proofs.rows.leads_to.Statement.{statement}
 use Rattle.react.proofs.rows.leads_to.Tie as tie
 

@@ -1,12 +1,11 @@
 -- `react::rows::starts` meets its contract: the nodes before the counter have their starts.
-use Rattle.scan.proofs.Basics.{ℕ, _*_, _-_, _≤_, _<_, arith, _≡_, refl, _∙_, ap, length, getD, length-set}
+use Rattle.scan.proofs.Basics.{ℕ, _*_, _-_, _≤_, _<_, arith, needs, _≡_, refl, _∙_, ap, length, getD, length-set}
 use Rattle.scan.proofs.Tabulate.{stored-more}
 use Rattle.table.specs.Bisection.{lowerBound}
 use Rattle.net.specs.Net.{transitionCount}
 use Rattle.graph.proofs.Starts.{arcs-start-is}
 use Rattle.graph.proofs.ArcCount.{arcs-within}
 use Rattle.react.proofs.ArcRows.{starts-all}
-use borrow.Author.Needs.{needs}
 use Rattle.graph.proofs.Bounds.{bound-low}
 use Rattle.react.proofs.rows.starts.Statement.{statement}
 use Rattle.react.proofs.rows.starts.Tie as tie

@@ -1,8 +1,7 @@
 -- `react::rows::transition` meets its contract.
-use Rattle.scan.proofs.Basics.{_+_, arith, refl}
+use Rattle.scan.proofs.Basics.{_+_, arith, needs, refl}
 use Rattle.table.specs.Table.{keyAt}
 use Rattle.sequential.specs.Words.{entryKey}
-use borrow.Author.Needs.{needs}
 use Rattle.react.proofs.rows.transition.Statement.{statement}
 use Rattle.react.proofs.rows.transition.Tie as tie
 

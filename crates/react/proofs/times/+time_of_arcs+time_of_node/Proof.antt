@@ -1,10 +1,9 @@
 -- `react::times::time_of_node` and `time_of_arcs` meet their contracts; the measure is twice the number of nodes not visited, and 1 more in `time_of_arcs`.
-use Rattle.scan.proofs.Basics.{ℕ, _+_, _*_, _-_, _<_, arith, set}
+use Rattle.scan.proofs.Basics.{ℕ, _+_, _*_, _-_, _<_, arith, needs, set}
 use Rattle.reaction.specs.Memo.{unvisited}
 use Rattle.react.proofs.ArcRows.{rows, start-most, end-most}
 use Rattle.react.proofs.Recursion.{few, worked-await, kept-value, worked-kept, begin-falls, begins, closes, worked-fits}
 use Rattle.react.proofs.Recursion.{Going, goes-start, goes-fewer, goes-end, shape, enters, sum-fits, goes-arc}
-use borrow.Author.Needs.{needs}
 use borrow.Fn.Kinds.{In}
 use borrow.Fn.PlainCycle.{Measures, is, falls, and}
 use Rattle.react.proofs.times.time_of_arcs.Reads as time-of-arcs

@@ -1,8 +1,7 @@
 -- `react::times::times` meets its contract: the times of the nodes before the counter are stored.
-use Rattle.scan.proofs.Basics.{_-_, arith}
+use Rattle.scan.proofs.Basics.{_-_, arith, needs}
 use Rattle.react.proofs.ArcRows.{readable, few-nodes}
 use Rattle.react.proofs.AllTimes.{Filling, filling-start, fill-enters, fill-low, fill-more}
-use borrow.Author.Needs.{needs}
 use Rattle.react.proofs.times.times.Statement.{statement}
 use Rattle.react.proofs.times.times.Tie as tie
 

@@ -1,6 +1,5 @@
 -- `reaction::ReactionAnswer::plain` meets its contract.
-use Rattle.scan.proofs.Basics.{sym, ap}
-use borrow.Author.Needs.{needs}
+use Rattle.scan.proofs.Basics.{needs, sym, ap}
 use Rattle.reaction.specs.Call.{plainReaction}
 use Rattle.reaction.proofs.ReactionAnswer.plain.Statement.{statement}
 use Rattle.reaction.proofs.ReactionAnswer.plain.Tie as tie

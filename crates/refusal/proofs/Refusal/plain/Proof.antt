@@ -1,5 +1,5 @@
 -- `refusal::Refusal::plain` meets its contract.
-use borrow.Author.Needs.{needs}
+use Rattle.scan.proofs.Basics.{needs}
 use Rattle.refusal.proofs.Verdicts.{refusal-parts}
 use Rattle.refusal.proofs.Refusal.plain.Statement.{statement}
 use Rattle.refusal.proofs.Refusal.plain.Tie as tie

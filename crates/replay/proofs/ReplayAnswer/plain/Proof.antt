@@ -1,6 +1,5 @@
 -- `replay::ReplayAnswer::plain` meets its contract.
-use Rattle.scan.proofs.Basics.{sym, ap}
-use borrow.Author.Needs.{needs}
+use Rattle.scan.proofs.Basics.{needs, sym, ap}
 use Rattle.replay.specs.Plain.{plainReplay}
 use Rattle.replay.proofs.ReplayAnswer.plain.Statement.{statement}
 use Rattle.replay.proofs.ReplayAnswer.plain.Tie as tie

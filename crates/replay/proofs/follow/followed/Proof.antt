@@ -1,6 +1,5 @@
 -- `replay::follow::followed` meets its contract: the firings before the counter pass, and lead to the node, where the next arc can be looked up.
-use Rattle.scan.proofs.Basics.{_-_, arith, refl, sym, _∙_}
-use borrow.Author.Needs.{needs}
+use Rattle.scan.proofs.Basics.{_-_, arith, needs, refl, sym, _∙_}
 use Rattle.replay.specs.Log.{firingCount}
 use Rattle.replay.specs.LookUp.{LooksUp, Ranks}
 use Rattle.replay.proofs.LookUp.{entry-there, looks-on, unranked}

@@ -1,6 +1,5 @@
 -- `replay::look_up::arc` meets its contract: a guess is taken where its key is the arc's, and what is looked up has a rank in its row.
-use Rattle.scan.proofs.Basics.{arith, sym, _∙_}
-use borrow.Author.Needs.{needs}
+use Rattle.scan.proofs.Basics.{arith, needs, sym, _∙_}
 use Rattle.replay.proofs.LookUp.{key-low, start-low, no-transition, guess-hit, in-row, ranked}
 use Rattle.replay.proofs.look_up.arc.Statement.{statement}
 use Rattle.replay.proofs.look_up.arc.Tie as tie

@@ -1,6 +1,5 @@
 -- `replay::look_up::arc_target` meets its contract.
-use Rattle.scan.proofs.Basics.{refl}
-use borrow.Author.Needs.{needs}
+use Rattle.scan.proofs.Basics.{needs, refl}
 use Rattle.table.specs.Table.{valueAt}
 use Rattle.sequential.specs.Words.{entryValue}
 use Rattle.replay.proofs.look_up.arc_target.Statement.{statement}

@@ -1,6 +1,5 @@
 -- `replay::look_up::first_keys` meets its contract: the nodes before the counter have their keys.
-use Rattle.scan.proofs.Basics.{ℕ, _-_, _≤_, _<_, arith, _≡_, length, getD, length-set}
-use borrow.Author.Needs.{needs}
+use Rattle.scan.proofs.Basics.{ℕ, _-_, _≤_, _<_, arith, needs, _≡_, length, getD, length-set}
 use Rattle.scan.proofs.Tabulate.{stored-more}
 use Rattle.graph.specs.Rows.{arcsStart}
 use Rattle.replay.proofs.look_up.first_keys.Statement.{statement}

@@ -1,6 +1,5 @@
 -- `replay::tally::add_row` meets its contract: the row is right before the counter.
-use Rattle.scan.proofs.Basics.{ℕ, _-_, _*_, _≤_, _<_, arith, _≡_, length, getD, length-set}
-use borrow.Author.Needs.{needs}
+use Rattle.scan.proofs.Basics.{ℕ, _-_, _*_, _≤_, _<_, arith, needs, _≡_, length, getD, length-set}
 use native.Mathlib.Nat.{mul-le-mul}
 use Rattle.scan.proofs.Tabulate.{tabulate-is, stored-more}
 use Rattle.replay.specs.Tally.{added}

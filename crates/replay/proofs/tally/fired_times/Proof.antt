@@ -1,6 +1,5 @@
 -- `replay::tally::fired_times` meets its contract: each transition is counted as often as it fires before the counter.
-use Rattle.scan.proofs.Basics.{_+_, _-_, _≤_, _<_, arith, getD}
-use borrow.Author.Needs.{needs}
+use Rattle.scan.proofs.Basics.{_+_, _-_, _≤_, _<_, arith, needs, getD}
 use Rattle.replay.specs.Log.{firingCount}
 use Rattle.replay.proofs.Sides.{Counting, counts-none, counts-fit, counts-more, counts-all}
 use Rattle.replay.proofs.tally.fired_times.Statement.{statement}

@@ -1,5 +1,5 @@
 -- `replay::tally::row_of` meets its contract.
-use borrow.Author.Needs.{needs}
+use Rattle.scan.proofs.Basics.{needs}
 use Rattle.replay.proofs.tally.row_of.Statement.{statement}
 use Rattle.replay.proofs.tally.row_of.Tie as tie
 

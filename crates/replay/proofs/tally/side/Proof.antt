@@ -1,5 +1,5 @@
 -- `replay::tally::side` meets its contract.
-use borrow.Author.Needs.{needs}
+use Rattle.scan.proofs.Basics.{needs}
 use Rattle.replay.proofs.Sides.{side-fits, side-done}
 use Rattle.replay.proofs.tally.side.Statement.{statement}
 use Rattle.replay.proofs.tally.side.Tie as tie

@@ -1,6 +1,5 @@
 -- `replay::tally::total` meets its contract: the numbers before the counter are added.
-use Rattle.scan.proofs.Basics.{_-_, _≤_, arith, _≡_, refl}
-use borrow.Author.Needs.{needs}
+use Rattle.scan.proofs.Basics.{_-_, _≤_, arith, needs, _≡_, refl}
 use Rattle.scan.specs.Scan.{sum}
 use Rattle.scan.proofs.Sum.{sum-more}
 use Rattle.replay.specs.Tally.{at}

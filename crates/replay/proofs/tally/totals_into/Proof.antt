@@ -1,6 +1,5 @@
 -- `replay::tally::totals_into` meets its contract.
-use Rattle.scan.proofs.Basics.{arith}
-use borrow.Author.Needs.{needs}
+use Rattle.scan.proofs.Basics.{arith, needs}
 use Rattle.net.proofs.Laws.{sizes}
 use Rattle.replay.proofs.Sides.{weighable, both-totals}
 use Rattle.replay.proofs.tally.totals_into.Statement.{statement}

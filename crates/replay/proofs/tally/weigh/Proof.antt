@@ -1,6 +1,5 @@
 -- `replay::tally::weigh` meets its contract: the sums are those of the transitions before the counter.
-use Rattle.scan.proofs.Basics.{_-_, arith}
-use borrow.Author.Needs.{needs}
+use Rattle.scan.proofs.Basics.{_-_, arith, needs}
 use Rattle.replay.proofs.Sides.{Weighing, weighs-none, weighs-fit, weighs-more, weighs-all}
 use Rattle.replay.proofs.tally.weigh.Statement.{statement}
 use Rattle.replay.proofs.tally.weigh.Tie as tie

@@ -1,6 +1,5 @@
 -- `replay::tally::write_row` meets its contract: when the counter is i the first i numbers of the row are written.
-use Rattle.scan.proofs.Basics.{ℕ, _-_, _≤_, arith, _≡_, refl, ap, _∙_, List, length, getD, take, set, length-set}
-use borrow.Author.Needs.{needs}
+use Rattle.scan.proofs.Basics.{ℕ, _-_, _≤_, arith, needs, _≡_, refl, ap, _∙_, List, length, getD, take, set, length-set}
 use Rattle.scan.specs.Placed.{placed}
 use Rattle.scan.proofs.Placed.{placed-none, row-more, row-all, row-full}
 use Rattle.replay.proofs.tally.write_row.Statement.{statement}

@@ -1,5 +1,5 @@
 -- `schedule::firing::follow` meets its contract: the node is the one after the firings before the counter, each of which is offered.
-use Rattle.scan.proofs.Basics.{_-_, _≤_, _<_, arith, _≡_, sym, ap, _∙_, none, length}
+use Rattle.scan.proofs.Basics.{_-_, _≤_, _<_, arith, needs, _≡_, sym, ap, _∙_, none, length}
 use Rattle.scan.specs.Scan.{first}
 use Rattle.scan.proofs.First.{first-none, first-more, first-hit}
 use Rattle.refusal.specs.Verdict.{verdictOf}
@@ -9,7 +9,6 @@ use Rattle.lending.specs.Index.{indexFrom}
 use Rattle.schedule.specs.Firing.{nodeAfter, entryAfter, firingFault, runFault}
 use Rattle.graph.proofs.LookUp.{arc-found, arc-missing}
 use Rattle.schedule.proofs.Walks.{target-node, entry-fits, after-none, after-more, entry-none, entry-more, firing-passes, firing-fails}
-use borrow.Author.Needs.{needs}
 use Rattle.refusal.proofs.Verdicts.{accepted-refused}
 use Rattle.schedule.proofs.firing.follow.Statement.{statement}
 use Rattle.schedule.proofs.firing.follow.Tie as tie

@@ -1,10 +1,9 @@
 -- `schedule::firing::step` meets its contract.
-use Rattle.scan.proofs.Basics.{arith, sym, _∙_}
+use Rattle.scan.proofs.Basics.{arith, needs, sym, _∙_}
 use Rattle.refusal.proofs.Verdicts.{answer-none}
 use Rattle.graph.proofs.LookUp.{arc-found, arc-missing}
 use Rattle.judge.proofs.Judged.{accepted-readable}
 use Rattle.schedule.proofs.Walks.{entry-fits, walker-refused, not-offered, follows-on}
-use borrow.Author.Needs.{needs}
 use Rattle.schedule.proofs.firing.step.Statement.{statement}
 use Rattle.schedule.proofs.firing.step.Tie as tie
 

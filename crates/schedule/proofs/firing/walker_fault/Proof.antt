@@ -1,5 +1,5 @@
 -- `schedule::firing::walker_fault` meets its contract: nothing is found at the counts before the counter.
-use Rattle.scan.proofs.Basics.{_-_, _≤_, _<_, arith, _≡_, sym, ap, _∙_, none}
+use Rattle.scan.proofs.Basics.{_-_, _≤_, _<_, arith, needs, _≡_, sym, ap, _∙_, none}
 use Rattle.scan.specs.Scan.{first}
 use Rattle.scan.proofs.First.{first-none, first-more}
 use Rattle.refusal.specs.Verdict.{verdictOf}
@@ -8,7 +8,6 @@ use Rattle.schedule.specs.Walker.{walker}
 use Rattle.schedule.specs.Firing.{countFault}
 use Rattle.graph.proofs.Readable.{known}
 use Rattle.schedule.proofs.Walks.{no-such-node, held-at, count-right, astray-at, walker-right}
-use borrow.Author.Needs.{needs}
 use Rattle.schedule.proofs.firing.walker_fault.Statement.{statement}
 use Rattle.schedule.proofs.firing.walker_fault.Tie as tie
 

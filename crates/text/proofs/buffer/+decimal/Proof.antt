@@ -1,6 +1,5 @@
 -- `text::buffer::decimal` meets its contract: it calls itself with n / 100, which is less than n.
-use Rattle.scan.proofs.Basics.{ℕ, _<_, arith}
-use borrow.Author.Needs.{needs}
+use Rattle.scan.proofs.Basics.{ℕ, _<_, arith, needs}
 use borrow.Fn.Kinds.{In}
 use borrow.Fn.PlainCycle.{Measures, is, falls, and}
 use Rattle.text.proofs.Joined.{one-digit, two-put, two-more}

@@ -1,6 +1,5 @@
 -- `text::buffer::byte` meets its contract.
-use Rattle.scan.proofs.Basics.{arith}
-use borrow.Author.Needs.{needs}
+use Rattle.scan.proofs.Basics.{arith, needs}
 use Rattle.text.proofs.Put.{byte-put, byte-dropped}
 use Rattle.text.proofs.buffer.byte.Statement.{statement}
 use Rattle.text.proofs.buffer.byte.Tie as tie

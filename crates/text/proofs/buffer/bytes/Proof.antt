@@ -1,6 +1,5 @@
 -- `text::buffer::bytes` meets its contract: when the counter is i the first i bytes are put.
-use Rattle.scan.proofs.Basics.{_-_, _≤_, arith, length, take}
-use borrow.Author.Needs.{needs}
+use Rattle.scan.proofs.Basics.{_-_, _≤_, arith, needs, length, take}
 use Rattle.text.specs.Buffer.{Put}
 use Rattle.text.proofs.Put.{nothing-put, same-length}
 use Rattle.text.proofs.Joined.{more-taken, all-taken}

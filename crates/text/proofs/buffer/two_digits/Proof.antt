@@ -1,5 +1,5 @@
 -- `text::buffer::two_digits` meets its contract.
-use borrow.Author.Needs.{needs}
+use Rattle.scan.proofs.Basics.{needs}
 use Rattle.text.proofs.Put.{both-put}
 use Rattle.text.proofs.buffer.two_digits.Statement.{statement}
 use Rattle.text.proofs.buffer.two_digits.Tie as tie

@@ -1,5 +1,5 @@
 -- `trim::numbers::kept` meets its contract.
-use borrow.Author.Needs.{needs}
+use Rattle.scan.proofs.Basics.{needs}
 use Rattle.trim.proofs.Numbering.{new-nodes}
 use Rattle.trim.proofs.numbers.kept.Statement.{statement}
 use Rattle.trim.proofs.numbers.kept.Tie as tie

@@ -1,6 +1,5 @@
 -- `trim::writer::cell_of` meets its contract: the key of an arc is in a row of T keys, that of a count in a row of P keys.
-use Rattle.scan.proofs.Basics.{arith}
-use borrow.Author.Needs.{needs}
+use Rattle.scan.proofs.Basics.{arith, needs}
 use Rattle.trim.proofs.Reading.{arcs-few, arc-cell, count-cell}
 use Rattle.trim.proofs.writer.cell_of.Statement.{statement}
 use Rattle.trim.proofs.writer.cell_of.Tie as tie

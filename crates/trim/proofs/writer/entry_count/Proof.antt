@@ -1,6 +1,5 @@
 -- `trim::writer::entry_count` meets its contract: when the counter is i the kept ones of the first i entries are counted.
-use Rattle.scan.proofs.Basics.{_-_, _≤_, arith, _≡_, refl}
-use borrow.Author.Needs.{needs}
+use Rattle.scan.proofs.Basics.{_-_, _≤_, arith, needs, _≡_, refl}
 use Rattle.scan.specs.Scan.{count}
 use Rattle.sequential.specs.Petri.{petriNet}
 use Rattle.sequential.specs.Words.{entryCount}

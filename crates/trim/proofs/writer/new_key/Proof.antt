@@ -1,6 +1,5 @@
 -- `trim::writer::new_key` meets its contract.
-use Rattle.scan.proofs.Basics.{arith}
-use borrow.Author.Needs.{needs}
+use Rattle.scan.proofs.Basics.{arith, needs}
 use Rattle.trim.proofs.Reading.{arcs-few, number-some, key-arc, key-count, key-arc-few, key-count-few}
 use Rattle.trim.proofs.writer.new_key.Statement.{statement}
 use Rattle.trim.proofs.writer.new_key.Tie as tie

@@ -1,6 +1,5 @@
 -- `trim::writer::new_value` meets its contract.
-use Rattle.scan.proofs.Basics.{arith}
-use borrow.Author.Needs.{needs}
+use Rattle.scan.proofs.Basics.{arith, needs}
 use Rattle.trim.proofs.Reading.{arcs-few, target-low, target-few, target-cell, value-stays}
 use Rattle.trim.proofs.writer.new_value.Statement.{statement}
 use Rattle.trim.proofs.writer.new_value.Tie as tie

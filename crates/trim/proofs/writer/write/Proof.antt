@@ -1,5 +1,5 @@
 -- `trim::writer::write` meets its contract.
-use borrow.Author.Needs.{needs}
+use Rattle.scan.proofs.Basics.{needs}
 use Rattle.trim.proofs.Done.{sheet-short, list-short, both-written}
 use Rattle.trim.proofs.writer.write.Statement.{statement}
 use Rattle.trim.proofs.writer.write.Tie as tie

@@ -1,6 +1,5 @@
 -- `trim::writer::write_list` meets its contract: when the counter is n the kept ones of the first n nodes are listed.
-use Rattle.scan.proofs.Basics.{_-_, _≤_, arith, _≡_, refl}
-use borrow.Author.Needs.{needs}
+use Rattle.scan.proofs.Basics.{_-_, _≤_, arith, needs, _≡_, refl}
 use Rattle.scan.specs.Scan.{passing}
 use Rattle.sequential.specs.Petri.{petriNet}
 use Rattle.sequential.specs.Words.{nodeCount, graph}

@@ -1,6 +1,5 @@
 -- `trim::writer::write_sheet` meets its contract: when the counter is i the kept ones of the first i entries are written.
-use Rattle.scan.proofs.Basics.{_-_, _≤_, arith, _≡_, _∙_}
-use borrow.Author.Needs.{needs}
+use Rattle.scan.proofs.Basics.{_-_, _≤_, arith, needs, _≡_, _∙_}
 use Rattle.sequential.specs.Words.{entryCount}
 use Rattle.encoding.proofs.Rows.{appended-length}
 use Rattle.trim.specs.Tables.{NewNodes, Counted}

@@ -1,6 +1,5 @@
 -- `trimmed::TrimAnswer::plain` meets its contract.
-use Rattle.scan.proofs.Basics.{sym, ap}
-use borrow.Author.Needs.{needs}
+use Rattle.scan.proofs.Basics.{needs, sym, ap}
 use Rattle.trimmed.specs.Call.{plainTrim}
 use Rattle.trimmed.proofs.TrimAnswer.plain.Statement.{statement}
 use Rattle.trimmed.proofs.TrimAnswer.plain.Tie as tie
