@@ -13,9 +13,9 @@ abbrev μ-loop : tie.MeasureT-loop
 
 walked-requires : tie.Need-walked-requires Inv-loop μ-loop
 walked-requires c κs =
+    let start : tie.Start Inv-loop μ-loop = search in let sheet = start .args .sheet .now in
     let n = c .before in
     let t = n .before in
-    let sheet = t .before .before .before .before .before .args .sheet .now in
     (offering (ground-is {sheet = sheet} (t .before .before .choices-only .ensures) (t .transitions .ensures) (n .node-count .ensures)), n .node-count .ensures)
 
 loop-holds : tie.Need-loop-holds Inv-loop μ-loop

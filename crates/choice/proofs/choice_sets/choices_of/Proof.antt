@@ -30,23 +30,27 @@ least-alike-requires c κs = (c .before .before .before .first-places .ensures, 
 -- a least transition is below 32
 array-read-noted : tie.Need-array-read-noted Inv-loop μ-loop
 array-read-noted c =
+    let start : tie.Start Inv-loop μ-loop = search in
     let l = c .before .before .before in
-    omega (arith, leader-le (takesSame (netByRows (l .before .before .before .before .args .net .now))) (l .loop .i), c .least-alike .ensures)
+    omega (arith, leader-le (takesSame (netByRows (start .args .net .now))) (l .loop .i), c .least-alike .ensures)
 
 noted-requires : tie.Need-noted-requires Inv-loop μ-loop
 noted-requires c κs =
+    let start : tie.Start Inv-loop μ-loop = search in
     let l = c .before .before .before in
-    (l .loop .inv .4) _ (omega (arith, leader-le (takesSame (netByRows (l .before .before .before .before .args .net .now))) (l .loop .i), c .least-alike .ensures))
+    (l .loop .inv .4) _ (omega (arith, leader-le (takesSame (netByRows (start .args .net .now))) (l .loop .i), c .least-alike .ensures))
 
 array-write-notes : tie.Need-array-write-notes Inv-loop μ-loop
 array-write-notes c =
+    let start : tie.Start Inv-loop μ-loop = search in
     let l = c .before .before .before .before in
-    omega (arith, leader-le (takesSame (netByRows (l .before .before .before .before .args .net .now))) (l .loop .i), c .before .least-alike .ensures)
+    omega (arith, leader-le (takesSame (netByRows (start .args .net .now))) (l .loop .i), c .before .least-alike .ensures)
 
 loop-again : tie.Need-loop-again Inv-loop μ-loop
 loop-again c =
+    let start : tie.Start Inv-loop μ-loop = search in
     let l = c .before .before .before .before .before in
-    let N = netByRows (l .before .before .before .before .args .net .now) in
+    let N = netByRows (start .args .net .now) in
     let (m, h, k, r, n, e, few) = l .loop .inv in
     let told = c .before .noted .ensures in
     let q = c .before .before .least-alike .ensures in (

@@ -21,21 +21,23 @@ unfolding netByRows
 loop-holds c = (omega arith, any-none-yet _, c .transitions .ensures)
 
 element-copy-out-if1 : tie.Need-element-copy-out-if1 Inv-loop μ-loop
-element-copy-out-if1 c = omega (arith, c .before .loop .inv .2, few-by-rows (c .before .before .before .before .before .args .net .now))
+element-copy-out-if1 c = let start : tie.Start Inv-loop μ-loop = search in omega (arith, c .before .loop .inv .2, few-by-rows (start .args .net .now))
 
 returns : tie.Need-returns Inv-loop μ-loop
 unfolding firstSource
 returns c =
+    let start : tie.Start Inv-loop μ-loop = search in
     let l = c .before .before .before in
     let below = rw (l .loop .inv .2) at (c .before .before .loop-test .taken) in
-    sym (least-found _ _ _ (l .loop .inv .1) (source-first _ _ (l .before .before .places .ensures) (l .before .before .before .before .pre) _ below (c .if1 .taken)) below)
+    sym (least-found _ _ _ (l .loop .inv .1) (source-first _ _ (l .before .before .places .ensures) (start .pre) _ below (c .if1 .taken)) below)
 
 loop-again : tie.Need-loop-again Inv-loop μ-loop
 loop-again c =
+    let start : tie.Start Inv-loop μ-loop = search in
     let l = c .before .before .before in
     let below = rw (l .loop .inv .2) at (c .before .before .loop-test .taken) in (
       omega arith,
-      any-more _ _ (l .loop .inv .1) (drawing-first _ _ (l .before .before .places .ensures) (l .before .before .before .before .pre) _ below (omega arith)),
+      any-more _ _ (l .loop .inv .1) (drawing-first _ _ (l .before .before .places .ensures) (start .pre) _ below (omega arith)),
       l .loop .inv .2,
     )
 

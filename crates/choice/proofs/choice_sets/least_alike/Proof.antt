@@ -68,7 +68,7 @@ loop-again-2 c =
 
 returns-3 : tie.Need-returns-3 Inv-loop μ-loop
 unfolding leaderBy
-returns-3 c = let e : (c .before .loop .u) ≡ (c .before .before .before .before .before .args .t) = omega arith in sym (least-none _ _ (rw e at (c .before .loop .inv .1)))
+returns-3 c = let start : tie.Start Inv-loop μ-loop = search in let e : (c .before .loop .u) ≡ (start .args .t) = omega arith in sym (least-none _ _ (rw e at (c .before .loop .inv .1)))
 
 pub least-alike-spec : {M : Type 1} → statement M
 least-alike-spec =

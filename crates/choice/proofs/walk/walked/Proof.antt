@@ -14,7 +14,7 @@ abbrev μ-loop : tie.MeasureT-loop
 μ-loop net sheet leaders source transitions nodes awaits₀ ends n₀ first₀ start₀ awaits n first start = nodes - n
 
 set-ends-requires : tie.Need-set-ends-requires Inv-loop μ-loop
-set-ends-requires c κs = few-transitions (c .before .before .before .before .pre .0)
+set-ends-requires c κs = let start : tie.Start Inv-loop μ-loop = search in few-transitions (start .pre .0)
 
 loop-holds : tie.Need-loop-holds Inv-loop μ-loop
 loop-holds c =

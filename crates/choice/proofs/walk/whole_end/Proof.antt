@@ -30,16 +30,16 @@ element-copy-out-if1 : tie.Need-element-copy-out-if1 Inv-loop μ-loop
 element-copy-out-if1 c = let s = c .before .before .before .pre .1 in omega (arith, s .few, s .within)
 
 cast-if1 : tie.Need-cast-if1 Inv-loop μ-loop
-cast-if1 c = let s = c .before .before .before .before .pre .1 in omega (arith, s .few, s .below)
+cast-if1 c = let start : tie.Start Inv-loop μ-loop = search in let s = start .pre .1 in omega (arith, s .few, s .below)
 
 shared-slice-read-if3 : tie.Need-shared-slice-read-if3 Inv-loop μ-loop
-shared-slice-read-if3 c = omega (arith, c .before .before .before .before .before .before .before .pre .0 .0 .whole)
+shared-slice-read-if3 c = let start : tie.Start Inv-loop μ-loop = search in omega (arith, start .pre .0 .0 .whole)
 
 cast-if3 : tie.Need-cast-if3 Inv-loop μ-loop
-cast-if3 c = let s = c .before .before .before .before .before .before .before .pre .1 in omega (arith, s .few, s .within)
+cast-if3 c = let start : tie.Start Inv-loop μ-loop = search in let s = start .pre .1 in omega (arith, s .few, s .within)
 
 add-if3-2 : tie.Need-add-if3-2 Inv-loop μ-loop
-add-if3-2 c = let ((r, f), s) = c .before .before .before .before .before .before .before .pre in omega (arith, r .low, s .few, s .within)
+add-if3-2 c = let start : tie.Start Inv-loop μ-loop = search in let ((r, f), s) = start .pre in omega (arith, r .low, s .few, s .within)
 
 loop-again : tie.Need-loop-again Inv-loop μ-loop
 loop-again c =
@@ -62,23 +62,23 @@ loop-again-2 c =
 
 returns-3 : tie.Need-returns-3 Inv-loop μ-loop
 returns-3 c h =
-    let ((r, f), s) = c .before .before .before .before .pre in
+    let start : tie.Start Inv-loop μ-loop = search in let ((r, f), s) = start .pre in
     let (l, m) = c .before .before .loop .inv in
     row-whole _ _ _ _ _ (passed-all _ _ _ _ _ m s (omega (arith, c .before .loop-test .left)) l) (λ k. absurd (omega (arith, c .if4 .taken))) r
 
 shared-slice-read-if5 : tie.Need-shared-slice-read-if5 Inv-loop μ-loop
-shared-slice-read-if5 c = omega (arith, c .before .before .before .before .before .pre .0 .0 .whole)
+shared-slice-read-if5 c = let start : tie.Start Inv-loop μ-loop = search in omega (arith, start .pre .0 .0 .whole)
 
 cast-if5 : tie.Need-cast-if5 Inv-loop μ-loop
-cast-if5 c = omega (arith, c .before .before .before .before .before .pre .1 .few)
+cast-if5 c = let start : tie.Start Inv-loop μ-loop = search in omega (arith, start .pre .1 .few)
 
 add-if5-2 : tie.Need-add-if5-2 Inv-loop μ-loop
-add-if5-2 c = let ((r, f), s) = c .before .before .before .before .before .pre in omega (arith, r .low, s .few)
+add-if5-2 c = let start : tie.Start Inv-loop μ-loop = search in let ((r, f), s) = start .pre in omega (arith, r .low, s .few)
 
 returns-5 : tie.Need-returns-5 Inv-loop μ-loop
 unfolding keyAt
 returns-5 c h =
-    let ((r, f), s) = c .before .before .before .before .before .before .pre in
+    let start : tie.Start Inv-loop μ-loop = search in let ((r, f), s) = start .pre in
     let (l, m) = c .before .before .before .before .loop .inv in
     row-whole _ _ _ _ _ (passed-all _ _ _ _ _ m s (omega (arith, c .before .before .before .loop-test .left)) l) (λ k. omega (arith, c .if5 .left)) r
 
