@@ -29,7 +29,9 @@ loop-again : tie.Need-loop-again Inv-loop μ-loop
 loop-again c = (omega arith, first-more _ _ (c .before .before .before .before .loop .inv .1) (answer-none _ (sym (c .before .before .entry-fault .ensures) ∙ (c .enum-told2 .given .1))))
 
 returns-3 : tie.Need-returns-3 Inv-loop μ-loop
-returns-3 c = let e : c .before .loop .i ≡ entryCount (c .before .before .before .before .before .before .args .sheet .now) = omega arith in ap verdictOf (sym (rw e at (c .before .loop .inv .1)))
+returns-3 c =
+    let start : tie.Start Inv-loop μ-loop = search in
+    let e : c .before .loop .i ≡ entryCount (start .args .sheet .now) = omega arith in ap verdictOf (sym (rw e at (c .before .loop .inv .1)))
 
 pub entries-fault-spec : {M : Type 1} → statement M
 entries-fault-spec =

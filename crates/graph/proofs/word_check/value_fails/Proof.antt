@@ -16,19 +16,19 @@ of-arc false sheet arcs i l = rw (lt-ltb _ _ l)
 
 returns : tie.Need-returns
 unfolding entryKey entryValue keyAt valueAt
-returns c = let a = c .before .before .before .before .before .args in of-arc (a .counts) (a .sheet .now) (a .arcs) (a .i) (c .before .if1 .taken)
+returns c = let start : tie.Start = search in let a = start .args in of-arc (a .counts) (a .sheet .now) (a .arcs) (a .i) (c .before .if1 .taken)
 
 returns-2 : tie.Need-returns-2
 unfolding arcValueFails entryKey keyAt
-returns-2 c = rw (not-true (c .before .before .before .before .before .args .counts) (c .if2 .taken), le-ltb _ _ (c .before .if1 .left))
+returns-2 c = let start : tie.Start = search in rw (not-true (start .args .counts) (c .if2 .taken), le-ltb _ _ (c .before .if1 .left))
 
 returns-3 : tie.Need-returns-3
 unfolding valueFails countFails entryKey entryValue keyAt valueAt
-returns-3 c = rw (not-false (c .before .before .before .before .before .before .args .counts) (c .before .if2 .left), le-ltb _ _ (c .before .before .if1 .left), (c .if3 .taken))
+returns-3 c = let start : tie.Start = search in rw (not-false (start .args .counts) (c .before .if2 .left), le-ltb _ _ (c .before .before .if1 .left), (c .if3 .taken))
 
 returns-4 : tie.Need-returns-4
 unfolding valueFails countFails entryKey entryValue keyAt valueAt
-returns-4 c = rw (not-false (c .before .before .before .before .before .before .args .counts) (c .before .if2 .left), le-ltb _ _ (c .before .before .if1 .left), ne-eqb _ _ (c .if3 .left))
+returns-4 c = let start : tie.Start = search in rw (not-false (start .args .counts) (c .before .if2 .left), le-ltb _ _ (c .before .before .if1 .left), ne-eqb _ _ (c .if3 .left))
 
 pub value-fails-spec : {M : Type 1} → statement M
 value-fails-spec =

@@ -10,7 +10,7 @@ use Rattle.graph.proofs.word_check.words_fault.Statement.{statement}
 use Rattle.graph.proofs.word_check.words_fault.Tie as tie
 
 returns : tie.Need-returns
-returns c = rw (fault-by (c .before .before .before .before .before .args .counts)) (answer-left _ _ _ _ (c .before .before .shape-fault .ensures) (c .enum-told .given .1))
+returns c = let start : tie.Start = search in rw (fault-by (start .args .counts)) (answer-left _ _ _ _ (c .before .before .shape-fault .ensures) (c .enum-told .given .1))
 
 module _ (c : tie.After-enum-told2) where
   shape : ShapePasses (c .before .before .before .before .before .args .sheet .now)
@@ -31,8 +31,9 @@ entries-fault-requires c κs = shape (c .before .before .before)
 returns-2 : tie.Need-returns-2
 unfolding arcKeys keyLimit
 returns-2 c =
+    let start : tie.Start = search in
     let d = c .before .before .before .before in
-    rw (fault-by (d .before .before .before .before .before .args .counts), ← (c .before .before .transitions .ensures), ← (c .before .places .ensures))
+    rw (fault-by (start .args .counts), ← (c .before .before .transitions .ensures), ← (c .before .places .ensures))
     (c .entries-fault .ensures ∙ sym (verdict-next _ _ (sym (d .before .before .shape-fault .ensures) ∙ d .enum-told2 .given .1)))
 
 pub words-fault-spec : {M : Type 1} → statement M

@@ -11,8 +11,8 @@ returns c h = first-empty _ _ (λ i l. absurd (omega (arith, c .if1 .taken)))
 
 values-lie-requires : tie.Need-values-lie-requires
 values-lie-requires c κs =
+    let start : tie.Start = search in let s = start .pre in
     let k = c .before .before .before in
-    let s = k .before .before .before .before .before .before .pre in
     (s, ends-within s (k .keys-rise .ensures (not-false _ (c .before .before .if3 .left))) _ (c .before .lower-bound .ensures))
 
 returns-5 : tie.Need-returns-5

@@ -18,10 +18,10 @@ loop-holds : tie.Need-loop-holds Inv-loop μ-loop
 loop-holds c = (omega arith, λ h j k l. absurd (omega arith))
 
 add-lies : tie.Need-add-lies Inv-loop μ-loop
-add-lies c = let (s, l) = c .before .before .before .before .pre in omega (arith, s .few-entries)
+add-lies c = let start : tie.Start Inv-loop μ-loop = search in let (s, l) = start .pre in omega (arith, s .few-entries)
 
 shared-slice-read-lies : tie.Need-shared-slice-read-lies Inv-loop μ-loop
-shared-slice-read-lies c = let (s, l) = c .before .before .before .before .before .pre in omega (arith, s .whole)
+shared-slice-read-lies c = let start : tie.Start Inv-loop μ-loop = search in let (s, l) = start .pre in omega (arith, s .whole)
 
 loop-again : tie.Need-loop-again Inv-loop μ-loop
 unfolding entryValue valueAt

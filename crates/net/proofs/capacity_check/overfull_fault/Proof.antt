@@ -34,7 +34,8 @@ returns c = ap verdictOf (sym (c .before .unlimited .ensures (c .if1 .taken)))
 loop-holds : tie.Need-loop-holds Inv-loop μ-loop
 unfolding placeCount transitionCount
 loop-holds c =
-    (omega arith, first-none _, overfull-told (c .before .before .before .before .before .before .before .pre .1) (c .before .row-or-zeros .ensures) (c .row-or-zeros2 .ensures))
+    let start : tie.Start Inv-loop μ-loop = search in
+    (omega arith, first-none _, overfull-told (start .pre .1) (c .before .row-or-zeros .ensures) (c .row-or-zeros2 .ensures))
 
 returns-2 : tie.Need-returns-2 Inv-loop μ-loop
 unfolding placeCount
@@ -51,7 +52,8 @@ loop-again c =
 returns-3 : tie.Need-returns-3 Inv-loop μ-loop
 unfolding placeCount
 returns-3 c =
-    let e : c .before .loop .p ≡ getD (c .before .before .before .before .before .before .before .before .before .args .net .now) 0 0 = omega arith in
+    let start : tie.Start Inv-loop μ-loop = search in
+    let e : c .before .loop .p ≡ getD (start .args .net .now) 0 0 = omega arith in
     ap verdictOf (sym (rw e at (c .before .loop .inv .1)))
 
 pub overfull-fault-spec : {M : Type 1} → statement M

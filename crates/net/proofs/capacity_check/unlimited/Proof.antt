@@ -8,7 +8,7 @@ use Rattle.net.proofs.capacity_check.unlimited.Tie as tie
 
 returns : tie.Need-returns
 unfolding placeCount transitionCount weightCount
-returns c = λ h. unlimited-told (c .before .before .before .before .before .pre .1) _ (c .lower-bound .ensures) (leb-true _ _ h)
+returns c = let start : tie.Start = search in λ h. unlimited-told (start .pre .1) _ (c .lower-bound .ensures) (leb-true _ _ h)
 
 pub unlimited-spec : {M : Type 1} → statement M
 unlimited-spec =

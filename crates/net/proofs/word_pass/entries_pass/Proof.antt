@@ -14,8 +14,8 @@ returns c h = first-empty _ _ (λ i l. absurd (omega (arith, c .if1 .taken)))
 returns-3 : tie.Need-returns-3
 unfolding weightCount
 returns-3 c h =
+    let start : tie.Start = search in let e = start .pre .1 in
     let k = c .before .before in
-    let e = k .before .before .before .before .before .before .pre .1 in
     all-pass (k .keys-rise .ensures (c .before .if3 .taken)) (omega (arith, k .before .if2 .left)) (c .weights-pass .ensures h)
 
 pub entries-pass-spec : {M : Type 1} → statement M
