@@ -1,13 +1,5 @@
 -- The checks of composition: each test decides its clause, and what they find is the check that fails first.
-use Rattle.scan.proofs.Basics.{arith}
-use Prim.Native.Nat.{ℕ, zero, suc, _<_}
-use mathlib.Core.Path.{_≡_, refl, sym, subst}
-use mathlib.Core.Logic.{_↔_, ⊎-elim}
-use mathlib.Core.Bool.{false, not}
-use mathlib.Core.List.{List, _++_}
-use mathlib.Core.Option.{none}
-use lib.Dec.{eqb, ltb}
-use lib.ListN.{length}
+use Rattle.scan.proofs.Basics.{ℕ, zero, suc, _<_, arith, _≡_, refl, sym, subst, ⊎-elim, _↔_, false, not, ltb, eqb, none, List, _++_, length}
 use borrow.Author.Tests.{ltb-false, le-ltb, eqb-true, eq-eqb, not-false}
 use Rattle.scan.specs.Scan.{first, any}
 use Rattle.scan.proofs.Tests.{or-none-left, or-none-right, lt-suc-cases}

@@ -1,13 +1,6 @@
 -- 30 without a search, and source document 001's Corollary 1.
-use Rattle.scan.proofs.Basics.{arith}
-use Prim.Native.Nat.{ℕ, zero, suc, _+_, _*_, _-_, _≤_, _<_}
+use Rattle.scan.proofs.Basics.{ℕ, zero, suc, _+_, _-_, _*_, _≤_, _<_, arith, _≡_, refl, ap, ⊎-elim, _↔_, Bool, true, false, _&&_, ltb, eqb, none, getD}
 use native.Mathlib.Nat.{zero-mul, suc-mul}
-use mathlib.Core.Path.{_≡_, refl, ap}
-use mathlib.Core.Option.{none}
-use mathlib.Core.Logic.{_↔_, ⊎-elim}
-use mathlib.Core.Bool.{Bool, true, false, _&&_}
-use lib.ListN.{getD}
-use lib.Dec.{eqb, ltb}
 use borrow.Author.Tests.{leb-true, le-leb, ltb-true, ltb-false, eqb-true, eq-eqb}
 use Rattle.scan.specs.Scan.{bit, any, count, sum}
 use Rattle.scan.proofs.Tests.{byTest, true-false, not-true→false, iff→eq, lt-suc-cases}

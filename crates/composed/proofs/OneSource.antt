@@ -1,10 +1,6 @@
 -- With one source the product is the task itself, so that the composed schedule is the given one, numbered breadth first (§10.33).
-use Rattle.scan.proofs.Basics.{arith}
-use Prim.Native.Nat.{ℕ, _-_, _*_, _<_}
+use Rattle.scan.proofs.Basics.{ℕ, _-_, _*_, _<_, arith, _≡_, refl, sym, ap, _∙_, Option, none, some, Option·map, length, getD}
 use native.Mathlib.Nat.{mod-eq-of-lt, div-one, zero-mul}
-use mathlib.Core.Path.{_≡_, refl, sym, ap, _∙_}
-use mathlib.Core.Option.{Option, none, some, Option·map}
-use lib.ListN.{length, getD}
 use Rattle.scan.specs.Scan.{sum}
 use Rattle.scan.proofs.Tabulate.{tabulate-is, tabulate-ext}
 use Rattle.automaton.specs.Automaton.{Automaton}

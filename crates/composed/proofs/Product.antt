@@ -1,11 +1,6 @@
 -- The graph of all tuples: which task fires, one busy task at most, and a task's own path followed while the others wait.
-use Rattle.scan.proofs.Basics.{arith}
-use Prim.Native.Nat.{ℕ, zero, suc, _<_}
-use mathlib.Core.Path.{_≡_, refl, sym, ap, _∙_}
-use mathlib.Core.Logic.{_⊎_, inl, inr, ⊎-elim}
-use mathlib.Core.Bool.{Bool, true, false, not}
-use mathlib.Core.Option.{none, some, map-eq-some-iff}
-use lib.Dec.{eqb, ltb}
+use Rattle.scan.proofs.Basics.{ℕ, zero, suc, _<_, arith, _≡_, refl, sym, ap, _∙_, _⊎_, inl, inr, ⊎-elim, Bool, true, false, not, ltb, eqb, none, some}
+use mathlib.Core.Option.{map-eq-some-iff}
 use borrow.Author.Tests.{ltb-true, lt-ltb, eqb-true, eqb-false, not-true}
 use Rattle.scan.specs.Scan.{found, all, least}
 use Rattle.scan.proofs.Tests.{byTest, true-false}

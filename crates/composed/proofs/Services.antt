@@ -1,11 +1,5 @@
 -- Lists in which no source but that of one task occurs: the product allows those that the task allows (§10.34).
-use Rattle.scan.proofs.Basics.{arith}
-use Prim.Native.Nat.{ℕ, suc, _<_}
-use mathlib.Core.Path.{_≡_, refl, sym, ap, _∙_}
-use mathlib.Core.Logic.{⊎-elim}
-use mathlib.Core.List.{List, [], _∷_}
-use mathlib.Core.Option.{Option·map}
-use lib.ListN.{length, getD}
+use Rattle.scan.proofs.Basics.{ℕ, suc, _<_, arith, _≡_, refl, sym, ap, _∙_, ⊎-elim, Option·map, List, [], _∷_, length, getD}
 use Rattle.scan.specs.Scan.{found}
 use Rattle.scan.proofs.Tests.{byEqual, true-false}
 use Rattle.scan.proofs.First.{none-some, found-map}

@@ -1,9 +1,5 @@
 -- The composed schedule's words: accepted with the whole net, and the graph of the reached states.
-use Rattle.scan.proofs.Basics.{arith}
-use Prim.Native.Nat.{ℕ, _≤_, _<_}
-use mathlib.Core.Path.{_≡_, sym, ap, _∙_, subst}
-use mathlib.Core.List.{List}
-use lib.ListN.{length}
+use Rattle.scan.proofs.Basics.{ℕ, _≤_, _<_, arith, _≡_, sym, ap, subst, _∙_, List, length}
 use Rattle.scan.proofs.Tabulate.{tabulate-length}
 use Rattle.automaton.specs.Automaton.{Automaton}
 use Rattle.automaton.specs.BreadthFirst.{BreadthFirst}

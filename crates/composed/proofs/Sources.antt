@@ -1,11 +1,6 @@
 -- The list of the sources: rising, and each source once.
-use Rattle.scan.proofs.Basics.{arith}
-use Prim.Native.Nat.{ℕ, zero, suc, _<_}
-use mathlib.Core.Path.{_≡_, sym, _∙_}
-use mathlib.Core.Logic.{⊎-elim}
-use mathlib.Core.Bool.{Bool, true, false}
-use mathlib.Core.List.{List, [], _∷_, _++_, append-nil}
-use lib.ListN.{length, getD}
+use Rattle.scan.proofs.Basics.{ℕ, zero, suc, _<_, arith, _≡_, sym, _∙_, ⊎-elim, Bool, true, false, List, [], _∷_, _++_, length, getD}
+use mathlib.Core.List.{append-nil}
 use Rattle.scan.specs.Scan.{when, passing}
 use Rattle.scan.proofs.Tests.{byTest, true-false, lt-suc-cases}
 use Rattle.scan.proofs.First.{when-hit, when-miss}

@@ -1,11 +1,5 @@
 -- The reached states are exactly the tuples in which at most one task is busy.
-use Rattle.scan.proofs.Basics.{arith}
-use Prim.Native.Nat.{ℕ, zero, suc, _≤_, _<_}
-use mathlib.Core.Path.{_≡_, refl, sym, ap, _∙_}
-use mathlib.Core.Logic.{_↔_, ⊎-elim}
-use mathlib.Core.Bool.{true}
-use mathlib.Core.List.{List}
-use mathlib.Core.Option.{some}
+use Rattle.scan.proofs.Basics.{ℕ, zero, suc, _≤_, _<_, arith, _≡_, refl, sym, ap, _∙_, ⊎-elim, _↔_, true, some, List}
 use Rattle.scan.proofs.Tests.{byTest, lt-suc-cases}
 use Rattle.automaton.specs.Automaton.{follow}
 use Rattle.automaton.specs.Reach.{Reachable}

@@ -1,11 +1,7 @@
 -- Tuples as numbers: a component is what was put there, the others stay, and equal components make equal tuples.
-use Rattle.scan.proofs.Basics.{arith}
-use Prim.Native.Nat.{ℕ, zero, suc, _+_, _*_, _/_, _%_, _≤_, _<_}
+use Rattle.scan.proofs.Basics.{ℕ, zero, suc, _+_, _*_, _/_, _%_, _≤_, _<_, arith, _≡_, refl, sym, ap, _∙_, ⊎-elim, ltb}
 use native.Mathlib.Nat.{add-mul, mul-assoc, mul-comm, mul-pos, zero-div, zero-mod, mod-lt, mod-eq-of-lt}
 use native.Mathlib.Nat.{div-add-mod', mul-add-div-right, mul-add-mod-self-right, div-div-eq-div-mul, div-lt-iff-lt-mul}
-use mathlib.Core.Path.{_≡_, refl, sym, ap, _∙_}
-use mathlib.Core.Logic.{⊎-elim}
-use lib.Dec.{ltb}
 use borrow.Author.Tests.{ltb-true, ltb-false}
 use Rattle.scan.proofs.Tests.{byTest, lt-suc-cases}
 use Rattle.sequential.proofs.Entries.{row-div, row-mod}

@@ -1,10 +1,5 @@
 -- The steps of a recursion that keeps what it has found: a node read, begun, closed, and the measure that falls.
-use Rattle.scan.proofs.Basics.{arith, getD-set-same, getD-set-other}
-use Prim.Native.Nat.{ℕ, _+_, _≤_, _<_}
-use mathlib.Core.Path.{_≡_, refl, sym, _∙_}
-use mathlib.Core.List.{List}
-use lib.Dec.{eqb}
-use lib.ListN.{length, getD, set, length-set}
+use Rattle.scan.proofs.Basics.{ℕ, _+_, _≤_, _<_, arith, _≡_, refl, sym, _∙_, eqb, List, length, getD, set, length-set, getD-set-same, getD-set-other}
 use borrow.Author.Tests.{eqb-true, eqb-false, eq-eqb}
 use Rattle.scan.proofs.Tests.{byTest}
 use Rattle.scan.proofs.Count.{count-mono, count-strict}

@@ -1,6 +1,5 @@
 -- `refusal::Verdict::plain` meets its contract.
-use Rattle.scan.proofs.Basics.{needs}
-use mathlib.Core.Path.{sym, ap}
+use Rattle.scan.proofs.Basics.{needs, sym, ap}
 use Rattle.refusal.specs.Refusal.{plainVerdict}
 use Rattle.refusal.proofs.Verdict.plain.Statement.{statement}
 use Rattle.refusal.proofs.Verdict.plain.Tie as tie
