@@ -2,9 +2,11 @@
 ghost use Rattle.std.specs.Prelude.{◌≤◌, length};
 
 use super::cases::{Buffers, Marks, Shape};
+use super::print::Output;
 use super::{cases, print};
 use replay::ReplayAnswer;
 use schedule::{Fired, Walker};
+use std::io;
 
 // The word at an index, 0 past the end.
 fn at(words: &[u32], i: usize) -> u32 {
@@ -14,30 +16,29 @@ fn at(words: &[u32], i: usize) -> u32 {
     words[i]
 }
 
-fn weights(net: &[u32], t: u32, p: u32) {
+fn weights(output: &mut Output, net: &[u32], t: u32, p: u32) -> io::Result<()> {
     print::weights(
+        output,
         net::taken(net, t, p),
         net::put(net, t, p),
         net::start(net, p),
         net::capacity(net, p),
-    );
+    )
 }
 
-fn fresh_walker(net: &[u32]) {
+fn fresh_walker(output: &mut Output, net: &[u32]) -> io::Result<()> {
     let made = Walker::fresh(net);
     let verdict = made.verdict;
     let walker = made.walker;
-    print::verdict(verdict);
-    print::walker(walker);
+    print::verdict(output, verdict)?;
+    print::walker(output, walker)
 }
 
 // The walker that words name: its node, then 32 counts.
 fn walker(words: &[u32]) -> Walker {
     let mut counts = [0u32; 32];
-    let mut p = 0;
-    while p < 32 {
+    for p in 0..32 {
         counts[p] = at(words, 1 + p);
-        p += 1;
     }
     Walker {
         node: at(words, 0),
@@ -45,16 +46,17 @@ fn walker(words: &[u32]) -> Walker {
     }
 }
 
-fn fired(fired: Fired) {
+fn fired(output: &mut Output, fired: Fired) -> io::Result<()> {
     let answer = fired.answer;
     let next = fired.next;
-    print::fire_answer(answer);
-    print::walker(next);
+    print::fire_answer(output, answer)?;
+    print::walker(output, next)
 }
 
 // Makes a call with the larger scratch and prints its answer. `words` is what the case has after the sheet: a record, durations, a walker and the
 // transition that it is to fire, or a transition and a place.
 fn larger_call(
+    output: &mut Output,
     operation: u32,
     net: &[u32],
     sheet: &[u32],
@@ -62,25 +64,29 @@ fn larger_call(
     out: &mut [u32],
     second: &mut [u32],
     scratch: &mut [u32],
-) {
+) -> io::Result<()> {
     match operation {
-        1 => print::verdict(net::check(net)),
-        2 => print::check_answer(schedule::check(net, sheet, scratch)),
-        3 => print::verdict(schedule::place_bounds(net, sheet, out, scratch)),
-        4 => fresh_walker(net),
-        5 => fired(walker(words).fire(net, sheet, at(words, 33), scratch)),
-        6 => print::run_answer(schedule::run(net, sheet, words, out, scratch)),
-        7 => print::form_answer(minimize::minimal_form(net, sheet, out, scratch)),
-        8 => weights(net, at(words, 0), at(words, 1)),
-        12 => print::trim_answer(trim::trim(net, sheet, out, second, scratch)),
-        13 => print::reaction_answer(react::reactions(net, sheet, words, out, scratch)),
-        15 => print::check_answer(plainly::check(net, sheet, scratch)),
-        _ => print::mend_answer(mend::mend(net, sheet, out, second, scratch)),
+        1 => print::verdict(output, net::check(net)),
+        2 => print::check_answer(output, schedule::check(net, sheet, scratch)),
+        3 => print::verdict(output, schedule::place_bounds(net, sheet, out, scratch)),
+        4 => fresh_walker(output, net),
+        5 => fired(
+            output,
+            walker(words).fire(net, sheet, at(words, 33), scratch),
+        ),
+        6 => print::run_answer(output, schedule::run(net, sheet, words, out, scratch)),
+        7 => print::form_answer(output, minimize::minimal_form(net, sheet, out, scratch)),
+        8 => weights(output, net, at(words, 0), at(words, 1)),
+        12 => print::trim_answer(output, trim::trim(net, sheet, out, second, scratch)),
+        13 => print::reaction_answer(output, react::reactions(net, sheet, words, out, scratch)),
+        15 => print::check_answer(output, plainly::check(net, sheet, scratch)),
+        _ => print::mend_answer(output, mend::mend(net, sheet, out, second, scratch)),
     }
 }
 
 // Makes a call of the small panel and prints its answer.
 fn panel_call(
+    output: &mut Output,
     operation: u32,
     net: &[u32],
     sheet: &[u32],
@@ -88,19 +94,23 @@ fn panel_call(
     out: &mut [u32],
     second: &mut [u32],
     scratch: &mut [u32],
-) {
+) -> io::Result<()> {
     match operation {
-        102 => print::check_answer(panel::check(net, sheet, scratch)),
-        103 => print::verdict(panel::place_bounds(net, sheet, out, scratch)),
-        105 => fired(panel::fire(walker(words), net, sheet, at(words, 33), scratch)),
-        106 => print::run_answer(panel::run(net, sheet, words, out, scratch)),
-        107 => print::form_answer(panel::minimal_form(net, sheet, out, scratch)),
-        _ => print::mend_answer(panel::mend(net, sheet, out, second, scratch)),
+        102 => print::check_answer(output, panel::check(net, sheet, scratch)),
+        103 => print::verdict(output, panel::place_bounds(net, sheet, out, scratch)),
+        105 => fired(
+            output,
+            panel::fire(walker(words), net, sheet, at(words, 33), scratch),
+        ),
+        106 => print::run_answer(output, panel::run(net, sheet, words, out, scratch)),
+        107 => print::form_answer(output, panel::minimal_form(net, sheet, out, scratch)),
+        _ => print::mend_answer(output, panel::mend(net, sheet, out, second, scratch)),
     }
 }
 
 // Makes the call of an operation and prints its answer.
 fn call(
+    output: &mut Output,
     operation: u32,
     net: &[u32],
     sheet: &[u32],
@@ -108,30 +118,36 @@ fn call(
     out: &mut [u32],
     second: &mut [u32],
     scratch: &mut [u32],
-) {
+) -> io::Result<()> {
     if cases::on_panel(operation) {
-        panel_call(operation, net, sheet, words, out, second, scratch);
-        return;
+        return panel_call(output, operation, net, sheet, words, out, second, scratch);
     }
-    larger_call(operation, net, sheet, words, out, second, scratch);
+    larger_call(output, operation, net, sheet, words, out, second, scratch)
 }
 
 // Prints what the call left in its buffers.
-fn left(shape: Shape, out: &[u32], second: &[u32], scratch: &[u32]) {
+fn left(
+    output: &mut Output,
+    shape: Shape,
+    out: &[u32],
+    second: &[u32],
+    scratch: &[u32],
+) -> io::Result<()> {
     if 0 < shape.outs {
-        print::out(out, 9);
+        print::out(output, out, 9)?;
     }
     if 1 < shape.outs {
-        print::out(second, 9);
+        print::out(output, second, 9)?;
     }
     if 0 < shape.sheets {
-        print::scratch(scratch, 7);
+        print::scratch(output, scratch, 7)?;
     }
-    print::bytes(b"\n");
+    print::bytes(output, b"\n")
 }
 
 // Prints the line of a case, given the buffers for its call.
 fn in_buffers(
+    output: &mut Output,
     operation: u32,
     shape: Shape,
     net: &[u32],
@@ -140,13 +156,14 @@ fn in_buffers(
     out: &mut [u32],
     second: &mut [u32],
     scratch: &mut [u32],
-) {
-    call(operation, net, sheet, words, out, second, scratch);
-    left(shape, out, second, scratch);
+) -> io::Result<()> {
+    call(output, operation, net, sheet, words, out, second, scratch)?;
+    left(output, shape, out, second, scratch)
 }
 
 // Prints the line of a case. The buffers have the lengths given; before the call every word of an output buffer is 9, and of scratch 7.
 fn lending(
+    output: &mut Output,
     operation: u32,
     shape: Shape,
     net: &[u32],
@@ -155,13 +172,14 @@ fn lending(
     outs: usize,
     seconds: usize,
     scratches: usize,
-)
+) -> io::Result<()>
     requires { (outs ≤ 9000) × (seconds ≤ 9000) × (scratches ≤ 9000) }
 {
     let mut out = [9u32; 9000];
     let mut second = [9u32; 9000];
     let mut scratch = [7u32; 9000];
     in_buffers(
+        output,
         operation,
         shape,
         net,
@@ -170,7 +188,7 @@ fn lending(
         &mut out[0..outs],
         &mut second[0..seconds],
         &mut scratch[0..scratches],
-    );
+    )
 }
 
 // The replay of the small panel, or the one with the larger scratch.
@@ -191,6 +209,7 @@ fn replay_call(
 
 // Prints the line of a replay, given its buffers.
 fn replayed(
+    output: &mut Output,
     operation: u32,
     net: &[u32],
     sheet: &[u32],
@@ -198,16 +217,20 @@ fn replayed(
     taken: &mut [u64],
     put: &mut [u64],
     scratch: &mut [u32],
-) {
-    print::replay_answer(replay_call(operation, net, sheet, log, taken, put, scratch));
-    print::numbers(taken, 9);
-    print::numbers(put, 9);
-    print::scratch(scratch, 7);
-    print::bytes(b"\n");
+) -> io::Result<()> {
+    print::replay_answer(
+        output,
+        replay_call(operation, net, sheet, log, taken, put, scratch),
+    )?;
+    print::numbers(output, taken, 9)?;
+    print::numbers(output, put, 9)?;
+    print::scratch(output, scratch, 7)?;
+    print::bytes(output, b"\n")
 }
 
 // Prints the line of a replay. Its output buffers hold numbers of 64 bits.
 fn lending_wide(
+    output: &mut Output,
     operation: u32,
     net: &[u32],
     sheet: &[u32],
@@ -215,13 +238,14 @@ fn lending_wide(
     takens: usize,
     puts: usize,
     scratches: usize,
-)
+) -> io::Result<()>
     requires { (takens ≤ 9000) × (puts ≤ 9000) × (scratches ≤ 9000) }
 {
     let mut taken = [9u64; 9000];
     let mut put = [9u64; 9000];
     let mut scratch = [7u32; 9000];
     replayed(
+        output,
         operation,
         net,
         sheet,
@@ -229,15 +253,24 @@ fn lending_wide(
         &mut taken[0..takens],
         &mut put[0..puts],
         &mut scratch[0..scratches],
-    );
+    )
 }
 
 // Prints the line of a case with one sheet or none.
-fn one_sheet(operation: u32, shape: Shape, net: &[u32], sheet: &[u32], words: &[u32], lent: Buffers)
+fn one_sheet(
+    output: &mut Output,
+    operation: u32,
+    shape: Shape,
+    net: &[u32],
+    sheet: &[u32],
+    words: &[u32],
+    lent: Buffers,
+) -> io::Result<()>
     requires { (lent.out ≤ 9000) × (lent.second ≤ 9000) × (lent.scratch ≤ 9000) }
 {
     if cases::replays(operation) {
         lending_wide(
+            output,
             operation,
             net,
             sheet,
@@ -245,9 +278,10 @@ fn one_sheet(operation: u32, shape: Shape, net: &[u32], sheet: &[u32], words: &[
             lent.out,
             lent.second,
             lent.scratch,
-        );
+        )
     } else {
         lending(
+            output,
             operation,
             shape,
             net,
@@ -256,12 +290,13 @@ fn one_sheet(operation: u32, shape: Shape, net: &[u32], sheet: &[u32], words: &[
             lent.out,
             lent.second,
             lent.scratch,
-        );
+        )
     }
 }
 
 // Makes a call on several sheets and prints its answer.
 fn several_call<'a>(
+    output: &mut Output,
     operation: u32,
     net: &'a [u32],
     number: u32,
@@ -272,24 +307,31 @@ fn several_call<'a>(
     out: &'a mut [u32],
     other: &'a mut [u32],
     scratch: &'a mut [u32],
-) {
+) -> io::Result<()> {
     match operation {
-        11 => print::compose_answer(compose::compose(
-            net,
-            number as usize,
-            first,
-            second,
-            third,
-            fourth,
-            out,
-            scratch,
-        )),
-        _ => print::compare_answer(compare::compare(net, first, second, out, other, scratch)),
+        11 => print::compose_answer(
+            output,
+            compose::compose(
+                net,
+                number as usize,
+                first,
+                second,
+                third,
+                fourth,
+                out,
+                scratch,
+            ),
+        ),
+        _ => print::compare_answer(
+            output,
+            compare::compare(net, first, second, out, other, scratch),
+        ),
     }
 }
 
 // Prints the line of a case with several sheets, given the buffers for its call.
 fn among_several<'a>(
+    output: &mut Output,
     operation: u32,
     shape: Shape,
     net: &'a [u32],
@@ -301,15 +343,16 @@ fn among_several<'a>(
     out: &'a mut [u32],
     other: &'a mut [u32],
     scratch: &'a mut [u32],
-) {
+) -> io::Result<()> {
     several_call(
-        operation, net, number, first, second, third, fourth, out, other, scratch,
-    );
-    left(shape, out, other, scratch);
+        output, operation, net, number, first, second, third, fourth, out, other, scratch,
+    )?;
+    left(output, shape, out, other, scratch)
 }
 
 // Prints the line of a case with several sheets.
 fn several<'a>(
+    output: &mut Output,
     operation: u32,
     shape: Shape,
     net: &'a [u32],
@@ -319,7 +362,7 @@ fn several<'a>(
     third: &'a [u32],
     fourth: &'a [u32],
     lent: Buffers,
-)
+) -> io::Result<()>
     requires { (lent.out ≤ 9000) × (lent.second ≤ 9000) × (lent.scratch ≤ 9000) }
 {
     let outs = lent.out;
@@ -329,6 +372,7 @@ fn several<'a>(
     let mut other = [9u32; 9000];
     let mut scratch = [7u32; 9000];
     among_several(
+        output,
         operation,
         shape,
         net,
@@ -340,11 +384,18 @@ fn several<'a>(
         &mut out[0..outs],
         &mut other[0..seconds],
         &mut scratch[0..scratches],
-    );
+    )
 }
 
 // Prints the line of a case, whose parts lie one after the other in `all`.
-pub(crate) fn line(operation: u32, shape: Shape, all: &[u32], marks: Marks, lent: Buffers)
+pub(crate) fn line(
+    output: &mut Output,
+    operation: u32,
+    shape: Shape,
+    all: &[u32],
+    marks: Marks,
+    lent: Buffers,
+) -> io::Result<()>
     requires net_le_numbers { (marks.net ≤ marks.numbers) × (marks.numbers ≤ marks.first) × (marks.first ≤ marks.second) × (marks.second ≤ marks.third)
         × (marks.third ≤ marks.fourth) × (marks.fourth ≤ marks.words) × (marks.words ≤ length all.now) }
     requires out_bound { (lent.out ≤ 9000) × (lent.second ≤ 9000) × (lent.scratch ≤ 9000) }
@@ -357,7 +408,8 @@ pub(crate) fn line(operation: u32, shape: Shape, all: &[u32], marks: Marks, lent
     let fourth = marks.fourth;
     let words = marks.words;
     if 1 < shape.sheets {
-        several(
+        return several(
+            output,
             operation,
             shape,
             &all[0..net],
@@ -368,14 +420,14 @@ pub(crate) fn line(operation: u32, shape: Shape, all: &[u32], marks: Marks, lent
             &all[third..fourth],
             lent,
         );
-        return;
     }
     one_sheet(
+        output,
         operation,
         shape,
         &all[0..net],
         &all[numbers..first],
         &all[fourth..words],
         lent,
-    );
+    )
 }

@@ -2,17 +2,20 @@
 ghost use Rattle.std.specs.Prelude.{◌≤◌, length};
 
 use super::input::Text;
+use super::print::Output;
 use super::{answers, input, print};
+use std::io;
+use std::io::Stdin;
 
 // The text after a case, and whether another may follow.
-#[derive(Drop)]
+#[derive(Clone, Copy)]
 struct Next {
     more: bool,
     rest: Text,
 }
 
 // What a case has besides its net: how many numbers and sheets, whether a list, how many further words; and how many output buffers its call has.
-#[derive(Drop)]
+#[derive(Clone, Copy)]
 pub(crate) struct Shape {
     pub numbers: u32,
     pub sheets: u32,
@@ -22,7 +25,7 @@ pub(crate) struct Shape {
 }
 
 // The parts of a case lie one after the other: the net, the numbers, the sheets, and a list or the further words. These are the indices where they end.
-#[derive(Drop)]
+#[derive(Clone, Copy)]
 pub(crate) struct Marks {
     pub net: usize,
     pub numbers: usize,
@@ -36,7 +39,7 @@ pub(crate) struct Marks {
 }
 
 // Where two parts end.
-#[derive(Drop)]
+#[derive(Clone, Copy)]
 struct Two {
     first: usize,
     second: usize,
@@ -45,14 +48,14 @@ struct Two {
 }
 
 // Where four sheets end.
-#[derive(Drop)]
+#[derive(Clone, Copy)]
 struct Four {
     front: Two,
     back: Two,
 }
 
 // The lengths of the buffers lent to a call.
-#[derive(Drop)]
+#[derive(Clone, Copy)]
 pub(crate) struct Buffers {
     pub out: usize,
     pub second: usize,
@@ -215,17 +218,23 @@ fn lent(shape: Shape, fits: bool, buffer: &mut [u8], from: Text) -> Buffers
 }
 
 // Answers a case, read from after its operation's number on. A case that is too long ends the program.
-fn answered(operation: u32, buffer: &mut [u8], from: Text, into: &mut [u32]) -> Next {
+fn answered(
+    output: &mut Output,
+    operation: u32,
+    buffer: &mut [u8],
+    from: Text,
+    into: &mut [u32],
+) -> io::Result<Next> {
     let shape = operation_shape(operation);
     let marks = lists(shape, buffer, from, into);
     let lent = lent(shape, marks.fits, buffer, marks.rest);
     let rest = lent.rest;
     if !lent.fits {
-        print::bytes(b"too long\n");
-        return Next { more: false, rest };
+        print::bytes(output, b"too long\n")?;
+        return Ok(Next { more: false, rest });
     }
-    answers::line(operation, shape, into, marks, lent);
-    Next { more: true, rest }
+    answers::line(output, operation, shape, into, marks, lent)?;
+    Ok(Next { more: true, rest })
 }
 
 // Whether a number stands for an operation.
@@ -238,31 +247,35 @@ fn stands(operation: u32) -> bool {
 }
 
 // Whether a number stands for no operation: 0 ends the cases, and so does the end of the input, which is read as 0.
-fn ends(operation: u32) -> bool {
+fn ends(output: &mut Output, operation: u32) -> io::Result<bool> {
     if operation == 0 {
-        return true;
+        return Ok(true);
     }
     if !stands(operation) {
-        print::bytes(b"no such call\n");
-        return true;
+        print::bytes(output, b"no such call\n")?;
+        return Ok(true);
     }
-    false
+    Ok(false)
 }
 
-// Plays all cases. The input may never end, so the turns are counted down to give the loop a bound.
-pub(crate) fn play(buffer: &mut [u8], into: &mut [u32]) {
-    let mut here = input::start();
-    let mut turns = u64::MAX;
-    while turns > 0 {
+// Plays all cases. The input may never end, so the turns are counted to give the loop a bound.
+pub(crate) fn play(
+    stdin: Stdin,
+    output: &mut Output,
+    buffer: &mut [u8],
+    into: &mut [u32],
+) -> io::Result<()> {
+    let mut here = input::start(stdin);
+    for _ in 0..u64::MAX {
         let operation = input::number(buffer, here);
-        if ends(operation.value) {
+        if ends(output, operation.value)? {
             break;
         }
-        let next = answered(operation.value, buffer, operation.rest, into);
+        let next = answered(output, operation.value, buffer, operation.rest, into)?;
         if !next.more {
             break;
         }
         here = next.rest;
-        turns -= 1;
     }
+    output.flush()
 }

@@ -1,11 +1,12 @@
 // Numbers from standard input: decimal, parted by anything that is no digit. `#` starts a comment that ends with the line.
 ghost use Rattle.std.specs.Prelude.{◌≤◌, length};
 
-use libc::STDIN_FILENO;
+use std::io::{Read, Stdin};
 
-// Where reading stands: the byte that is looked at, whether the input has ended, and the indices in the buffer of the next byte and of the end.
-#[derive(Drop)]
+// Where reading stands: what is read, the byte that is looked at, whether the input has ended, and the indices in the buffer of the next byte and of the end.
+#[derive(Clone, Copy)]
 pub(crate) struct Text {
+    pub stdin: Stdin,
     pub byte: u8,
     pub ended: bool,
     pub at: usize,
@@ -13,14 +14,14 @@ pub(crate) struct Text {
 }
 
 // A number and the text after it.
-#[derive(Drop)]
+#[derive(Clone, Copy)]
 pub(crate) struct Value {
     pub value: u32,
     pub rest: Text,
 }
 
 // The index where the words end that were read, whether there was room for them, and the text after them.
-#[derive(Drop)]
+#[derive(Clone, Copy)]
 pub(crate) struct Part {
     pub end: usize,
     pub fits: bool,
@@ -28,8 +29,9 @@ pub(crate) struct Part {
 }
 
 // Before the first byte.
-pub(crate) fn start() -> Text {
+pub(crate) fn start(stdin: Stdin) -> Text {
     Text {
+        stdin,
         byte: b' ',
         ended: false,
         at: 0,
@@ -37,13 +39,15 @@ pub(crate) fn start() -> Text {
     }
 }
 
-// The text from the next byte on; past the end that byte is 0.
+// The text from the next byte on; past the end, or where reading fails, that byte is 0.
 fn next(buffer: &mut [u8], from: Text) -> Text {
+    let mut stdin = from.stdin;
     let at = from.at;
     let end = from.end;
     if at < end {
         if at < buffer.len() {
             return Text {
+                stdin,
                 byte: buffer[at],
                 ended: false,
                 at: at + 1,
@@ -51,20 +55,21 @@ fn next(buffer: &mut [u8], from: Text) -> Text {
             };
         }
     }
-    let got = io::read_full(STDIN_FILENO, buffer);
-    if got == 0 {
-        return Text {
+    match stdin.read(buffer) {
+        Ok(got) if 0 < got => Text {
+            stdin,
+            byte: buffer[0],
+            ended: false,
+            at: 1,
+            end: got,
+        },
+        _ => Text {
+            stdin,
             byte: 0,
             ended: true,
             at: 0,
             end: 0,
-        };
-    }
-    Text {
-        byte: buffer[0],
-        ended: false,
-        at: 1,
-        end: got,
+        },
     }
 }
 
@@ -100,18 +105,16 @@ fn stops(here: Text, comment: bool) -> bool {
     is_digit(here.byte)
 }
 
-// The text from the next number on. The input may never end, so the turns are counted down to give the loop a bound.
+// The text from the next number on. The input may never end, so the turns are counted to give the loop a bound.
 fn skip(buffer: &mut [u8], from: Text) -> Text {
     let mut here = from;
     let mut comment = false;
-    let mut turns = u64::MAX;
-    while turns > 0 {
+    for _ in 0..u64::MAX {
         if stops(here, comment) {
             return here;
         }
         comment = in_comment(here.byte, comment);
         here = next(buffer, here);
-        turns -= 1;
     }
     here
 }
@@ -120,14 +123,12 @@ fn skip(buffer: &mut [u8], from: Text) -> Text {
 pub(crate) fn number(buffer: &mut [u8], from: Text) -> Value {
     let mut here = skip(buffer, from);
     let mut value: u32 = 0;
-    let mut turns = u64::MAX;
-    while turns > 0 {
+    for _ in 0..u64::MAX {
         if !is_digit(here.byte) {
             break;
         }
         value = longer(value, here.byte);
         here = next(buffer, here);
-        turns -= 1;
     }
     Value { value, rest: here }
 }
@@ -177,15 +178,13 @@ fn numbers(buffer: &mut [u8], from: Text, into: &mut [u32], at: usize, n: usize)
         };
     }
     let mut here = from;
-    let mut i = 0;
-    while i < n {
+    for word in &mut into[at..at + n] {
         let read = number(buffer, here);
-        into[at + i] = read.value;
+        *word = read.value;
         here = read.rest;
-        i += 1;
     }
     Part {
-        end: at + i,
+        end: at + n,
         fits: true,
         rest: here,
     }

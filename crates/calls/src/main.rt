@@ -17,13 +17,19 @@
 // that is lent; before the call scratch is all 7 and the other buffers are all 9.
 // A line ends with each output buffer's words up to the last that is not 9 and how many follow, and with how many words of scratch are 0,
 // how many are 7, and where the first 7 is. The words of a case and each buffer have a limit, past which the program ends: `too long`.
+#![tactic(auto)]
+
 mod answers;
 mod cases;
 mod input;
 mod print;
 
-fn main() {
-    let mut buffer = io::large_buffer();
+use self::print::Output;
+use std::io;
+
+fn main(rt: HostRuntime) -> io::Result<()> {
+    let mut buffer = [0u8; 65536];
     let mut words = [0u32; 40000];
-    cases::play(&mut buffer, &mut words);
+    let mut output = Output::new(rt.stdout());
+    cases::play(rt.stdin(), &mut output, &mut buffer, &mut words)
 }

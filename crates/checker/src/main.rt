@@ -1,9 +1,13 @@
 // The checker: reads net.bin and sheet.bin of the folder in which it runs (§12.1), prints the answer to them, and ends with status 0 (§12.8).
-ghost use Rattle.std.specs.Prelude.{◌≡◌, List, ℕ, take};
-ghost use Rattle.io.specs.Counts.{IsPrefixLen};
-ghost use Rattle.files.specs.Printed.{printed, Buffers, Reads};
+#![tactic(auto)]
 
-use libc::STDOUT_FILENO;
+ghost use Rattle.std.specs.Prelude.{◌≡◌, List, ℕ, take};
+ghost use Rattle.files.specs.Printed.{printed, Buffers, Reads};
+ghost use Rattle.checker.specs.Prefix.{IsPrefixLen};
+
+use std::io::Read;
+use std::rt::Files;
+use std::{fs, io};
 
 // Room for one word more of each file than the longest that can be accepted: §12.3.
 const NET_WORDS: usize = 4228;
@@ -19,17 +23,28 @@ const FORM_WORDS: usize = 8194;
 
 const TEXT_BYTES: usize = 91315;
 
-// Reads a file to the start of buf, as many bytes as buf holds, and answers how many; 0 for a file that cannot be opened or read (§12.2).
-fn read_file(path: &[u8], buf: &mut [u8]) -> usize
+// Reads until buf is full, the input ends or a read fails, and answers how many bytes it put at the start of buf.
+fn read_full(from: &mut impl Read, buf: &mut [u8]) -> usize
     ensures { IsPrefixLen result buf.new }
 {
-    let fd = os::open_read(path);
-    if fd < 0 {
-        return 0;
+    let mut done = 0;
+    while done < buf.len() {
+        match from.read(&mut buf[done..]) {
+            Ok(n) if n > 0 => done += n,
+            _ => break,
+        }
     }
-    let n = io::read_full(fd, buf);
-    libc::close(fd);
-    n
+    done
+}
+
+// Reads a file to the start of buf, as many bytes as buf holds, and answers how many; 0 for a file that cannot be opened or read (§12.2).
+fn read_file(rt: &impl Files, path: &str, buf: &mut [u8]) -> usize
+    ensures { IsPrefixLen result buf.new }
+{
+    match fs::open(rt, path) {
+        Ok(mut file) => read_full(&mut file, buf),
+        Err(_) => 0,
+    }
 }
 
 // Puts all that is printed for two files at the start of out. The files are the first n bytes of netbin and the first s bytes of sheetbin.
@@ -51,11 +66,11 @@ fn report(
     files::print_files(&netbin[..n], &sheetbin[..s], net, sheet, form, out)
 }
 
-fn main() {
+fn main(rt: HostRuntime) -> io::Result<()> {
     let mut netbin = [0u8; NET_BYTES];
     let mut sheetbin = [0u8; SHEET_BYTES];
-    let n = read_file(b"net.bin", &mut netbin);
-    let s = read_file(b"sheet.bin", &mut sheetbin);
+    let n = read_file(&rt, "net.bin", &mut netbin);
+    let s = read_file(&rt, "sheet.bin", &mut sheetbin);
     let mut net = [0u32; NET_WORDS];
     let mut sheet = [0u32; SHEET_WORDS];
     let mut form = [0u32; FORM_WORDS];
@@ -63,5 +78,5 @@ fn main() {
     let k = report(
         &netbin, n, &sheetbin, s, &mut net, &mut sheet, &mut form, &mut out,
     );
-    io::write_all(STDOUT_FILENO, &out[..k]);
+    rt.write_all(&out[..k])
 }

@@ -12,7 +12,7 @@ ghost use Rattle.choice.specs.Choices.{first_source, ChoicesOf, left_of, equal_a
 use refusal::Limits;
 
 // For each transition the least member of its choice set; and the least source, which stands for the choice set of the sources (§5.2).
-#[derive(Drop)]
+#[derive(Clone, Copy)]
 pub(crate) struct Choices {
     pub(crate) leaders: [u32; 32],
     pub(crate) source: u32,

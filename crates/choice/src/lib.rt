@@ -1,4 +1,6 @@
 // What the nodes of a schedule offer: refusals 11 to 13, and the await nodes. Only arcs are looked at, not counts.
+#![tactic(auto)]
+
 mod choice_sets;
 mod offers;
 mod walk;
@@ -15,7 +17,7 @@ use offers::Offer;
 use refusal::{Limits, Position, Refusal, Verdict};
 
 // `awaits` has 1 at each await node (§5.4); it is all 0 if the verdict is a refusal.
-#[derive(Drop)]
+#[derive(Clone, Copy)]
 pub struct NodesAnswer {
     pub verdict: Verdict,
     pub awaits: [u8; 128],

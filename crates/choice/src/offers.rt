@@ -8,7 +8,7 @@ ghost use Rattle.choice.specs.Choices.{present_as_choice, offer_of};
 use refusal::Limits;
 
 // No transition; one whole choice set (§5.3), with its least transition; or anything else.
-#[derive(Drop)]
+#[derive(Clone, Copy)]
 pub(crate) enum Offer {
     Nothing,
     Whole(u32),

@@ -12,7 +12,7 @@ ghost use Rattle.choice.specs.Passing.{Walked};
 use refusal::Limits;
 
 // How many nodes the walk has passed, and marks at the await nodes among them.
-#[derive(Drop)]
+#[derive(Clone, Copy)]
 pub(crate) struct Walk {
     pub(crate) nodes: usize,
     pub(crate) awaits: [u8; 128],

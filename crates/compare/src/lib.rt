@@ -1,4 +1,6 @@
 // The call that compares two schedules of a net (§10.50): their minimal forms are written, each to a buffer of its own, and then compared word by word.
+#![tactic(auto)]
+
 ghost use Rattle.std.specs.Prelude.{◌≡◌, ◌≤◌, length};
 ghost use Rattle.scan.specs.Scan.{bit};
 ghost use Rattle.compare.specs.Compare.{plain_compare, sheet_index, of_schedule, refused_by, same_fronts, CompareWritten};
@@ -9,7 +11,7 @@ use minimize::FormsAnswer;
 use refusal::{Limits, Refusal, Verdict};
 
 // What a comparison tells: the lengths in words of both minimal forms, and whether the forms are equal.
-#[derive(Drop)]
+#[derive(Clone, Copy)]
 pub struct Comparison {
     pub first: usize,
     pub second: usize,
@@ -17,13 +19,13 @@ pub struct Comparison {
 }
 
 // A refusal, and the index of the schedule that it is about.
-#[derive(Drop)]
+#[derive(Clone, Copy)]
 pub struct Fault {
     pub refusal: Refusal,
     pub sheet: Index,
 }
 
-#[derive(Drop)]
+#[derive(Clone, Copy)]
 pub enum CompareAnswer {
     Compared(Comparison),
     Refused(Fault),

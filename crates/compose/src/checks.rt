@@ -29,7 +29,7 @@ pub(crate) fn wrong_number(number: usize, sources: usize) -> bool
 }
 
 // The verdict on all schedules, and the index of the first that is refused, 0 if none is.
-#[derive(Drop)]
+#[derive(Clone, Copy)]
 pub(crate) struct SheetsAnswer {
     pub(crate) verdict: Verdict,
     pub(crate) sheet: u32,

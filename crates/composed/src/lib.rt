@@ -1,4 +1,6 @@
 // One schedule for each source, composed (request #108): what composing answers. The code that does it is the crate `compose`.
+#![tactic(auto)]
+
 ghost use Rattle.std.specs.Prelude.{◌≡◌};
 ghost use Rattle.composed.specs.Call.{plain_compose, sheet_index};
 
@@ -6,7 +8,7 @@ use lending::Index;
 use refusal::Refusal;
 
 // The limit and the refusals of composition, each with its clause and the trade's word for it.
-#[derive(Drop)]
+#[derive(Clone, Copy)]
 pub struct Composition {}
 
 impl Composition {
@@ -20,7 +22,7 @@ impl Composition {
 }
 
 // What composing answers: the length in words of what it wrote, or a refusal and the index of the schedule that is refused.
-#[derive(Drop)]
+#[derive(Clone, Copy)]
 pub enum ComposeAnswer {
     Written(usize),
     Refused(Refusal, Index),

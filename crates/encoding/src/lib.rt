@@ -1,4 +1,6 @@
 // The words of a graph (§11.6), written row by row: in each section of the words, the entries of one node after the other are appended to a lent buffer.
+#![tactic(auto)]
+
 ghost use Rattle.std.specs.Prelude.{◌≡◌, [], ◌∷◌, ◌+◌, ◌<◌};
 ghost use Rattle.scan.specs.Scan.{count};
 ghost use Rattle.encoding.specs.Rows.{word_of, filled_at, row_words, Appended};
@@ -6,7 +8,7 @@ ghost use Rattle.encoding.specs.Kept.{arc_cell, arc_cells};
 
 // The sections of the words after V and K, in their order: the keys of arcs, the keys of counts, the targets of arcs, the counts.
 // `Numbers` is for words that may be 0, so that a cell holds 1 more than the word: the targets of arcs, and the new counts of a list of changes.
-#[derive(Drop)]
+#[derive(Clone, Copy)]
 pub enum Section {
     ArcKeys,
     CountKeys,
@@ -16,7 +18,7 @@ pub enum Section {
 
 // The entries of a node: its arcs, its counts, or the changes of its counts. `first` is the key of the first column. A cell is 0 if the column has no
 // entry; else it is 1 plus the target of the arc, or the count, or 1 plus the new count. No key of a schedule is above 8,191, so `first` is a u16.
-#[derive(Drop)]
+#[derive(Clone, Copy)]
 pub struct Row {
     pub first: u16,
     pub cells: [u32; 32],

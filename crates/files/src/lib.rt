@@ -1,4 +1,6 @@
 // The program's two files: their bytes as words, the answer to both, and all that is printed.
+#![tactic(auto)]
+
 ghost use Rattle.std.specs.Prelude.{◌≡◌};
 ghost use Rattle.refusal.specs.declared.Verdict.TheVariants.{Accepted};
 ghost use Rattle.sequential.specs.Check.{schedule_reply};
@@ -12,14 +14,14 @@ use minimal::FormAnswer;
 use refusal::{Position, Refusal, Verdict};
 
 // Which of the two files had a tail.
-#[derive(Drop)]
+#[derive(Clone, Copy)]
 pub struct Tails {
     pub net: bool,
     pub sheet: bool,
 }
 
 // The answer to two files, and how many words of each were handed on.
-#[derive(Drop)]
+#[derive(Clone, Copy)]
 pub struct FilesAnswer {
     pub answer: CheckAnswer,
     pub net: usize,

@@ -17,7 +17,7 @@ const BROKEN_WORD: u32 = 31; // §7.31, broken word
 pub(crate) const FIRING_REFUSED: u32 = 2147483648;
 
 // An answer as six plain numbers. `number` is the first of them as 32 bits, which the call returns.
-#[derive(Drop)]
+#[derive(Clone, Copy)]
 pub(crate) struct Six {
     pub number: u32,
     pub plain: [u64; 6],

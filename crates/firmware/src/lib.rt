@@ -3,6 +3,10 @@
 //
 // The first three do the same steps. If the reply is too short, they return 21 and touch nothing. Else the answer is 21, 31, or what the word call answers
 // to the decoded words; then scratch is cleared, the reply written, and the number of the answer returned.
+//
+// `firmware_c` exports these calls under these names.
+#![tactic(auto)]
+
 mod decoded;
 mod lent;
 mod words;
@@ -51,13 +55,7 @@ fn check_six(net: &[u8], sheet: &[u8], lent: usize) -> Six
 }
 
 // Its own numbers: nodes, arcs, await nodes.
-#[unsafe(no_mangle)]
-pub extern "C" fn wulthrein_check(
-    net: &[u8],
-    sheet: &[u8],
-    scratch: &mut [u8],
-    reply: &mut [u8],
-) -> u32
+pub fn wulthrein_check(net: &[u8], sheet: &[u8], scratch: &mut [u8], reply: &mut [u8]) -> u32
     ensures { BytesChecked net.now sheet.now scratch.old reply.old result scratch.new reply.new }
 {
     if reply.len() < REPLY_BYTES {
@@ -93,8 +91,7 @@ fn run_six(net: &[u8], sheet: &[u8], firings: &[u8], out: &mut [u8], lent: usize
 }
 
 // Its own numbers: firings, the node at the end, 1 more than the last entry; writes the counts at the end.
-#[unsafe(no_mangle)]
-pub extern "C" fn wulthrein_run(
+pub fn wulthrein_run(
     net: &[u8],
     sheet: &[u8],
     firings: &[u8],
@@ -137,8 +134,7 @@ fn form_six(net: &[u8], sheet: &[u8], out: &mut [u8], lent: usize) -> Six
 }
 
 // Its own number: the length of the form in words; it writes that many.
-#[unsafe(no_mangle)]
-pub extern "C" fn wulthrein_short_form(
+pub fn wulthrein_short_form(
     net: &[u8],
     sheet: &[u8],
     out: &mut [u8],
@@ -168,8 +164,7 @@ fn fire_number(net: &[u8], sheet: &[u8], node: u32, t: u32, lent: usize) -> u32
 }
 
 // Returns the next node, or 2,147,483,648 plus the number of the refusal.
-#[unsafe(no_mangle)]
-pub extern "C" fn wulthrein_fire(
+pub fn wulthrein_fire(
     net: &[u8],
     sheet: &[u8],
     node: u32,

@@ -21,7 +21,7 @@ const FORM_WORDS: usize = 8194;
 
 // ---- the run
 
-#[derive(Drop)]
+#[derive(Clone, Copy)]
 struct Followed {
     verdict: Verdict,
     node: u32,

@@ -1,5 +1,7 @@
 // What every call asks of the buffers that it is lent: enough scratch, before all other checks, and room for its result, after all others (§7.54).
 // Also `Index`, a number of a call's own that can be missing.
+#![tactic(auto)]
+
 ghost use Rattle.std.specs.Prelude.{◌≡◌};
 ghost use Rattle.lending.specs.Call.{scratch_fault, room_fault};
 ghost use Rattle.lending.specs.Index.{plain_index};
@@ -27,7 +29,7 @@ pub fn output_fault(lent: usize, needed: usize) -> Verdict
 }
 
 // An index that an answer tells, or says to be missing: §8.4.
-#[derive(Drop)]
+#[derive(Clone, Copy)]
 pub enum Index {
     Known(u32),
     Missing,

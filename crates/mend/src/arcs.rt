@@ -4,7 +4,7 @@ ghost use Rattle.graph.specs.Readable.{ArcsReadable};
 ghost use Rattle.mend.specs.Search.{IsArc};
 ghost use Rattle.mend.specs.Places.{ArcRead};
 
-#[derive(Drop)]
+#[derive(Clone, Copy)]
 pub(crate) struct Arc {
     pub node: usize,
     pub transition: usize,

@@ -1,4 +1,6 @@
 // The call that mends a schedule (§10.14): it computes the counts anew by firing from the root, and lists those that change.
+#![tactic(auto)]
+
 mod arcs;
 mod measure;
 mod places;

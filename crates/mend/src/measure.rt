@@ -8,7 +8,7 @@ use super::writer::Part;
 use super::{places, search, writer};
 use refusal::{Limits, Position, Refusal, Verdict};
 
-#[derive(Drop)]
+#[derive(Clone, Copy)]
 pub(crate) struct Measure {
     pub verdict: Verdict,
     pub parent: [u16; 128],

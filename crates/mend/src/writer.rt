@@ -15,7 +15,7 @@ use super::rows;
 use encoding::{Row, Section};
 
 // Which counts of the nodes are written: all above 0, or only those that change.
-#[derive(Drop)]
+#[derive(Clone, Copy)]
 pub(crate) enum Part {
     Counts,
     Changes,
@@ -86,6 +86,7 @@ fn part_row(net: &[u32], sheet: &[u32], part: Part, n: u32, counts: [u32; 32]) -
 }
 
 // How many entries a part has.
+#[inline(never)]
 pub(crate) fn counted(net: &[u32], sheet: &[u32], parent: [u16; 128], part: Part) -> usize
     requires { Mendable net.now sheet.now parent }
     ensures { result ≡ length (part_of net.now sheet.now part Section.CountKeys) }
@@ -156,6 +157,7 @@ fn write_half(
 }
 
 // Writes the mended schedule: the arcs as they are given, and the counts that they force.
+#[inline(never)]
 pub(crate) fn write_sheet(
     net: &[u32],
     sheet: &[u32],
@@ -175,6 +177,7 @@ pub(crate) fn write_sheet(
 }
 
 // Writes the list of changes.
+#[inline(never)]
 pub(crate) fn write_list(
     net: &[u32],
     sheet: &[u32],

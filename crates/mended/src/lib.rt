@@ -1,18 +1,20 @@
 // Schedules with right arcs and stale counts (request #104): what mending one answers. The code that does it is the crate `mend`.
+#![tactic(auto)]
+
 ghost use Rattle.std.specs.Prelude.{◌≡◌};
 ghost use Rattle.mended.specs.Call.{plain_mend};
 
 use refusal::Refusal;
 
 // The lengths in words of the mended schedule and of the list of changes.
-#[derive(Drop)]
+#[derive(Clone, Copy)]
 pub struct Lengths {
     pub sheet: usize,
     pub list: usize,
 }
 
 // What mending answers: the lengths of what it wrote, or a refusal.
-#[derive(Drop)]
+#[derive(Clone, Copy)]
 pub enum MendAnswer {
     Written(Lengths),
     Refused(Refusal),

@@ -1,11 +1,13 @@
 // The minimal form of a schedule: §10.9.
+#![tactic(auto)]
+
 ghost use Rattle.std.specs.Prelude.{◌≡◌};
 ghost use Rattle.minimal.specs.Form.{plain_form};
 
 use refusal::Refusal;
 
 // What the minimal form's call answers: the length in words of what it wrote, or a refusal.
-#[derive(Drop)]
+#[derive(Clone, Copy)]
 pub enum FormAnswer {
     Written(usize),
     Refused(Refusal),

@@ -9,7 +9,7 @@ use super::{FormLengths, FormsAnswer, classes, numbering, writer};
 use refusal::Verdict;
 
 // The nodes of a form, and how many entries it has.
-#[derive(Drop)]
+#[derive(Clone, Copy)]
 pub(crate) struct Measure {
     pub new: Numbers,
     pub entries: usize,

@@ -1,4 +1,6 @@
 // The call that writes the minimal form of a schedule.
+#![tactic(auto)]
+
 mod both;
 mod classes;
 mod numbering;
@@ -15,14 +17,14 @@ use refusal::{Refusal, Verdict};
 use schedule::Walker;
 
 // The lengths in words of two forms.
-#[derive(Drop)]
+#[derive(Clone, Copy)]
 pub struct FormLengths {
     pub first: usize,
     pub second: usize,
 }
 
 // The answer for two forms: the lengths of what was written, or a refusal.
-#[derive(Drop)]
+#[derive(Clone, Copy)]
 pub enum FormsAnswer {
     Written(FormLengths),
     Refused(Refusal),

@@ -1,4 +1,6 @@
 // Bytes as words and numbers, the least significant byte first. The program's files and the calls over bytes are read so; the calls' results are written so.
+#![tactic(auto)]
+
 ghost use Rattle.std.specs.Prelude.{◌≡◌, ◌+◌, ◌<◌, min, length, get_or, set};
 ghost use Rattle.scan.specs.Placed.{placed};
 ghost use Rattle.octets.specs.Words.{word_from, word_count, is_ragged, all_words, FileRead};
@@ -8,7 +10,7 @@ ghost use Rattle.octets.specs.Writing.{word_put};
 // ---- bytes as words
 
 // How many words of a file are handed on (§12.3), and whether a tail was found (§12.4).
-#[derive(Drop)]
+#[derive(Clone, Copy)]
 pub struct Reading {
     pub words: usize,
     pub ragged: bool,

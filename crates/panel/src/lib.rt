@@ -1,4 +1,6 @@
 // The calls for the small panel (§10.20): the other calls, with 1,024 words of scratch. tests/locals holds them to §10.21.
+#![tactic(auto)]
+
 ghost use Rattle.panel.specs.Calls.{PanelCheckDone, PanelBoundsDone, PanelFireDone, PanelRunDone, PanelFormDone, PanelReplayDone, PanelMendDone};
 
 use judge::CheckAnswer;
@@ -8,7 +10,7 @@ use refusal::Verdict;
 use replay::ReplayAnswer;
 use schedule::{Fired, RunAnswer, Walker};
 
-#[derive(Drop)]
+#[derive(Clone, Copy)]
 pub struct Panel {}
 
 impl Panel {

@@ -1,5 +1,7 @@
 // The slow engine, made to be read (§10.40, request #111). It answers what the fast one answers. It spreads net and schedule into tables and a grid,
 // then reads the words no more and asks one clause after the other. docs/CHEMIST.md walks through it by hand.
+#![tactic(auto)]
+
 mod arcs;
 mod choices;
 mod clauses;
@@ -18,7 +20,7 @@ use refusal::{Limits, Verdict};
 
 // What is spread of a net, and how many nodes the schedule has: §10.41. Row t of `taken` and of `change` begins at t × 32; `change` is put − taken,
 // the incidence matrix of source document 000. A capacity of 0 is none. The grid has a row of 64 for each node: 32 cells of arcs, then 32 counts.
-#[derive(Drop)]
+#[derive(Clone, Copy)]
 pub struct Spread {
     pub places: usize,
     pub transitions: usize,
@@ -30,7 +32,7 @@ pub struct Spread {
 }
 
 // A cell of the grid that is for an arc: its row, its column, what it holds (0 for no arc, else 1 more than the target), and how many arcs come before it.
-#[derive(Drop)]
+#[derive(Clone, Copy)]
 pub struct Cell {
     pub node: usize,
     pub transition: usize,

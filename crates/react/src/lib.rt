@@ -1,4 +1,6 @@
 // The call that reports reaction times (§10.46): the checks, the best and the worst time of every node, and the report.
+#![tactic(auto)]
+
 mod backs;
 mod clean;
 mod durations;

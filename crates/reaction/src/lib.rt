@@ -1,11 +1,13 @@
 // Reaction times (§10.46, request #112): what reporting them answers. The code that works them out is the crate `react`.
+#![tactic(auto)]
+
 ghost use Rattle.std.specs.Prelude.{◌≡◌};
 ghost use Rattle.reaction.specs.Call.{plain_reaction};
 
 use refusal::Refusal;
 
 // The length in words of the report, or a refusal.
-#[derive(Drop)]
+#[derive(Clone, Copy)]
 pub enum ReactionAnswer {
     Written(usize),
     Refused(Refusal),

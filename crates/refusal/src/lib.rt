@@ -1,9 +1,11 @@
 // Refusals (§7.51), each with a number and a position; what a check answers; and both as plain numbers.
+#![tactic(auto)]
+
 ghost use Rattle.std.specs.Prelude.{◌≡◌};
 ghost use Rattle.refusal.specs.Refusal.{refusal, number_of, position_of, kind_of, index_of, plain_refusal, plain_verdict};
 
 // What a refusal's position counts, from 0: §7.52, and §7.53 for which number counts what.
-#[derive(Drop)]
+#[derive(Clone, Copy)]
 pub enum Position {
     Nothing,
     Entry(usize),
@@ -41,7 +43,7 @@ impl Position {
 }
 
 // The limits: of P, T, V and K of a schedule, of a log's firings, of weights and counts, and the words of scratch that a call asks for.
-#[derive(Drop)]
+#[derive(Clone, Copy)]
 pub struct Limits {}
 
 impl Limits {
@@ -61,7 +63,7 @@ impl Limits {
 }
 
 // A refusal. Its position is an enum of the kinds, each with its index: §13.8.
-#[derive(Drop)]
+#[derive(Clone, Copy)]
 pub struct Refusal {
     pub number: u32,
     pub at: Position,
@@ -140,7 +142,7 @@ impl Refusal {
 }
 
 // What a check without numbers of its own answers.
-#[derive(Drop)]
+#[derive(Clone, Copy)]
 pub enum Verdict {
     Accepted,
     Refused(Refusal),

@@ -10,7 +10,7 @@ use refusal::{Position, Refusal, Verdict};
 use table::Found;
 
 // The verdict, and the entry of the last arc if it is accepted.
-#[derive(Drop)]
+#[derive(Clone, Copy)]
 pub(crate) struct Findings {
     pub verdict: Verdict,
     pub entry: Index,

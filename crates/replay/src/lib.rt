@@ -1,4 +1,6 @@
 // The replay of a log of firings (§10.10, §10.11): each firing is followed along the arcs, and what they take and put is added up by place.
+#![tactic(auto)]
+
 mod follow;
 mod look_up;
 mod tally;
@@ -14,20 +16,20 @@ use lending::Index;
 use refusal::{Limits, Position, Refusal, Verdict};
 
 // What the firings of a log take and put over all places: §10.11.
-#[derive(Drop)]
+#[derive(Clone, Copy)]
 pub struct Totals {
     pub taken: u64,
     pub put: u64,
 }
 
 // The totals, and the entry of the last arc: §10.13.
-#[derive(Drop)]
+#[derive(Clone, Copy)]
 pub struct Outcome {
     pub totals: Totals,
     pub entry: Index,
 }
 
-#[derive(Drop)]
+#[derive(Clone, Copy)]
 pub enum ReplayAnswer {
     Done(Outcome),
     Stopped(Refusal),

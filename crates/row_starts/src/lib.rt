@@ -1,4 +1,6 @@
 // Where the keys of a node's arcs begin, as the manual prints it (request #105).
+#![tactic(auto)]
+
 ghost use Rattle.std.specs.Prelude.{◌≡◌, [], get_or, ◌-◌, ◌≤◌, ◌<◌};
 ghost use Rattle.row_starts.specs.Page.{lines};
 ghost use Rattle.row_starts.specs.RowStarts.{row_start};
@@ -643,6 +645,7 @@ const LINE_127: [u16; 32] = [
     2286, 2413, 2540, 2667, 2794, 2921, 3048, 3175, 3302, 3429, 3556, 3683, 3810, 3937, 4064,
 ];
 
+#[tactic(auto, unfolding(crate::specs::Page::lines))]
 fn line(n: u32) -> [u16; 32]
     requires { n < 128 }
     ensures { result ≡ get_or lines n [] }

@@ -1,4 +1,6 @@
 // The code that goes with the vocabulary of scans: clearing the front of a buffer, and writing over it.
+#![tactic(auto)]
+
 ghost use Rattle.std.specs.Prelude.{◌≡◌, take};
 ghost use Rattle.scan.specs.Front.{cleared};
 ghost use Rattle.scan.specs.Placed.{placed};

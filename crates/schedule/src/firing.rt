@@ -67,7 +67,7 @@ pub(crate) fn step(walker: Walker, net: &[u32], sheet: &[u32], t: u32) -> Fired
 }
 
 // Where a list of transitions leads from node 0: the node at the end and the entry of the last arc, or the first firing that is not offered: §7.58.
-#[derive(Drop)]
+#[derive(Clone, Copy)]
 pub(crate) struct Followed {
     pub verdict: Verdict,
     pub node: u32,

@@ -1,5 +1,7 @@
 // Keyed words (§2.1, §3.1): from an offset on, one key for each entry, and after all keys one value for each. The test of a key, the look-up of
 // one key by bisection, and the look-up of a run of keys by one walk over its entries.
+#![tactic(auto)]
+
 ghost use Rattle.std.specs.Prelude.{◌≡◌, ◌+◌, ◌<◌, length};
 ghost use Rattle.table.specs.Table.{key_at};
 ghost use Rattle.table.specs.Keys.{key_fails};
@@ -7,7 +9,7 @@ ghost use Rattle.table.specs.Bisection.{lower_bound, look_up};
 ghost use Rattle.table.specs.Row.{run_place, entry_row, value_row};
 
 // The entry that has a key, or that there is none.
-#[derive(Drop)]
+#[derive(Clone, Copy)]
 pub enum Found {
     At(usize),
     Nothing,

@@ -1,5 +1,7 @@
 // Numbers as decimal text, and the lines that the programs print, put into a lent buffer. Every function puts its text at an index and answers the
 // index after it. Bytes for which the buffer has no room are dropped.
+#![tactic(auto)]
+
 mod buffer;
 
 ghost use Rattle.std.specs.Prelude.{◌++◌};

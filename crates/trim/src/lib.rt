@@ -1,4 +1,6 @@
 // The call that trims a schedule (§10.35): nodes that the root does not reach are dropped, and the kept ones are numbered anew without gaps.
+#![tactic(auto)]
+
 mod numbers;
 mod writer;
 

@@ -5,7 +5,7 @@ ghost use Rattle.reach.specs.Reach.{is_marked};
 ghost use Rattle.trim.specs.Tables.{Numbered, NewNodes};
 
 // For each node 1 plus its new number, 0 for one that is dropped; and how many are kept.
-#[derive(Drop)]
+#[derive(Clone, Copy)]
 pub(crate) struct Numbers {
     pub cells: [u8; 128],
     pub found: usize,

@@ -1,18 +1,20 @@
 // Schedules with nodes that the root does not reach (request #109): what trimming one answers (§10.35). The code that does it is the crate `trim`.
+#![tactic(auto)]
+
 ghost use Rattle.std.specs.Prelude.{◌≡◌};
 ghost use Rattle.trimmed.specs.Call.{plain_trim};
 
 use refusal::Refusal;
 
 // The lengths in words of the trimmed schedule and of the list of old numbers.
-#[derive(Drop)]
+#[derive(Clone, Copy)]
 pub struct Lengths {
     pub sheet: usize,
     pub list: usize,
 }
 
 // What trimming answers: the lengths of what it wrote, or a refusal.
-#[derive(Drop)]
+#[derive(Clone, Copy)]
 pub enum TrimAnswer {
     Written(Lengths),
     Refused(Refusal),
