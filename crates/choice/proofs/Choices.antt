@@ -49,7 +49,8 @@ module _ (net : List ℕ) (places : ℕ) (all_of : places ≡ min (place_count n
   unfolding net_by_rows weighs_at
   none_first f t l h p k =
       let q = f.first t l in
-      let low : get_or (taken_row_reply net t) p 0 ≤ 0 = ltb-false 0 (get_or (taken_row_reply net t) p 0) (least-low (weighs_at (taken_row_reply net t)) (min (place_count net) 32) p (omega (arith, q))) in
+      let low : get_or (taken_row_reply net t) p 0 ≤ 0 = ltb-false 0 (get_or (taken_row_reply net t) p 0) (least-low (weighs_at (taken_row_reply net t)) (min (place_count net) 32) p
+      (omega (arith, q))) in
       omega arith
 
   pub source_first : {firsts : List ℕ} → FirstPlaces net firsts → (t : ℕ) → t < (net_by_rows net).transitions → places ≤ get_or firsts t 0 → is_source (net_by_rows net) t ≡ true

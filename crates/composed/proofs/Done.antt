@@ -42,7 +42,8 @@ module _ (net : List ℕ) (number : ℕ) (sheet : ℕ → List ℕ) where
   sheets-proper zero = refl
   sheets-proper (suc n) = proper-append (each_sheet (petri_net net) number sheet n) (sheet_checks (net_of (petri_net net) n) (sheet n)) (sheets-proper n) refl
 
-  pub compose-law : Lawful (compose_core net number sheet) plain_compose (length (composed_sheet (petri_net net) number sheet) ∷ 0 ∷ 0 ∷ []) (net_checks net ++ compose_checks (petri_net net) number sheet)
+  pub compose-law : Lawful (compose_core net number sheet) plain_compose (length (composed_sheet (petri_net net) number sheet) ∷ 0 ∷ 0 ∷ []) (net_checks net ++ compose_checks
+      (petri_net net) number sheet)
   compose-law = record {
     judged = compose-judged;
     proper = proper-append (net_checks net) (compose_checks (petri_net net) number sheet) refl

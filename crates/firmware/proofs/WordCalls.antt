@@ -41,8 +41,12 @@ module _ {Answer : Type 0} {core : Core Answer} {six : Answer → List ℕ} {own
   -- ---- as the word call
 
   pub as-words : AsWords over_words core six (Whole net sheet firings)
-  as-words out s p out' s' p' scratch scratch' outs' r answer w ls lp lw d c =
-      ((d.enough lp).returned ∙ ap (λ (a : Answer). number (six a)) same, (d.enough lp).replied ∙ ap (λ (a : Answer). bytes_over 8 (six a) p) same, written (words_verdict core (all_words out ∷ [])) refl)
+  as-words out s p out' s' p' scratch scratch' outs' r answer w ls lp lw d c = (
+    (d.enough lp).returned ∙ ap (λ (a : Answer). number (six a)) same,
+    (d.enough lp).replied ∙ ap (λ (a : Answer). bytes_over 8 (six a) p) same,
+    written (words_verdict core
+        (all_words out ∷ [])) refl,
+  )
     where
       enough : call_verdict scratch_limit core (all_words out ∷ []) (length scratch) ≡ words_verdict core (all_words out ∷ [])
       enough = call-enough core (all_words out ∷ []) scratch_limit (length scratch) lw

@@ -52,7 +52,8 @@ module _ (net sheet out list : List ℕ) {v : Verdict} {parent : List ℕ} {entr
   pub list-short : {w : Verdict} {r : Refusal} → w ≡ room_fault (length list) (1 + 2 * changes) → w ≡ verdict.Refused r → MendWritten net sheet out list (Refused r) out list
   list-short h k = refused-second refl accepted (rw list-long (sym h ∙ k)) refl
 
-  pub both-written : {w x : Verdict} {out' list' : List ℕ} → w ≡ room_fault (length out) (2 + 2 * entries) → w ≡ verdict.Accepted → x ≡ room_fault (length list) (1 + 2 * changes) → x ≡ verdict.Accepted
+  pub both-written : {w x : Verdict} {out' list' : List ℕ} → w ≡ room_fault (length out) (2 + 2 * entries) → w ≡ verdict.Accepted → x ≡ room_fault (length list) (1 + 2 * changes)
+      → x ≡ verdict.Accepted
       → out' ≡ placed out 0 (mended_words net sheet) → list' ≡ placed list 0 (changeWords net sheet)
       → MendWritten net sheet out list (Written (record { sheet = 2 + 2 * entries; list = 1 + 2 * changes })) out' list'
   both-written h k i j o l =

@@ -112,7 +112,8 @@ module _ {net sheet numbers : List ℕ} {found' n i : ℕ} (h : NewRow net sheet
     old = row_key net sheet (of_counts section) n
 
     pub row_words_lem : gather (cell_of N M section i) (width_of N M section)
-        ≡ gather (word_at (entry_word sheet numbers section (row_key net sheet (of_counts section) n) (new_key net found' (of_counts section) i)) (run_from sheet (row_key net sheet (of_counts section) n)))
+        ≡ gather (word_at (entry_word sheet numbers section (row_key net sheet (of_counts section) n) (new_key net found' (of_counts section) i)) (run_from sheet (row_key net sheet
+        (of_counts section) n)))
         (row_size net sheet (of_counts section) n)
     unfolding row_size
     row_words_lem = rw (width_is section) (run-words rises whole (cell_of N M section i) _ old (row_width net (of_counts section)) (cell section))

@@ -167,7 +167,8 @@ pub whole-reply : (net sheet : List ℕ) → task_reply net 32 sheet ≡ schedul
 unfolding task_reply schedule_reply
 whole-reply net sheet = go (net_reply net) refl
   where
-    go : (v : Verdict) → net_reply net ≡ v → and_then (net_reply net) (verdict_of (schedule_fault (only (petri_net net) 32) sheet)) ≡ and_then (net_reply net) (verdict_of (schedule_fault (petri_net net) sheet))
+    go : (v : Verdict) → net_reply net ≡ v → and_then (net_reply net) (verdict_of (schedule_fault (only (petri_net net) 32) sheet)) ≡ and_then (net_reply net) (verdict_of
+        (schedule_fault (petri_net net) sheet))
     go Accepted h =
         let few = (sizes net h).few_transitions in
         ap (λ (N : PetriNet). and_then (net_reply net) (verdict_of (schedule_fault N sheet)))

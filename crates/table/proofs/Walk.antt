@@ -101,7 +101,12 @@ module _ (words : List ℕ) (offset entries first width : ℕ) where
     walk_at zero i p row m w = inl refl
     walk_at (suc left) i p row m w = by_test (ltb (place i) 32)
         (λ h. let l : place i < 32 = ltb-true _ _ h in rw h (⊎_elim (λ e. elim (ℕ_discrete p (place i)) [
-          | yes q ↦ inr (i, place-some i p (omega arith) q (omega arith), e ∙ rw q (get_or-set_same row (place i) (told i) 0 (omega arith)))
+          | yes q ↦ inr (
+            i,
+            place-some i p (omega arith) q (omega arith),
+            let same : get_or (set row (place i) (told i)) p 0 ≡ told i = rw q (get_or-set_same row (place i) (told i) 0
+                (omega arith)) in e ∙ same,
+          )
           | no q ↦ inl (e ∙ get_or-set_other row (place i) p (told i) 0 q)
         ]) (λ s. inr s) (walk_at left (i + 1) p (set row (place i) (told i)) (omega arith) (length-set row (place i) (told i) ∙ w))))
         (λ h. rw h (inl refl))

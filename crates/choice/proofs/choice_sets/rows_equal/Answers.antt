@@ -1,0 +1,19 @@
+use Rattle.scan.proofs.Basics.{arith, ◌≡◌, sym}
+use Rattle.scan.proofs.Tests.{eq-eqb, ne_eqb}
+use Rattle.scan.proofs.Every.{all_in, all_more, all-fails}
+use Rattle.choice.specs.Choices.{equal_at}
+use Rattle.choice.proofs.choice_sets.rows_equal.Goals as goal
+
+pub loop-p-init : goal.loop-p-init
+loop-p-init c = (omega arith, all_in _ _ (λ j l. absurd (omega arith)))
+
+pub returns-then-a-p : goal.returns-then-a-p
+unfolding equal_at
+returns-then-a-p c = sym (all-fails _ _ _ c.loop-p-test.true (ne_eqb _ _ c.if-a-p.true))
+
+pub loop-p-preserved : goal.loop-p-preserved
+unfolding equal_at
+loop-p-preserved c = (omega arith, all_more _ _ c.loop-p.invariant.1 (eq-eqb _ _ c.if-a-p.false))
+
+pub returns : goal.returns
+returns c = let e : c.loop-p.p ≡ c.args.places = omega arith in sym (rw e at c.loop-p.invariant.1)

@@ -1,0 +1,10 @@
+-- `firmware::wulthrein_run` meets its contract.
+use Rattle.scan.proofs.Basics.{rules}
+use Rattle.firmware.proofs.Early.{done-small, done-enough}
+use Rattle.firmware.proofs.wulthrein_run.Goals as goal
+
+pub returns-then-reply-lt-REPLY_BYTES : goal.returns-then-reply-lt-REPLY_BYTES
+returns-then-reply-lt-REPLY_BYTES c = done-small c.if-reply-lt-REPLY_BYTES.true
+
+pub returns : goal.returns
+returns c = search (done-enough, rules)

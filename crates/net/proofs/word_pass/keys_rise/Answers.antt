@@ -1,0 +1,24 @@
+use Rattle.scan.proofs.Basics.{arith, sym, ◌∙◌, below_more}
+use Rattle.scan.proofs.Tests.{true-false}
+use Rattle.table.specs.Table.{key_at}
+use Rattle.net.specs.Net.{weight_count}
+use Rattle.net.proofs.word_pass.keys_rise.Goals as goal
+use Rattle.net.proofs.word_pass.keys_rise.Goals.{else-net-next, then-net-next}
+
+pub loop-i-init : goal.loop-i-init
+loop-i-init c = (omega arith, λ h j l. absurd (omega arith))
+
+pub overflow_add-i : goal.overflow_add-i
+overflow_add-i c = omega (arith, c.requires.few_entries, c.loop-i.invariant.0)
+
+pub loop-i-preserved : goal.loop-i-preserved
+unfolding key_at
+loop-i-preserved c =
+    let (l, f) = c.loop-i.invariant in (
+      omega arith,
+      elim c.if-net-next.branch [ then-net-next w ↦ λ h. true-false _ h w.rise-is | else-net-next w ↦ λ h. below_more _ _ (f (sym w.rise-is ∙ h)) (omega (arith, w.if-net-next.false)) ],
+    )
+
+pub returns : goal.returns
+unfolding weight_count
+returns c h = record { above = λ i l. c.loop-i.invariant.1 h i (omega arith) }

@@ -1,0 +1,16 @@
+-- `plainly::counting::arc_count` meets its contract.
+use Rattle.scan.proofs.Basics.{◌-◌}
+use Rattle.plainly.proofs.Keys.{Counted}
+use Rattle.plainly.proofs.counting.arc_count.Given as goal
+
+abbrev pub invariant-loop-t : goal.invariant-loop-t
+invariant-loop-t l = Counted l.s l.grid l.n l.t l.i
+
+abbrev pub decreases-loop-t : goal.decreases-loop-t
+decreases-loop-t l = l.s.transitions - l.t
+
+abbrev pub invariant-loop-n : goal.invariant-loop-n
+invariant-loop-n l = Counted l.s l.grid l.n 0 l.i
+
+abbrev pub decreases-loop-n : goal.decreases-loop-n
+decreases-loop-n l = l.s.nodes - l.n

@@ -1,0 +1,6 @@
+-- `refusal::Refusal::plain` meets its contract.
+use Rattle.refusal.proofs.Verdicts.{refusal-parts}
+use Rattle.refusal.proofs.Refusal.plain.Goals as goal
+
+pub returns : goal.returns
+returns c = rw (c.index.ensures, c.kind.ensures) (refusal-parts c.args.self)

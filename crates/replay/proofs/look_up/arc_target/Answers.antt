@@ -1,0 +1,9 @@
+-- `replay::look_up::arc_target` meets its contract.
+use Rattle.scan.proofs.Basics.{refl}
+use Rattle.table.specs.Table.{value_at}
+use Rattle.sequential.specs.Words.{entry_value}
+use Rattle.replay.proofs.look_up.arc_target.Goals as goal
+
+pub returns : goal.returns
+unfolding entry_value value_at
+returns c = refl

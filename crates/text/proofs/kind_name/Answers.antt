@@ -1,0 +1,21 @@
+-- `text::kind_name` meets its contract.
+use Rattle.scan.proofs.Basics.{arith}
+use Rattle.text.proofs.Joined.{record-name}
+use Rattle.text.proofs.kind_name.Goals as goal
+
+pub returns-in-0 : goal.returns-in-0
+returns-in-0 c = rw c.in-0.is c.bytes.ensures
+
+pub returns-in-1 : goal.returns-in-1
+returns-in-1 c = rw c.in-1.is c.bytes-in-1.ensures
+
+pub returns-in-2 : goal.returns-in-2
+returns-in-2 c = rw c.in-2.is c.bytes-in-2.ensures
+
+pub returns-in-3 : goal.returns-in-3
+returns-in-3 c = rw c.in-3.is c.bytes-in-3.ensures
+
+pub returns-in_default : goal.returns-in_default
+returns-in_default c =
+    rw (record-name c.args.kind (omega arith))
+    c.bytes-in_default.ensures
