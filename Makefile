@@ -1,6 +1,6 @@
 # make install [PREFIX=/usr/local] [DESTDIR=]: installs lineup, the programs of the core that it asks, its manual page, and the pages and samples which that names;
 # and what C links (make install-lib: this alone). make lib builds target/staticlib/libwulthrein.a, the calls over bytes for C (include/wulthrein.h);
-# make shared makes a shared object of it, which lineup asks in place of a program where it can.
+# make shared makes a shared object of it, which lineup asks in place of a program where it can. What is newer than the crates' sources is not built again.
 PREFIX = /usr/local
 PYTHON = $(shell command -v /usr/bin/python3 || command -v python3)
 lib = $(DESTDIR)$(PREFIX)/lib/wulthrein
@@ -9,19 +9,25 @@ man = $(DESTDIR)$(PREFIX)/share/man/man1
 doc = $(DESTDIR)$(PREFIX)/share/doc/wulthrein
 archive = target/staticlib/libwulthrein.a
 shared = target/shared/libwulthrein.so
+programs = crates/calls/out/calls crates/checker/out/checker
+sources = crates.txt $(shell find crates/*/src crates/*/specs crates/*/proofs -type f)
 pages = $(shell sed 's/\\-/-/g' docs/lineup.1 | grep -oE '(docs|python)/[A-Za-z.-]*[A-Za-z]' | sort -u)
 
 .PHONY: build lib shared install install-lib uninstall
 
-build:
-	rt check calls checker
+build: $(programs)
 
-lib:
-	rt staticlib firmware
-	cp target/staticlib/libfirmware.a $(archive)
+# `rt run` proves, builds and runs a program: on no input, and what it prints is not looked at
+$(programs): $(sources)
+	cd $(@D:/out=) && rt run < /dev/null > /dev/null
+	touch $@
 
-$(archive): crates.txt $(shell find crates/*/src crates/*/specs crates/*/proofs -type f)
-	$(MAKE) lib
+lib: $(archive)
+
+$(archive): $(sources)
+	tools/archive
+	mkdir -p $(@D)
+	cp crates/firmware_c/out/libfirmware_c.a $@
 
 shared: $(shared)
 
@@ -38,9 +44,9 @@ install-lib: lib
 
 # an installed copy has no source: the version is written down, and the modules are compiled for those who may not write beside them
 install: build install-lib
-	install -d $(lib)/python/lineup/commands $(lib)/target/bin $(bin) $(man)
+	install -d $(lib)/python/lineup/commands $(lib)/programs $(bin) $(man)
 	install -m 755 lineup $(lib)/lineup
-	install -m 755 target/bin/calls target/bin/checker $(lib)/target/bin
+	install -m 755 $(programs) $(lib)/programs
 	install -m 644 python/lineup/*.py $(lib)/python/lineup
 	install -m 644 python/lineup/page.css python/lineup/page.js $(lib)/python/lineup
 	install -m 644 python/lineup/commands/*.py $(lib)/python/lineup/commands

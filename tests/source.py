@@ -8,7 +8,9 @@ os.chdir(os.path.join(os.path.dirname(os.path.abspath(__file__)), '..'))
 
 COMMENT = {'.antt': re.compile(r'(?<![^\s(){}.;,@])--[^\n]*|\{-.*?-\}', re.S), '.rt': re.compile(r'//[^\n]*|/\*.*?\*/', re.S)}
 USE = re.compile(r'^(?P<mark>(?:unfoldable )?pub |ghost )?use (?P<path>[^\s{;]+?)(?:(?:\.|::)\{(?P<items>[^}]*)\}|(?: as (?P<name>[^\s;]+))?);?[ ]*$', re.M)
-CLAUSE = re.compile(r'\b(requires|ensures)\s*$')
+# a clause of several has a name, and one with a star holds an assertion; a `ghost` value of the clauses stands among them
+CLAUSE = re.compile(r'\b(?:(requires|ensures)\*?(?:\s+\w+)?|(ghost)\s+\w+\s*:)\s*$')
+GHOST = re.compile(r'\bghost\s+\w+\s*[:=]\s*(?=\{)')
 
 
 def blank(text):
@@ -17,8 +19,8 @@ def blank(text):
 
 
 def sources(*suffixes):
-    """The files of the crates with these suffixes, each with its text, in which blanks stand for comments."""
-    for path in sorted(glob.glob('crates/**/*', recursive=True)):
+    """The files of the crates with these suffixes, each with its text, in which blanks stand for comments. What is made of a crate, out/, is no source."""
+    for path in sorted(path for part in ('src', 'specs', 'proofs') for path in glob.glob(f'crates/*/{part}/**/*', recursive=True)):
         suffix = os.path.splitext(path)[1]
         if suffix in suffixes and os.path.isfile(path):
             with open(path, encoding='utf-8') as file:
@@ -57,9 +59,14 @@ def clauses(text, at):
     opening = text.find('{', at)
     while opening >= 0 and (clause := CLAUSE.search(text[at:opening])):
         at = behind(text, opening)
-        found.append((clause[1], text[opening:at]))
+        found.append((clause[1] or clause[2], text[opening:at]))
         opening = text.find('{', at)
     return found
+
+
+def ghosts(text):
+    """The ghost members and fields, each as its block: what the check alone reads beside the clauses."""
+    return [text[found.end() : behind(text, found.end())] for found in GHOST.finditer(text)]
 
 
 def tell(passed, faults):

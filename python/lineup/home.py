@@ -1,6 +1,7 @@
 """Where the product lies, and its programs, built where they are missing or older than their source."""
 import os
 import re
+import shutil
 import subprocess
 
 from lineup import streams
@@ -11,7 +12,7 @@ HOME = os.path.dirname(os.path.dirname(os.path.dirname(os.path.abspath(__file__)
 
 def program(name):
     """The path of a program that the proofs build. An installed copy has no source and builds nothing."""
-    path = os.path.join(HOME, "target", "bin", name)
+    path = made(name, name) if has_source() else os.path.join(HOME, "programs", name)
     if has_source():
         if not os.access(path, os.X_OK) or newest_source() > os.stat(path).st_mtime_ns:
             build(name, path)
@@ -26,6 +27,11 @@ def library():
     if not os.path.exists(path) or has_source() and newest_source() > os.stat(path).st_mtime_ns:
         return None
     return path
+
+
+def made(crate, *names):
+    """A path among what is made of a crate."""
+    return os.path.join(HOME, "crates", crate, "out", *names)
 
 
 def has_source():
@@ -44,20 +50,29 @@ def newest_source():
 def build(name, path):
     """Proves and builds a program, as ./run does, and no other."""
     streams.tell(f"lineup: proving and building {name}, the program that lineup asks, and nothing else; {still(name)}\n")
-    if not os.access(path, os.X_OK):
-        forget(os.path.join(HOME, "target", "stamp", name))
+    if shutil.which("rt") is None:
+        raise Trouble(f"{name} is not built, and rt, the Rattle kit, is not on the path")
+    log = os.path.join(HOME, "target", "log", name)
     try:
-        with subprocess.Popen(
-            ["rt", "check", name], cwd=HOME, stdout=subprocess.PIPE, stderr=subprocess.STDOUT, text=True, errors="replace"
-        ) as prover:
-            for line in prover.stdout:
-                if line.startswith("rt: "):
-                    streams.tell(line)
-    except FileNotFoundError:
-        raise Trouble(f"{name} is not built, and rt, the Rattle kit, is not on the path") from None
-    if prover.returncode != 0 or not os.access(path, os.X_OK):
-        raise Trouble(f"{name} could not be built; {os.path.join(HOME, 'target', 'log')} tells more")
+        os.makedirs(os.path.dirname(log), exist_ok=True)
+        with open(log, "w", encoding="utf-8") as kept:
+            status = prove(name, kept)
+    except OSError as error:
+        raise Trouble(f"{name} could not be built: {error.strerror}", error.filename) from None
+    if status != 0 or not os.access(path, os.X_OK):
+        raise Trouble(f"{name} could not be built; {log} tells more")
     os.utime(path)
+
+
+def prove(name, kept):
+    """Has rt prove and build a program, which it also runs, on no input. What rt tells is kept, and its own lines are shown."""
+    streams_of = {"stdin": subprocess.DEVNULL, "stdout": subprocess.DEVNULL, "stderr": subprocess.PIPE}
+    with subprocess.Popen(["rt", "run"], cwd=os.path.join(HOME, "crates", name), text=True, errors="replace", **streams_of) as prover:
+        for line in prover.stderr:
+            kept.write(line)
+            if line.startswith("rt: "):
+                streams.tell(line)
+    return prover.returncode
 
 
 def still(name):
@@ -82,11 +97,11 @@ def below(name, lists):
 
 
 def is_left(crate):
-    """Whether a crate has no stamp, or changed after it."""
-    try:
-        stamped = os.stat(os.path.join(HOME, "target", "stamp", crate)).st_mtime_ns
-    except FileNotFoundError:
+    """Whether a crate has no stamp, or changed after it. A library's stands beside it, a program's has its name."""
+    stamps = [path for path in (made(crate, "rlib", "stamp"), made(crate, f"{crate}.stamp")) if os.path.exists(path)]
+    if not stamps:
         return True
+    stamped = os.stat(stamps[0]).st_mtime_ns
     walked = (os.walk(os.path.join(HOME, "crates", crate, part)) for part in ("src", "specs", "proofs"))
     return any(os.stat(os.path.join(folder, name)).st_mtime_ns > stamped for walk in walked for folder, _, names in walk for name in names)
 
@@ -94,11 +109,3 @@ def is_left(crate):
 def read(name):
     with open(os.path.join(HOME, name), encoding="utf-8") as file:
         return file.read()
-
-
-def forget(stamp):
-    """Without its stamp rt does not take a missing program for built."""
-    try:
-        os.unlink(stamp)
-    except FileNotFoundError:
-        pass

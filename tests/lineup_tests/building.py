@@ -8,10 +8,12 @@ from lineup import home
 from lineup.trouble import Trouble
 
 RT = """#!/bin/sh
-echo "$@" >> "$CALLED"
-echo 'rt: one line'
-echo 'another line'
-mkdir -p target/bin && printf '#!/bin/sh\n' > "target/bin/$2" && chmod +x "target/bin/$2"
+name=$(basename "$PWD")
+echo "$@ in $name" >> "$CALLED"
+echo 'rt: one line' >&2
+echo 'another line' >&2
+echo 'what the program prints'
+mkdir -p out && printf '#!/bin/sh\n' > "out/$name" && chmod +x "out/$name"
 exit ${RT_STATUS-0}
 """
 
@@ -29,6 +31,7 @@ def run(tally):
 
 
 def stages(tally, folder):
+    os.makedirs(os.path.join(folder, "crates", "calls"))
     os.makedirs(os.path.join(folder, "crates", "one", "src", "deep"))
     os.makedirs(os.path.join(folder, "tools"))
     source = save(folder, "crates/one/src/deep/main.rt", "")
@@ -44,10 +47,14 @@ def stages(tally, folder):
     os.environ["RT_STATUS"] = "1"
     told(tally, "not proved", "calls could not be built")
     with open(called, encoding="utf-8") as file:
-        tally.same("calls of rt", file.read(), "check calls\n" * 3)
+        tally.same("calls of rt", file.read(), "run in calls\n" * 3)
+    with open(os.path.join(folder, "target", "log", "calls"), encoding="utf-8") as file:
+        tally.same("what is kept of the last", file.read(), "rt: one line\nanother line\n")
     os.unlink(os.path.join(folder, "crates.txt"))
+    os.makedirs(os.path.join(folder, "programs"))
+    os.rename(os.path.join(folder, "crates", "calls", "out", "calls"), os.path.join(folder, "programs", "calls"))
     told(tally, "an installed copy builds nothing", None)
-    os.unlink(os.path.join(folder, "target", "bin", "calls"))
+    os.unlink(os.path.join(folder, "programs", "calls"))
     told(tally, "an installed copy without its program", "the program is missing")
 
 
@@ -68,6 +75,6 @@ def told(tally, what, trouble, *errors):
         except Trouble as found:
             tally.holds(f"{what}: trouble", str(found), trouble or "none was expected")
     tally.holds(f"{what}: errors", stream.getvalue(), *errors)
-    tally.check(f"{what}: rt's lines alone", "another line" not in stream.getvalue())
+    tally.check(f"{what}: rt's lines alone", "another line" not in stream.getvalue() and "the program prints" not in stream.getvalue())
     if not errors and not trouble:
         tally.same(f"{what}: silent", stream.getvalue(), "")
