@@ -2,8 +2,8 @@
 #![tactic(auto)]
 
 ghost use Rattle.std.specs.Prelude.{◌≡◌, List, ℕ, take};
+ghost use Rattle.io.specs.Counts.{IsPrefixLen};
 ghost use Rattle.files.specs.Printed.{printed, Buffers, Reads};
-ghost use Rattle.checker.specs.Prefix.{IsPrefixLen};
 
 use std::io::Read;
 use std::rt::Files;
@@ -60,8 +60,8 @@ fn report(
 ) -> usize
     requires buffers { Buffers netbin.now sheetbin.now net.old sheet.old form.old out.old }
     requires prefix_len { IsPrefixLen n netbin.now × IsPrefixLen s sheetbin.now }
-    ensures by_index { (netFile sheetFile : List ℕ) → Reads netFile netbin.now n → Reads sheetFile sheetbin.now s → take result out.new ≡ printed netFile sheetFile }
-    ensures prefix_len_2 { IsPrefixLen result out.new }
+    ensures prints { (netFile sheetFile : List ℕ) → Reads netFile netbin.now n → Reads sheetFile sheetbin.now s → take result out.new ≡ printed netFile sheetFile }
+    ensures text_len { IsPrefixLen result out.new }
 {
     files::print_files(&netbin[..n], &sheetbin[..s], net, sheet, form, out)
 }

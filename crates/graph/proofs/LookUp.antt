@@ -1,4 +1,4 @@
--- On readable words the look_up_lem of an arc answers the arc's entry; and at which index the words have an entry's value.
+-- On readable words the look-up of an arc answers the arc's entry; and at which index the words have an entry's value.
 use Rattle.scan.proofs.Basics.{ℕ, ◌+◌, ◌≤◌, ◌<◌, arith, ◌≡◌, refl, sym, ◌∙◌, false, ltb, Option, none, some, List, length, get_or}
 use native.Mathlib.Decide.{dec_lt}
 use lib.ListN.{get_or-eq_default}
@@ -24,7 +24,7 @@ found-same (some i) none e = cc
 found-same (some i) (some j) e = cc
 
 module _ (net sheet : List ℕ) (r : ArcsReadable net sheet) (n t : ℕ) where
-  -- at a node, below T, the look_up_lem among rising keys is the entry with the key; elsewhere there is neither
+  -- at a node, below T, the look-up among rising keys is the entry with the key; elsewhere there is neither
   pub look-up-right : arc_look_up net sheet n t ≡ found_of (arc_entry (petri_net net) sheet n t)
   unfolding arc_look_up arc_entry entry_with_key
   look-up-right =

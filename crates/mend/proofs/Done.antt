@@ -14,7 +14,7 @@ use Rattle.lending.proofs.Lent.{room-holds}
 use Rattle.lending.proofs.Laws.{refused-first, refused-second, answered-two}
 use Rattle.mended.specs.Counts.{mended_graph}
 use Rattle.mended.specs.Mend.{mend_verdict, mended_words}
-use Rattle.mended.specs.Changes.{changed_keys, changed_counts, change_list, changes as changeWords}
+use Rattle.mended.specs.Changes.{changed_keys, changed_counts, change_list, changes as change_words}
 use Rattle.mended.specs.Call.{MendWritten}
 use Rattle.mended.specs.declared.MendAnswer.TheVariants.{Written, Refused}
 use Rattle.mended.proofs.Changes.{paired}
@@ -37,8 +37,8 @@ module _ (net sheet out list : List ℕ) {v : Verdict} {parent : List ℕ} {entr
       let M = mended_graph (petri_net net) (graph (petri_net net) sheet) in
       omega (arith, encoded-length (petri_net net) M, encoded-entries (petri_net net) M, entries_are net sheet k.mendable.fitting.readable, k.entries_are)
 
-  list-long : length (changeWords net sheet) ≡ 1 + 2 * changes
-  unfolding changeWords change_list
+  list-long : length (change_words net sheet) ≡ 1 + 2 * changes
+  unfolding change_words change_list
   list-long =
       let p = paired (petri_net net) sheet in
       omega (arith, length-append (changed_keys (petri_net net) sheet) (changed_counts (petri_net net) sheet), p, k.changes_are, ap length (change-keys net sheet k.mendable.fitting.readable))
@@ -54,10 +54,10 @@ module _ (net sheet out list : List ℕ) {v : Verdict} {parent : List ℕ} {entr
 
   pub both-written : {w x : Verdict} {out' list' : List ℕ} → w ≡ room_fault (length out) (2 + 2 * entries) → w ≡ verdict.Accepted → x ≡ room_fault (length list) (1 + 2 * changes)
       → x ≡ verdict.Accepted
-      → out' ≡ placed out 0 (mended_words net sheet) → list' ≡ placed list 0 (changeWords net sheet)
+      → out' ≡ placed out 0 (mended_words net sheet) → list' ≡ placed list 0 (change_words net sheet)
       → MendWritten net sheet out list (Written (record { sheet = 2 + 2 * entries; list = 1 + 2 * changes })) out' list'
   both-written h k i j o l =
       let f : room_fault (length out) (length (mended_words net sheet)) ≡ verdict.Accepted = rw sheet-long (sym h ∙ k) in
-      let g : room_fault (length list) (length (changeWords net sheet)) ≡ verdict.Accepted = rw list-long (sym i ∙ j) in
+      let g : room_fault (length list) (length (change_words net sheet)) ≡ verdict.Accepted = rw list-long (sym i ∙ j) in
       answered-two refl accepted f g (rw (sheet-long, list-long))
-      (o ∙ placed-front (mended_words net sheet) out (room-holds _ _ f)) (l ∙ placed-front (changeWords net sheet) list (room-holds _ _ g))
+      (o ∙ placed-front (mended_words net sheet) out (room-holds _ _ f)) (l ∙ placed-front (change_words net sheet) list (room-holds _ _ g))

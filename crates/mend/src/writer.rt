@@ -6,7 +6,7 @@ ghost use Rattle.refusal.specs.Limits.{most_places, most_count};
 ghost use Rattle.sequential.specs.Words.{entry_count};
 ghost use Rattle.encoding.specs.Rows.{Appended};
 ghost use Rattle.mended.specs.Mend.{mended_words};
-ghost use Rattle.mended.specs.Changes.{changes as changeWords};
+ghost use Rattle.mended.specs.Changes.{changes as change_words};
 ghost use Rattle.mend.specs.Places.{Fitting};
 ghost use Rattle.mend.specs.Rows.{Mendable, KnownRow};
 ghost use Rattle.mend.specs.Writing.{copied, part_row, part_of, half_of, entries_of, changed_number, changed_cell};
@@ -187,7 +187,7 @@ pub(crate) fn write_list(
 )
     requires mendable { Mendable net.now sheet.now parent }
     requires changes_value { changes ≡ length (part_of net.now sheet.now Part.Changes Section.CountKeys) }
-    ensures { list.new ≡ placed list.old 0 (changeWords net.now sheet.now) }
+    ensures { list.new ≡ placed list.old 0 (change_words net.now sheet.now) }
 {
     let next = encoding::put(changes as u32, list, 0);
     let next = write_part(

@@ -24,8 +24,8 @@ fn has_key(sheet: &[u32], i: usize, key: u32) -> bool
 
 // Whether the values of entries i and j agree: counts as they are, targets of arcs by their classes.
 fn values_agree(sheet: &[u32], classes: &[u8], counts: bool, i: usize, j: usize) -> bool
-    requires valued { Valued sheet.now classes.now counts i }
-    requires valued_2 { Valued sheet.now classes.now counts j }
+    requires first_valued { Valued sheet.now classes.now counts i }
+    requires second_valued { Valued sheet.now classes.now counts j }
     ensures { result ≡ values_agree classes.now counts (entry_value sheet.now i) (entry_value sheet.now j) }
 {
     let entries = sheet[1] as usize;

@@ -13,7 +13,7 @@ use super::Totals;
 // The Parikh vector of a log: how often each transition fires.
 fn fired_times(log: &[u32]) -> [u32; 32]
     requires log_holds { LogHolds log.now }
-    requires by_index { (i : ℕ) → i < firing_count log.now → fired_at log.now i < 32 }
+    requires fired_bound { (i : ℕ) → i < firing_count log.now → fired_at log.now i < 32 }
     ensures { result ≡ tabulate (fired_times log.now) 32 }
 {
     let n = log[0] as usize;

@@ -1,5 +1,5 @@
 -- Bisection, turn by turn for any test; if the test passes below some index and not from there on, bisection finds that index.
--- So the look_up_lem among rising keys is the entry with the key.
+-- So the look-up among rising keys is the entry with the key.
 -- ---- the turns of the loop
 use Rattle.scan.proofs.Basics.{ℕ, zero, suc, ◌+◌, ◌-◌, ◌≤◌, ◌<◌, arith, ◌≡◌, refl, sym, ap, ◌∙◌, Bool, true, false, cond, ◌&&◌, ltb, leb, eqb, none, some, List, length}
 use native.Mathlib.Decide.{dec_lt}
@@ -73,7 +73,7 @@ module _ (f : ℕ → Bool) (n : ℕ) (falling : (i j : ℕ) → i < j → j < n
   pub bisect-finds : Turns f n (bisect f n 0 n)
   bisect-finds = bisect-turns-at n 0 n (omega arith) (omega arith) (omega arith) (λ i l. absurd (omega arith)) (λ i h l. absurd (omega arith))
 
--- ---- the look_up_lem
+-- ---- the look-up
 
 found-cond : (b : Bool) (i : ℕ) → cond b (At i) Nothing ≡ found_of (cond b (some i) none)
 found-cond true i = refl
@@ -147,7 +147,7 @@ module _ (words : List ℕ) (offset entries k : ℕ) where
           above = λ i l m. ltb-false (key_at words offset i) k (t.above i l m);
         })
 
-    -- the look_up_lem is the entry with the key
+    -- the look-up is the entry with the key
     pub look_up_lem : look_up words offset entries k ≡ found_of (entry_of words offset entries k)
     unfolding look_up
     look_up_lem =

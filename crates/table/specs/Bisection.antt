@@ -1,5 +1,5 @@
 -- The look-up by bisection, for any words: what the code answers whether the keys rise or not.
--- `look_up` of proofs/Bisection shows that it is the entry with the key if the keys rise.
+-- `look_up_lem` of proofs/Bisection shows that it is the entry with the key if the keys rise.
 use Rattle.std.specs.Prelude.{ℕ, zero, suc, ◌+◌, ◌-◌, ◌/◌, List, Bool, cond, ◌&&◌, length, ltb, leb, eqb}
 use Rattle.std.proofs.Math.Option.{Option, none, some}
 use Rattle.table.specs.Table.{key_at}

@@ -3,11 +3,11 @@ use Rattle.std.proofs.Common.{◌∙◌}
 use Rattle.files.proofs.Whole.{read-prints, prints-whole, text-counted}
 use Rattle.checker.proofs.report.Goals as goal
 
-pub returns-clause-by_index : goal.returns-clause-by_index
-returns-clause-by_index c netFile sheetFile x y =
+pub returns-clause-prints : goal.returns-clause-prints
+returns-clause-prints c netFile sheetFile x y =
     let p = c.requires.buffers in
     let a = c.args in
     prints-whole _ _ _ _ _ _ _ _ _ _ _ _ _ p c.print_files.ensures ∙ read-prints netFile sheetFile a.netbin.now a.sheetbin.now a.n a.s p.net_bytes p.sheet_bytes x y
 
-pub returns-clause-prefix_len_2 : goal.returns-clause-prefix_len_2
-returns-clause-prefix_len_2 c = text-counted _ _ _ _ _ _ _ _ _ _ _ _ _ c.requires.buffers c.print_files.ensures
+pub returns-clause-text_len : goal.returns-clause-text_len
+returns-clause-text_len c = text-counted _ _ _ _ _ _ _ _ _ _ _ _ _ c.requires.buffers c.print_files.ensures

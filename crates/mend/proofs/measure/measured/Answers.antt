@@ -17,7 +17,7 @@ returns-in-Refused c =
 pub search-nodes-requires : goal.search-nodes-requires
 search-nodes-requires c =
     let passed : let s = c.args in arcs_verdict s.net.now s.sheet.now ≡ Accepted = sym c.checked-found.ensures ∙ c.in_default.is in
-    record { arcs_readable = before-readable _ _ passed; by_index = before-reached _ _ passed }
+    record { arcs_readable = before-readable _ _ passed; leads_to_all = before-reached _ _ passed }
 
 pub returns-then-not-all_fit : goal.returns-then-not-all_fit
 returns-then-not-all_fit c =

@@ -23,7 +23,7 @@ values_agree-requires c =
     let t =
     walk-values c.loop-t.invariant c.loop-t-test.true c.has_key-there.ensures c.has_key.ensures
     (not-false _ c.if-there-has_key.false) c.if-there.true
-    in record { valued = t.0; valued_2 = t.1 }
+    in record { first_valued = t.0; second_valued = t.1 }
 
 pub loop-t-preserved-then-there : goal.loop-t-preserved-then-there
 loop-t-preserved-then-there c =

@@ -20,7 +20,7 @@ pub values_agree-requires : goal.values_agree-requires
 values_agree-requires c =
     let p = c.requires in
     let less = c.loop-s-test.true in
-    record { valued = p.left _ less; valued_2 = p.right _ less }
+    record { first_valued = p.left _ less; second_valued = p.right _ less }
 
 pub returns-then-not-values_agree : goal.returns-then-not-values_agree
 unfolding targets_agree

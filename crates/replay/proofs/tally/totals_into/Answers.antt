@@ -8,7 +8,7 @@ pub fired_times-parikh-requires : goal.fired_times-parikh-requires
 fired_times-parikh-requires c =
     let p = c.requires.countable in
     let s = sizes _ p.accepted in
-    record { log_holds = p.holds; by_index = λ i l. omega (arith, p.low i l) }
+    record { log_holds = p.holds; fired_bound = λ i l. omega (arith, p.low i l) }
 
 pub side-all_taken-requires : goal.side-all_taken-requires
 side-all_taken-requires c = search (weighable, rules)
