@@ -1,4 +1,4 @@
-// The checker: reads net.bin and sheet.bin of the folder in which it runs (§12.1), prints the answer to them, and ends with status 0 (§12.8).
+// The checker: reads net.bin and sheet.bin of the folder in which it runs (§12.1), prints the answer to them, and ends with status 0 if it could write that (§12.8).
 #![tactic(auto)]
 
 ghost use Rattle.std.specs.Prelude.{◌≡◌, List, ℕ, take};
