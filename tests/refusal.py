@@ -19,6 +19,7 @@ FORM = re.compile(
     r'has no `Need|has no field|this pattern needs|has type `𝕀`|is applied to an argument|explicit argument|is not in scope'
     r'|can be named from here|cannot continue|is missing at|is not closed|has no clause|no clause covers|structural call|^`(Inv|μ|invariant|decreases)-'
 )
+GONE = re.compile(r'has no `[^`]*` that can be named from here')
 NEEDS = re.compile(r'expected type `tie\.Need-.* this has type `tie\.Need-')  # the edited code has other needs
 TYPES = re.compile(r'expected type `([^`]*)`, but this has type `([^`]*)`')
 
@@ -52,8 +53,10 @@ def is_form(message):
 
 
 def shown(text):
-    """Why what the prover told shows nothing, if so: its first error has to be in a proof, and not one of form."""
-    error = next((error for error in ERROR.finditer(text) if 'was not admitted' not in error[2]), None)  # no mere consequence
+    """Why what the prover told shows nothing, if so: its first error has to be in a proof, and not one of form. A goal has its name from the text of a condition or an
+    index, and an edit of that takes the name away: then the first error beside those has to show something."""
+    errors = [error for error in ERROR.finditer(text) if 'was not admitted' not in error[2]]  # no mere consequences
+    error = next((error for error in errors if not GONE.search(error[2])), next(iter(errors), None))
     if error and (error[1] != 'proofs' or is_form(error[2])):
         return f'refused for its form: {error[2][:300]}'
     if not error and not UNPROVED.search(text):
