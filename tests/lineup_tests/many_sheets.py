@@ -20,7 +20,8 @@ LONGER = "n:\n  s -> m\nm: a\n  u -> o\no:\n  s -> p\np: a\n  u -> n\n"
 FILES = {"x.net": NET, "x.sheet": SHEET, "longer.sheet": LONGER, "torn.sheet": "n:\n  s -> m\nm: a\n", "bad.sheet": "n: b\n", "over.net": "pl a (2) <= 1\ntr s -> a\n", "x.log": "s -> m\n", "x.times": "s 1 2\nu 3 4\n"}
 OK, TORN = "x.sheet: accepted (core: answer 0 none 0 nodes 2 arcs 2 awaits 1)\n", "torn.sheet:3:1: refused, 11 dead end: node m has no arrow (core: answer 11 node 1)\n"
 ONCE = "lineup: -: standard input can be read once, and so stand for one file alone\n"
-TURNS, LOOP = 20, 0.22  # of the loop the seconds where 200 sheets of 1,406 words take 1.5
+TURNS = 20
+LOOP = 0.22  # seconds that loop() takes on a machine where 200 sheets of 1,406 words take 1.5
 
 
 def run(tally):
@@ -219,8 +220,8 @@ def on_terminal(folder, wait):
 
 
 def times(tally, folder):
-    """200 sheets in under two seconds of the processor, or, on a slower machine, in as many times more as a loop of Python's own takes there. Others may be at work on the machine:
-    both are measured by turns, each counts at its least, and there are TURNS turns at the most."""
+    """200 sheets in under two seconds of the processor; where loop() takes longer than LOOP, in as many times more. Others may be at work on the machine: the sheets and the loop
+    are measured by turns, at most TURNS of them, and the least of each counts."""
     found = [(net, sheet) for net, sheet, _ in generated.siblings(5, 300) if 30 <= sheet.words[0] <= 64 and len(sheet.words) < 1500]
     net, sheet = max(found, key=lambda pair: len(pair[1].words))
     save(folder, "large/net.txt", " ".join(map(str, net.words)))
