@@ -22,14 +22,17 @@
 mod answers;
 mod cases;
 mod input;
+mod operation;
 mod print;
 
+use self::input::Input;
 use self::print::Output;
 use std::io;
+use std::io::{BufReader, BufWriter};
 
 fn main(rt: HostRuntime) -> io::Result<()> {
-    let mut buffer = [0u8; 65536];
-    let mut words = [0u32; 40000];
-    let mut output = Output::new(rt.stdout());
-    cases::play(rt.stdin(), &mut output, &mut buffer, &mut words)
+    let alloc = rt.alloc();
+    let mut input = Input::new(BufReader::with_capacity(alloc, 65536, rt.stdin())?);
+    let mut output: Output = BufWriter::new(alloc, rt.stdout())?;
+    cases::play(alloc, &mut input, &mut output)
 }

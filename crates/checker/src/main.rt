@@ -28,6 +28,7 @@ fn read_full(from: &mut impl Read, buf: &mut [u8]) -> usize
     ensures { IsPrefixLen result buf.new }
 {
     let mut done = 0;
+    // No `for`: each read says how far it came.
     while done < buf.len() {
         match from.read(&mut buf[done..]) {
             Ok(n) if n > 0 => done += n,
@@ -47,7 +48,8 @@ fn read_file(rt: &impl Files, path: &str, buf: &mut [u8]) -> usize
     }
 }
 
-// Puts all that is printed for two files at the start of out. The files are the first n bytes of netbin and the first s bytes of sheetbin.
+// Puts all that is printed for two files at the start of out. The files are the first n bytes of netbin and the first s bytes of sheetbin: no slices, since
+// that both buffers hold all that has to be read of a file is part of `Buffers`.
 fn report(
     netbin: &[u8],
     n: usize,

@@ -1,4 +1,6 @@
 -- The scan over the nodes: nothing is found before node n, and the marks are those of the await nodes below n.
+use Rattle.std.specs.Prelude.{Err, Ok}
+use Rattle.refusal.specs.declared.Reason.TheVariants.{RootNotAwait}
 use Rattle.scan.proofs.Basics.{ℕ, ◌+◌, ◌<◌, arith, ◌≡◌, refl, sym, ap, ◌∙◌, Bool, true, false, not, ◌&&◌, ltb, eqb, some, List, get_or, set, replicate, length-set, get_or-set_same, get_or-set_other}
 use Prim.Native.Nat.{min}
 use lib.ListN.{get_or-replicate}
@@ -9,7 +11,6 @@ use Rattle.scan.proofs.Tabulate.{tabulate-is, tabulate-at, tabulate-length}
 use Rattle.refusal.specs.Refusal.{refusal}
 use Rattle.refusal.specs.declared.Position.TheVariants.{Node}
 use Rattle.refusal.specs.declared.Refusal.{Refusal}
-use Rattle.refusal.specs.declared.Verdict.TheVariants.{Accepted}
 use Rattle.net.specs.Net.{transition_count}
 use Rattle.automaton.specs.Automaton.{Automaton}
 use Rattle.sequential.specs.Petri.{PetriNet}
@@ -21,8 +22,7 @@ use Rattle.choice.specs.Rows.{net_by_rows, present, arc_by_row, graph_by_rows}
 use Rattle.choice.specs.Choices.{ChoicesOf, offer_of}
 use Rattle.choice.specs.Whole.{Offering}
 use Rattle.choice.specs.Passing.{Ground, Passing, Walked}
-use Rattle.choice.specs.Nodes.{offer_fault, awaits_below, offers_fault, await_mark, await_marks, nodes_refused, task_nodes_reply}
-use Rattle.choice.specs.declared.NodesAnswer.{NodesAnswer}
+use Rattle.choice.specs.Nodes.{NodesAnswer, offer_fault, awaits_below, offers_fault, await_mark, await_marks, task_nodes_reply}
 use Rattle.choice.specs.declared.offers.Offer.{Offer}
 use Rattle.choice.specs.declared.offers.Offer.TheVariants.{Whole}
 use Rattle.choice.proofs.Choices.{leader-low}
@@ -101,11 +101,11 @@ none_passed = record { within = omega arith; passing = λ s g. start g }
 module _ {net : List ℕ} {s : ℕ} {sheet leaders : List ℕ} {source transitions nodes : ℕ} {awaits : List ℕ} {n : ℕ}
     (w : Passing net s sheet leaders source transitions nodes awaits n) where
   -- a refusal at node n
-  pub refused-at : (a : NodesAnswer) (r : Refusal) → n < nodes → offer_fault (only (net_by_rows net) s) (graph_by_rows net sheet) n ≡ some r → a ≡ nodes_refused r
+  pub refused-at : (a : NodesAnswer) (r : Refusal) → n < nodes → offer_fault (only (net_by_rows net) s) (graph_by_rows net sheet) n ≡ some r → a ≡ Err r
       → a ≡ task_nodes_reply net s sheet
   unfolding task_nodes_reply offers_fault
   refused-at a r l e h =
-      rw (or_else-hit _ (when (not (awaits_below (only (net_by_rows net) s) (graph_by_rows net sheet) (graph_by_rows net sheet).nodes 0)) (refusal 13 (Node 0))) r
+      rw (or_else-hit _ (when (not (awaits_below (only (net_by_rows net) s) (graph_by_rows net sheet) (graph_by_rows net sheet).nodes 0)) (refusal RootNotAwait (Node 0))) r
       (first-hit (offer_fault (only (net_by_rows net) s) (graph_by_rows net sheet)) n r w.passed e (graph_by_rows net sheet).nodes (rw w.ground.nodes_are at l)))
       h
 
@@ -123,18 +123,18 @@ module _ {net : List ℕ} {s : ℕ} {sheet leaders : List ℕ} {source transitio
   all-marks e = w.marks ∙ ap (λ (k : ℕ). tabulate (await_mark (only (net_by_rows net) s) (graph_by_rows net sheet) k) 128) (e ∙ w.ground.nodes_are)
 
   -- every node is passed: the root's mark tells
-  rest : n ≡ nodes → offers_fault (only (net_by_rows net) s) (graph_by_rows net sheet) ≡ when (eqb (get_or awaits 0 0) 0) (refusal 13 (Node 0))
+  rest : n ≡ nodes → offers_fault (only (net_by_rows net) s) (graph_by_rows net sheet) ≡ when (eqb (get_or awaits 0 0) 0) (refusal RootNotAwait (Node 0))
   unfolding offers_fault
   rest e =
       let q = e ∙ w.ground.nodes_are in
       or_else-next _ _ (rw q at w.passed)
-      ∙ ap (λ (b : Bool). when b (refusal 13 (Node 0)))
+      ∙ ap (λ (b : Bool). when b (refusal RootNotAwait (Node 0)))
       (root-mark (only (net_by_rows net) s) (graph_by_rows net sheet) (graph_by_rows net sheet).nodes ∙ ap (λ (l : List ℕ). eqb (get_or l 0 0) 0) (sym (all-marks e)))
 
-  pub busy-root : (a : NodesAnswer) → n ≡ nodes → get_or awaits 0 0 ≡ 0 → a ≡ nodes_refused (refusal 13 (Node 0)) → a ≡ task_nodes_reply net s sheet
+  pub busy-root : (a : NodesAnswer) → n ≡ nodes → get_or awaits 0 0 ≡ 0 → a ≡ Err (refusal RootNotAwait (Node 0)) → a ≡ task_nodes_reply net s sheet
   unfolding task_nodes_reply when
   busy-root a e z h = rw (rest e, z) h
 
-  pub all_pass : n ≡ nodes → 0 < get_or awaits 0 0 → record { verdict = Accepted; awaits = awaits } ≡ task_nodes_reply net s sheet
+  pub all_pass : n ≡ nodes → 0 < get_or awaits 0 0 → Ok awaits ≡ task_nodes_reply net s sheet
   unfolding task_nodes_reply when await_marks
-  all_pass e z = rw (rest e, ne_eqb (get_or awaits 0 0) 0 (λ x. omega arith)) (ap (λ (l : List ℕ). record { verdict = Accepted; awaits = l }) (all-marks e))
+  all_pass e z = rw (rest e, ne_eqb (get_or awaits 0 0) 0 (λ x. omega arith)) (ap Ok (all-marks e))

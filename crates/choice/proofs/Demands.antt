@@ -1,13 +1,13 @@
 -- The answer on a schedule's nodes is what it is promised to be.
+use Rattle.choice.specs.Nodes.{NodesAnswer, marks_of}
+use Rattle.std.specs.Prelude.{Ok}
 use Rattle.scan.proofs.Basics.{ℕ, ◌<◌, ◌≡◌, sym, ap, ◌∙◌, ◌↔◌, none, List, get_or}
 use Rattle.scan.proofs.Tests.{not-false}
 use Rattle.scan.specs.Scan.{or_else, when, first, bit}
 use Rattle.scan.proofs.First.{or_else-left, or_else-right, when-none, first-all, first-empty}
 use Rattle.scan.proofs.Count.{bit-one}
 use Rattle.refusal.specs.Finding.{line_finds, found_at}
-use Rattle.refusal.specs.Verdict.{verdict_of}
-use Rattle.refusal.specs.declared.Verdict.TheVariants.{Accepted}
-use Rattle.choice.specs.declared.NodesAnswer.{NodesAnswer}
+use Rattle.refusal.specs.Verdict.{verdict_alone, verdict_of}
 use Rattle.refusal.proofs.Verdicts.{answer-none}
 use Rattle.net.proofs.Checks.{net-judged}
 use Rattle.automaton.specs.Automaton.{Automaton}
@@ -46,8 +46,8 @@ module _ (N : PetriNet) (sheet : List ℕ) where
     λ (h, a). unfold or_else in (rw (first-empty (node_fault N sheet) (node_count sheet) (λ n l. (node↔ n).1 (h n l)), root↔.1 a)),
   )
 
-module _ (N : PetriNet) (sheet : List ℕ) {answer : NodesAnswer} (told : answer.verdict ≡ verdict_of (or_else (first (node_fault N sheet) (node_count sheet)) (root_fault N sheet)))
-    (marked : answer.verdict ≡ Accepted → (n : ℕ) → n < node_count sheet → get_or answer.awaits n 0 ≡ bit (is_await N (graph N sheet) n)) where
+module _ (N : PetriNet) (sheet : List ℕ) {answer : NodesAnswer} (told : verdict_alone answer ≡ verdict_of (or_else (first (node_fault N sheet) (node_count sheet)) (root_fault N sheet)))
+    (marked : verdict_alone answer ≡ Ok tt → (n : ℕ) → n < node_count sheet → get_or (marks_of answer) n 0 ≡ bit (is_await N (graph N sheet) n)) where
   right : NodesRight N sheet answer
   right = record {
     accepts = (λ h. (nodes↔ N sheet).0 (answer-none _ (sym told ∙ h)), λ h. told ∙ ap verdict_of ((nodes↔ N sheet).1 h));

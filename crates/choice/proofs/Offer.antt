@@ -1,4 +1,5 @@
 -- What a node offers, from its row of arcs and the table of choice sets: 11, 12, or one whole choice set, which tells whether the node is an await node.
+use Rattle.refusal.specs.declared.Reason.TheVariants.{NoArc, NotOneChoiceSet}
 use Rattle.scan.proofs.Basics.{ℕ, ◌≤◌, ◌<◌, arith, ◌≡◌, refl, sym, ap, ◌∙◌, true, false, ◌&&◌, ltb, eqb, none, some, List, get_or}
 use mathlib.Core.Bool.{beq}
 use Rattle.scan.proofs.Tests.{ltb-true, ltb-false, lt-ltb, le-ltb, by_test, iff→eq, and_left, and_right}
@@ -47,8 +48,8 @@ module _ (N : PetriNet) (A : Automaton) (n : ℕ) where
 
 -- what is found at a node, by what its row offers
 abbrev pub Tells : PetriNet → Automaton → ℕ → Offer → Type 0
-Tells N A n Nothing = offer_fault N A n ≡ some (refusal 11 (Node n))
-Tells N A n Torn = offer_fault N A n ≡ some (refusal 12 (Node n))
+Tells N A n Nothing = offer_fault N A n ≡ some (refusal NoArc (Node n))
+Tells N A n Torn = offer_fault N A n ≡ some (refusal NotOneChoiceSet (Node n))
 Tells N A n (Whole c) = (offer_fault N A n ≡ none) × (is_await N A n ≡ eqb c (first_source N))
 
 module _ (N : PetriNet) (A : Automaton) (n : ℕ) (row leaders : List ℕ) (T : ℕ) (offered : (t : ℕ) → present row t ≡ offers N A n t)

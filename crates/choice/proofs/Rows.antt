@@ -1,4 +1,5 @@
 -- The net and the graph that are read row by row are the net and the graph of the words.
+use Rattle.std.specs.Prelude.{Ok}
 use Rattle.scan.proofs.Basics.{ℕ, ◌+◌, ◌-◌, ◌≤◌, arith, ◌≡◌, refl, sym, ap, ◌∙◌, Bool, ltb, Option, none, some, option_map, option_get_or, List, get_or, replicate}
 use native.Mathlib.Decide.{dec_lt}
 use mathlib.Core.Path.{fun_ext}
@@ -11,7 +12,6 @@ use Rattle.table.specs.Row.{entry_code}
 use Rattle.net.specs.Net.{transition_count, taken, put, start, capacity}
 use Rattle.net.specs.Check.{net_reply}
 use Rattle.net.proofs.Laws.{accessors, sizes, taken_no_place, put_no_place, start_no_place, capacity_no_place, capacity-some}
-use Rattle.refusal.specs.declared.Verdict.TheVariants.{Accepted}
 use Rattle.automaton.specs.Automaton.{Automaton}
 use Rattle.sequential.specs.Petri.{PetriNet, petri_net}
 use Rattle.sequential.specs.Words.{node_count, entry_value, arc_entry, arc, marking, graph}
@@ -39,7 +39,7 @@ same-net : (P T P' T' : ℕ) (f g f' g' : ℕ → ℕ → ℕ) (s s' : ℕ → �
     (record { places = P'; transitions = T'; taken = f'; put = g'; start = s'; capacity = k'; kept = m })
 same-net P T P' T' f g f' g' s s' k k' m a b c d e h = rw (a, b, c, d, e, h)
 
-pub net-told : (net : List ℕ) → net_reply net ≡ Accepted → net_by_rows net ≡ petri_net net
+pub net-told : (net : List ℕ) → net_reply net ≡ Ok tt → net_by_rows net ≡ petri_net net
 unfolding net_by_rows
 net-told net h =
     let n = sizes net h in

@@ -106,7 +106,7 @@ module _ (sheet leaders : List ℕ) (transitions first c : ℕ) where
     no_place l = let h = past l in rw (le-leb first (key_at sheet 2 i) (omega arith), le-ltb (key_at sheet 2 i - first) transitions (omega arith))
 
     ends_as : m.row ≡ run_row sheet 2 K first transitions section_cell
-    ends_as = by_less i K (λ l. walk_ends sheet 2 K first transitions section_cell i 32 m.row m.walking (no_place l) (omega arith))
+    ends_as = by_less i K (λ l. walk_ends sheet 2 K first transitions section_cell i m.row m.walking (rw (← no_place l) (omega arith)))
         (λ l. walk-over sheet 2 K first transitions section_cell i m.row m.walking l)
 
     -- no entry is left, or the next is not of the row

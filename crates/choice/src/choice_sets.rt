@@ -45,12 +45,10 @@ fn rows_equal(a: [u32; 32], b: [u32; 32], places: usize) -> bool
     requires { places ≤ 32 }
     ensures { result ≡ all (equal_at a b) places }
 {
-    let mut p = 0;
-    while p < places {
+    for p in 0..places {
         if a[p] != b[p] {
             return false;
         }
-        p += 1;
     }
     true
 }
@@ -60,12 +58,10 @@ fn rows_meet(a: [u32; 32], b: [u32; 32], places: usize) -> bool
     requires { places ≤ 32 }
     ensures { result ≡ any (both_at a b) places }
 {
-    let mut p = 0;
-    while p < places {
+    for p in 0..places {
         if (0 < a[p]) & (0 < b[p]) {
             return true;
         }
-        p += 1;
     }
     false
 }
@@ -86,12 +82,10 @@ fn first_weight(row: [u32; 32], places: usize) -> u32
     requires { places ≤ 32 }
     ensures { result ≡ least (weighs_at row) places }
 {
-    let mut p = 0;
-    while p < places {
+    for p in 0..places {
         if 0 < row[p] {
             return p as u32;
         }
-        p += 1;
     }
     places as u32
 }
@@ -118,16 +112,13 @@ fn least_alike(net: &[u32], firsts: &[u32; 32], t: u32) -> u32
 {
     let places = places(net);
     let first = firsts[t as usize];
-    let mut u = 0;
-    while u < t {
-        let v = u;
-        u += 1;
-        if firsts[v as usize] == first {
+    for u in 0..t {
+        if firsts[u as usize] == first {
             if places as u32 <= first {
-                return v;
+                return u;
             }
-            if rows_equal(net::taken_row(net, v), net::taken_row(net, t), places) {
-                return v;
+            if rows_equal(net::taken_row(net, u), net::taken_row(net, t), places) {
+                return u;
             }
         }
     }
@@ -139,12 +130,10 @@ fn row_empty(row: [u32; 32], places: usize) -> bool
     requires { places ≤ 32 }
     ensures { result ≡ all (zero_at row) places }
 {
-    let mut p = 0;
-    while p < places {
+    for p in 0..places {
         if row[p] != 0 {
             return false;
         }
-        p += 1;
     }
     true
 }
@@ -156,12 +145,10 @@ fn first_source(net: &[u32], firsts: &[u32; 32]) -> u32
 {
     let places = places(net);
     let transitions = transitions(net) as u32;
-    let mut t = 0;
-    while t < transitions {
+    for t in 0..transitions {
         if places as u32 <= firsts[t as usize] {
             return t;
         }
-        t += 1;
     }
     transitions
 }
@@ -176,12 +163,10 @@ fn is_free(net: &[u32], t: u32) -> bool
         return true;
     }
     let transitions = transitions(net) as u32;
-    let mut u = 0;
-    while u < transitions {
+    for u in 0..transitions {
         if !rows_fit(taken, net::taken_row(net, u), places) {
             return false;
         }
-        u += 1;
     }
     true
 }

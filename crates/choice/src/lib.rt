@@ -8,20 +8,11 @@ mod walk;
 ghost use Rattle.std.specs.Prelude.{◌≡◌, min};
 ghost use Rattle.scan.specs.Scan.{bit};
 ghost use Rattle.refusal.specs.Limits.{most_nodes};
-ghost use Rattle.refusal.specs.Refusal.{refusal};
-ghost use Rattle.refusal.specs.declared.Position.TheVariants.{Node};
 ghost use Rattle.sequential.specs.Words.{node_count};
-ghost use Rattle.choice.specs.Nodes.{nodes_refused, nodes_reply, task_nodes_reply};
+ghost use Rattle.choice.specs.Nodes.{nodes_reply, task_nodes_reply};
 
 use offers::Offer;
-use refusal::{Limits, Position, Refusal, Verdict};
-
-// `awaits` has 1 at each await node (§5.4); it is all 0 if the verdict is a refusal.
-#[derive(Clone, Copy)]
-pub struct NodesAnswer {
-    pub verdict: Verdict,
-    pub awaits: [u8; 128],
-}
+use refusal::{Limits, Position, Reason, Refusal};
 
 // V, or 128 if V is above that limit.
 fn node_count(sheet: &[u32]) -> usize
@@ -42,25 +33,15 @@ pub(crate) fn mark_if(set: bool) -> u8
     0
 }
 
-// Refused at node n.
-fn refused(number: u32, n: usize) -> NodesAnswer
-    ensures { result ≡ nodes_refused (refusal number (Node n)) }
-{
-    NodesAnswer {
-        verdict: refusal::refuse(number, Position::Node(n)),
-        awaits: [0u8; 128],
-    }
-}
-
-// Refusals 11 and 12 node by node (§6.3), and then 13 (§6.4), on any words.
-pub fn nodes(net: &[u32], sheet: &[u32]) -> NodesAnswer
+// Refusals 11 and 12 node by node (§6.3), and then 13 (§6.4), on any words. If nothing is refused, 1 at each await node (§5.4).
+pub fn nodes(net: &[u32], sheet: &[u32]) -> Result<[u8; 128], Refusal>
     ensures { result ≡ nodes_reply net.now sheet.now }
 {
     task_nodes(net, Limits::TRANSITIONS, sheet)
 }
 
 // The same after all sources but s are removed: a node with an arc by a removed source is refused by 12. If s is no source, none is removed.
-pub fn task_nodes(net: &[u32], s: u32, sheet: &[u32]) -> NodesAnswer
+pub fn task_nodes(net: &[u32], s: u32, sheet: &[u32]) -> Result<[u8; 128], Refusal>
     ensures { result ≡ task_nodes_reply net.now s sheet.now }
 {
     let choices = choice_sets::choices_only(net, s);
@@ -70,28 +51,32 @@ pub fn task_nodes(net: &[u32], s: u32, sheet: &[u32]) -> NodesAnswer
     let nodes = node_count(sheet);
     let walk = walk::walked(net, sheet, &leaders, source, transitions, nodes);
     let mut awaits = walk.awaits;
-    let mut n = walk.nodes;
     // where the walk stopped: a node that is refused, or words whose keys do not rise
-    while n < nodes {
+    for n in walk.nodes..nodes {
         let offer = offers::offer_at(net, sheet, &leaders, transitions, n as u32);
         match offer {
             Offer::Nothing => {
-                return refused(Refusal::NO_ARC, n);
+                return Err(Refusal {
+                    reason: Reason::NoArc,
+                    at: Position::Node(n),
+                });
             }
             Offer::Torn => {
-                return refused(Refusal::NOT_ONE_CHOICE_SET, n);
+                return Err(Refusal {
+                    reason: Reason::NotOneChoiceSet,
+                    at: Position::Node(n),
+                });
             }
             Offer::Whole(c) => {
                 awaits[n] = mark_if(c == source);
             }
         }
-        n += 1;
     }
     if awaits[0] == 0 {
-        return refused(Refusal::ROOT_NOT_AWAIT, 0);
+        return Err(Refusal {
+            reason: Reason::RootNotAwait,
+            at: Position::Node(0),
+        });
     }
-    NodesAnswer {
-        verdict: Verdict::Accepted,
-        awaits,
-    }
+    Ok(awaits)
 }

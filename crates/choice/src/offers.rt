@@ -20,12 +20,10 @@ fn first_present(arcs: [usize; 32], transitions: usize) -> usize
     requires { transitions ≤ 32 }
     ensures { result ≡ least (present arcs) transitions }
 {
-    let mut t = 0;
-    while t < transitions {
+    for t in 0..transitions {
         if 0 < arcs[t] {
             return t;
         }
-        t += 1;
     }
     transitions
 }
@@ -35,12 +33,10 @@ fn are_choice(arcs: [usize; 32], leaders: [u32; 32], c: u32, transitions: usize)
     requires { transitions ≤ 32 }
     ensures { result ≡ all (present_as_choice arcs leaders c) transitions }
 {
-    let mut t = 0;
-    while t < transitions {
+    for t in 0..transitions {
         if (0 < arcs[t]) != (leaders[t] == c) {
             return false;
         }
-        t += 1;
     }
     true
 }

@@ -2,9 +2,7 @@
 // before it end, so nothing is searched.
 ghost use Rattle.std.specs.Prelude.{◌≡◌, true, ◌≤◌, ◌<◌, min};
 ghost use Rattle.refusal.specs.Limits.{most_nodes, most_transitions};
-ghost use Rattle.table.specs.Table.{Rising};
-ghost use Rattle.sequential.specs.Words.{node_count, entry_count};
-ghost use Rattle.sequential.specs.Known.{ShapePasses};
+ghost use Rattle.sequential.specs.Words.{node_count};
 ghost use Rattle.graph.specs.Rows.{has_row};
 ghost use Rattle.choice.specs.Whole.{RowAt, FirstArc, SetFrom, WholeRow, SetEnds, Offering};
 ghost use Rattle.choice.specs.Passing.{Walked};
@@ -18,30 +16,12 @@ pub(crate) struct Walk {
     pub(crate) awaits: [u8; 128],
 }
 
-// Whether the keys rise: §3.4. The loop has no early exit, so that several keys are compared at once.
-fn keys_rise(sheet: &[u32]) -> bool
-    requires { ShapePasses sheet.now }
-    ensures { result ≡ true → Rising sheet.now 2 (entry_count sheet.now) }
-{
-    let entries = sheet[1] as usize;
-    let mut rise = true;
-    let mut i = 0;
-    while i + 1 < entries {
-        let next = i + 1;
-        if sheet[2 + next] <= sheet[2 + i] {
-            rise = false;
-        }
-        i += 1;
-    }
-    rise
-}
-
 // Whether a walk can begin, at the root's first arc.
 fn can_walk(net: &[u32], sheet: &[u32]) -> bool
     ensures { result ≡ true → (has_row net.now sheet.now 0 ≡ true) × RowAt sheet.now 0 0 }
 {
     if graph::has_row(net, sheet, 0) {
-        return keys_rise(sheet);
+        return table::keys_rise(sheet, 2, sheet[1] as usize);
     }
     false
 }
@@ -52,12 +32,10 @@ fn set_ends(leaders: &[u32; 32], transitions: usize) -> [u32; 32]
     ensures { SetEnds leaders.now transitions result }
 {
     let mut ends = [0u32; 32];
-    let mut t = 0;
-    while t < transitions {
+    for t in 0..transitions {
         let c = leaders[t];
-        t += 1;
         if c < Limits::TRANSITIONS {
-            ends[c as usize] = t as u32;
+            ends[c as usize] = t as u32 + 1;
         }
     }
     ends
@@ -104,15 +82,12 @@ fn whole_end(
 {
     let entries = sheet[1] as usize;
     let mut i = start + 1;
-    let mut t = c + 1;
-    while t < end {
-        let u = t;
-        t += 1;
-        if leaders[u] == c as u32 {
+    for t in c + 1..end {
+        if leaders[t] == c as u32 {
             if entries <= i {
                 return 0;
             }
-            if sheet[2 + i] != first + u as u32 {
+            if sheet[2 + i] != first + t as u32 {
                 return 0;
             }
             i += 1;
@@ -145,10 +120,9 @@ pub(crate) fn walked(
         return Walk { nodes: 0, awaits };
     }
     let ends = set_ends(leaders, transitions);
-    let mut n = 0;
     let mut first = 0;
     let mut start = 0;
-    while n < nodes {
+    for n in 0..nodes {
         let c = first_member(sheet, leaders, transitions, first, start);
         if transitions <= c {
             return Walk { nodes: n, awaits };
@@ -168,7 +142,6 @@ pub(crate) fn walked(
         awaits[n] = super::mark_if(c as u32 == source);
         first += transitions as u32;
         start = next;
-        n += 1;
     }
-    Walk { nodes: n, awaits }
+    Walk { nodes, awaits }
 }

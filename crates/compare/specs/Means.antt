@@ -1,5 +1,5 @@
 -- What a comparison says of the two schedules and of all finite lists (§10.51), and its postcondition: demand 3 is in the contract of the call itself.
-use Rattle.std.specs.Prelude.{ℕ, ◌≤◌, ◌<◌, ◌≡◌, ◌↔◌, true, List, [], ◌∷◌, ◌++◌, length, get_or, take, drop}
+use Rattle.std.specs.Prelude.{ℕ, ◌≤◌, ◌<◌, ◌≡◌, ◌↔◌, true, List, [], ◌∷◌, ◌++◌, length, get_or, take, drop, Ok}
 use Rattle.automaton.specs.Automaton.{SameLists}
 use Rattle.refusal.specs.Limits.{scratch_limit}
 use Rattle.net.specs.Checks.{IsNet}
@@ -9,10 +9,8 @@ use Rattle.sequential.specs.Schedule.{IsSchedule}
 use Rattle.sequential.specs.Checks.{WordsPass}
 use Rattle.lending.specs.Call.{CallDone}
 use Rattle.minimal.specs.Minimal.{QuotientForm}
-use Rattle.compare.specs.Compare.{compare_core}
+use Rattle.compare.specs.Compare.{compare_core, CompareAnswer}
 use Rattle.compare.specs.declared.Comparison.{Comparison}
-use Rattle.compare.specs.declared.CompareAnswer.{CompareAnswer}
-use Rattle.compare.specs.declared.CompareAnswer.TheVariants.{Compared}
 
 -- a net, and a sequential schedule of it: §6.1
 pub record Schedules (net sheet : List ℕ) : Type 0 where
@@ -43,4 +41,4 @@ pub record Compares (net first second one two : List ℕ) (found : Comparison) (
 -- what is answered and what is left in the buffers, by equations, for every input; and what the answer means if nothing is refused
 pub record CompareDone (net first second one two scratch : List ℕ) (r : CompareAnswer) (one' two' scratch' : List ℕ) : Type 0 where
   pub call : CallDone scratch_limit (compare_core net first second) (one ∷ two ∷ []) scratch r (one' ∷ two' ∷ []) scratch'
-  pub means : (found : Comparison) → r ≡ Compared found → Compares net first second one two found one' two'
+  pub means : (found : Comparison) → r ≡ Ok found → Compares net first second one two found one' two'

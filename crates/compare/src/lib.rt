@@ -1,103 +1,65 @@
 // The call that compares two schedules of a net (§10.50): their minimal forms are written, each to a buffer of its own, and then compared word by word.
 #![tactic(auto)]
 
-ghost use Rattle.std.specs.Prelude.{◌≡◌, ◌≤◌, length};
+ghost use Rattle.std.specs.Prelude.{◌≡◌, ◌≤◌, ◌∷◌, [], length, Err};
 ghost use Rattle.scan.specs.Scan.{bit};
-ghost use Rattle.compare.specs.Compare.{plain_compare, sheet_index, of_schedule, refused_by, same_fronts, CompareWritten};
+ghost use Rattle.refusal.specs.Refusal.{reason_number};
+ghost use Rattle.compare.specs.Compare.{of_schedule, refused_by, same_fronts, CompareWritten};
 ghost use Rattle.compare.specs.Means.{CompareDone};
 
-use lending::Index;
-use minimize::FormsAnswer;
-use refusal::{Limits, Refusal, Verdict};
+use lending::Fault;
+use refusal::{Limits, Numbers, Reason, Refusal};
 
 // What a comparison tells: the lengths in words of both minimal forms, and whether the forms are equal.
-#[derive(Clone, Copy)]
+#[derive(Clone, Copy, Debug, PartialEq, Eq)]
 pub struct Comparison {
     pub first: usize,
     pub second: usize,
     pub same: bool,
 }
 
-// A refusal, and the index of the schedule that it is about.
-#[derive(Clone, Copy)]
-pub struct Fault {
-    pub refusal: Refusal,
-    pub sheet: Index,
-}
+// Both lengths, and 1 if the forms are equal.
+impl Numbers for Comparison {
+    ghost numbers = { λ c. c.first ∷ c.second ∷ bit c.same ∷ [] };
 
-#[derive(Clone, Copy)]
-pub enum CompareAnswer {
-    Compared(Comparison),
-    Refused(Fault),
-}
-
-// 1 if a test holds, and else 0.
-fn bit(test: bool) -> u64
-    ensures { result ≡ bit test }
-{
-    if test {
-        return 1;
-    }
-    0
-}
-
-impl CompareAnswer {
-    // Its plain numbers: §8.1.
-    pub fn plain(self) -> [u64; 6]
-        ensures { result ≡ plain_compare self }
-    {
-        match self {
-            CompareAnswer::Compared(c) => {
-                [0u64, 0, 0, c.first as u64, c.second as u64, bit(c.same)]
-            }
-            CompareAnswer::Refused(f) => {
-                let r = f.refusal;
-                r.plain()
-            }
-        }
-    }
-
-    // The fourth own number: the index of the refused schedule, §8.4.
-    pub fn sheet(self) -> u64
-        ensures { result ≡ sheet_index self }
-    {
-        match self {
-            CompareAnswer::Compared(_) => 0,
-            CompareAnswer::Refused(f) => {
-                let sheet = f.sheet;
-                sheet.plain()
-            }
-        }
+    fn numbers(self) -> [u64; 3] {
+        [self.first as u64, self.second as u64, u64::from(self.same)]
     }
 }
+
+// What comparing answers: what it tells, or a refusal and the index of the schedule that is refused.
+pub type CompareAnswer = Result<Comparison, Fault>;
 
 // The refusals of a schedule: §7.6 to §7.17 and §7.27.
-fn of_schedule(number: u32) -> bool
-    ensures { result ≡ of_schedule number }
+fn of_schedule(reason: Reason) -> bool
+    ensures { result ≡ of_schedule (reason_number reason) }
 {
-    if number == Refusal::OVER_CAPACITY {
-        return true;
-    }
-    if number < Refusal::SCHEDULE_LENGTH {
-        return false;
-    }
-    number <= Refusal::NO_PATH_TO_AWAIT
+    matches!(
+        reason,
+        Reason::ScheduleLength
+            | Reason::ScheduleSize
+            | Reason::ScheduleOrder
+            | Reason::ScheduleValue
+            | Reason::WrongStart
+            | Reason::NoArc
+            | Reason::NotOneChoiceSet
+            | Reason::RootNotAwait
+            | Reason::NotHeld
+            | Reason::WrongTarget
+            | Reason::NotReached
+            | Reason::NoPathToAwait
+            | Reason::OverCapacity
+    )
 }
 
-// A refused answer. It names the schedule if the refusal is one about a schedule.
-fn refused(refusal: Refusal, sheet: u32) -> CompareAnswer
-    ensures { result ≡ refused_by refusal sheet }
+// A refusal that names a schedule, if it is one about a schedule.
+fn fault(refusal: Refusal, sheet: u32) -> Fault
+    ensures { Err result ≡ refused_by refusal sheet }
 {
-    if of_schedule(refusal.number) {
-        return CompareAnswer::Refused(Fault {
-            refusal,
-            sheet: Index::Known(sheet),
-        });
-    }
-    CompareAnswer::Refused(Fault {
+    Fault {
         refusal,
-        sheet: Index::Missing,
-    })
+        sheet: of_schedule(refusal.reason).then_some(sheet),
+    }
 }
 
 // Equal in length and word for word: §11.8. The loop has no early exit, so that several words are compared at once.
@@ -109,12 +71,10 @@ fn same_fronts(one: &[u32], two: &[u32], first: usize, second: usize) -> bool
         return false;
     }
     let mut alike = true;
-    let mut i = 0;
-    while i < first {
+    for i in 0..first {
         if one[i] != two[i] {
             alike = false;
         }
-        i += 1;
     }
     alike
 }
@@ -129,25 +89,17 @@ pub fn compare_into(
 ) -> CompareAnswer
     ensures { CompareWritten net.now first.now second.now one.old two.old result one.new two.new }
 {
-    let found = judge::verdict(net, first);
-    if let Verdict::Refused(r) = found {
-        return refused(r, 0);
-    }
-    let found = judge::verdict(net, second);
-    if let Verdict::Refused(r) = found {
-        return refused(r, 1);
-    }
-    match minimize::forms_of(net, first, second, one, two) {
-        FormsAnswer::Refused(r) => refused(r, 1),
-        FormsAnswer::Written(lengths) => {
-            let same = same_fronts(one, two, lengths.first, lengths.second);
-            CompareAnswer::Compared(Comparison {
-                first: lengths.first,
-                second: lengths.second,
-                same,
-            })
-        }
-    }
+    judge::verdict(net, first).map_err(|refusal| fault(refusal, 0))?;
+    judge::verdict(net, second).map_err(|refusal| fault(refusal, 1))?;
+    let lengths = minimize::forms_of(net, first, second, one, two).map_err(|refusal| fault(
+        refusal, 1,
+    ))?;
+    let same = same_fronts(one, two, lengths.first, lengths.second);
+    Ok(Comparison {
+        first: lengths.first,
+        second: lengths.second,
+        same,
+    })
 }
 
 // Whether two schedules allow the same lists, by their minimal forms: §10.50, §10.51.
@@ -161,10 +113,7 @@ pub fn compare(
 ) -> CompareAnswer
     ensures { CompareDone net.now first.now second.now one.old two.old scratch.old result one.new two.new scratch.new }
 {
-    let found = lending::scratch_fault(Limits::SCRATCH, scratch.len());
-    if let Verdict::Refused(r) = found {
-        return refused(r, 0);
-    }
+    lending::scratch_fault(Limits::SCRATCH, scratch.len())?;
     let answer = compare_into(net, first, second, one, two);
     scan::clear_front(scratch, Limits::SCRATCH);
     answer

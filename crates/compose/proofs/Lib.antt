@@ -7,3 +7,4 @@ pub mod SearchOrder
 pub mod States
 pub mod Writing
 pub mod Paths
+pub mod Given

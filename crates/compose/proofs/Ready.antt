@@ -1,6 +1,6 @@
 -- What the functions rely on holds once 28, every sheet and the first 29 have passed.
+use Rattle.std.specs.Prelude.{Ok}
 use Rattle.scan.proofs.Basics.{ℕ, ◌<◌, arith, ◌≡◌, refl, List, get_or}
-use Rattle.refusal.specs.declared.Verdict.TheVariants.{Accepted}
 use Rattle.net.specs.Check.{net_reply}
 use Rattle.net.proofs.Laws.{sizes, some-source}
 use Rattle.sequential.specs.Petri.{PetriNet, petri_net}
@@ -23,7 +23,7 @@ words-whole : (N : PetriNet) (s : ℕ) (sheet : List ℕ) → WordsHold (only N 
 unfolding key_limit arc_keys
 words-whole N s sheet w = record { arcs = record { shape = w.arcs.shape; keys = w.arcs.keys; targets = w.arcs.targets }; values = w.values }
 
-module _ (net a b c d : List ℕ) (f : Frame) (accepted : net_reply net ≡ Accepted) (count : NumberPasses (petri_net net) f.number (given_sheets f.number a b c d))
+module _ (net a b c d : List ℕ) (f : Frame) (accepted : net_reply net ≡ Ok tt) (count : NumberPasses (petri_net net) f.number (given_sheets f.number a b c d))
     (sheets : (i : ℕ) → i < f.number → SheetPasses (petri_net net) f.number (given_sheets f.number a b c d) i) (few : FewPass (petri_net net) f.number (given_sheets f.number a b c d)) where
   each : (i : ℕ) → i < f.number → Readable net (given_sheets f.number a b c d i)
   each i l = readable accepted (words-whole (petri_net net) _ (given_sheets f.number a b c d i) (sheets i l).words)

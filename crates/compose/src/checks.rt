@@ -1,21 +1,28 @@
 // The checks that come before the tuples are built: 28 (§7.28), and the whole check of each schedule with the net from which the other sources are
 // removed (§10.31).
-ghost use Rattle.std.specs.Prelude.{◌≡◌, ◌||◌, not, ltb, eqb};
+ghost use Rattle.std.specs.Prelude.{◌≡◌, ◌||◌, not, ltb, eqb, Err};
 ghost use Rattle.refusal.specs.Refusal.{refusal};
 ghost use Rattle.refusal.specs.declared.Position.TheVariants.{Nothing};
+ghost use Rattle.lending.specs.Fault.{unnamed};
 ghost use Rattle.compose.specs.Steps.{Sourced, Told};
 
-use super::frame;
+use super::tasks;
+use super::tasks::Sheets;
 use composed::{ComposeAnswer, Composition};
-use lending::Index;
-use refusal::{Position, Refusal, Verdict};
+use lending::Fault;
+use refusal::{Position, Reason, Refusal};
 
 // A refusal that is about no schedule.
-pub(crate) fn refused(number: u32) -> ComposeAnswer
-    ensures { result ≡ ComposeAnswer.Refused (refusal number Nothing) Index.Missing }
+pub(crate) fn refused(reason: Reason) -> ComposeAnswer
+    ensures { result ≡ Err (unnamed (refusal reason Nothing)) }
 {
-    let at = Position::Nothing;
-    ComposeAnswer::Refused(Refusal { number, at }, Index::Missing)
+    Err(Fault {
+        refusal: Refusal {
+            reason,
+            at: Position::Nothing,
+        },
+        sheet: None,
+    })
 }
 
 // Whether the number of schedules is above four or is not the number of sources.
@@ -28,40 +35,24 @@ pub(crate) fn wrong_number(number: usize, sources: usize) -> bool
     number != sources
 }
 
-// The verdict on all schedules, and the index of the first that is refused, 0 if none is.
-#[derive(Clone, Copy)]
-pub(crate) struct SheetsAnswer {
-    pub(crate) verdict: Verdict,
-    pub(crate) sheet: u32,
-}
-
-// Checks one schedule after the other.
-pub(crate) fn sheets_told<'a>(
-    net: &'a [u32],
+// Checks one schedule after the other: the first that is refused is named.
+pub(crate) fn sheets_told(
+    net: &[u32],
+    sheets: &Sheets<'_>,
     number: usize,
     sources: [u32; 4],
-    a: &'a [u32],
-    b: &'a [u32],
-    c: &'a [u32],
-    d: &'a [u32],
-) -> SheetsAnswer
+) -> Result<(), Fault>
     requires { Sourced net.now number sources }
-    ensures { Told net.now number a.now b.now c.now d.now result.verdict result.sheet }
+    ensures { Told net.now number sheets.now.a.now sheets.now.b.now sheets.now.c.now sheets.now.d.now result }
 {
-    let mut i = 0;
-    while i < number {
-        let sheet = frame::pick(number, i, a, b, c, d);
-        let verdict = judge::task_verdict(net, sources[i], sheet);
-        if let Verdict::Refused(_) = verdict {
-            return SheetsAnswer {
-                verdict,
-                sheet: i as u32,
-            };
+    for i in 0..number {
+        let sheet = tasks::pick(sheets, number, i);
+        if let Err(refusal) = judge::task_verdict(net, sources[i], sheet) {
+            return Err(Fault {
+                refusal,
+                sheet: Some(i as u32),
+            });
         }
-        i += 1;
     }
-    SheetsAnswer {
-        verdict: Verdict::Accepted,
-        sheet: 0,
-    }
+    Ok(())
 }

@@ -1,14 +1,15 @@
 -- Composition as an instance of what holds of every call: the checks of its words, its paths, and which schedule a refusal names.
+use Rattle.std.specs.Prelude.{Err, Ok}
+use Rattle.refusal.specs.declared.Reason.TheVariants.{Dependent, TooLarge, WrongNumber}
 use Rattle.scan.proofs.Basics.{ℕ, zero, suc, ◌<◌, ◌≡◌, refl, ap, ◌∙◌, Bool, true, false, cond, eqb, Option, none, some, List, [], ◌∷◌, ◌++◌, length}
 use Rattle.scan.specs.Scan.{when, found, passing}
 use Rattle.scan.proofs.Tests.{ne_eqb}
 use Rattle.scan.proofs.First.{or_else-next, or_else-hit, when-hit, when-miss, first-empty, first-hit}
-use Rattle.refusal.specs.Refusal.{refusal}
+use Rattle.refusal.specs.Refusal.{refusal, refusal_number}
 use Rattle.refusal.specs.Verdict.{verdict_of}
 use Rattle.refusal.specs.Finding.{found_by, finding}
 use Rattle.refusal.specs.declared.Position.TheVariants.{Nothing}
 use Rattle.refusal.specs.declared.Refusal.{Refusal}
-use Rattle.refusal.specs.declared.Verdict.TheVariants as verdict
 use Rattle.refusal.proofs.Verdicts.{then_next}
 use Rattle.refusal.proofs.Judges.{Judges, judges-found, judges-then, properly, proper-append, fails-number}
 use Rattle.net.specs.Check.{net_reply}
@@ -59,37 +60,37 @@ module _ (net : List ℕ) (number : ℕ) (sheet : ℕ → List ℕ) where
   abbrev N : PetriNet
   N = petri_net net
 
-  pub net_refused : {r : Refusal} → net_reply net ≡ verdict.Refused r → (compose_verdict net number sheet ≡ verdict.Refused r) × (sheet_beside net number sheet r ≡ none)
+  pub net_refused : {r : Refusal} → net_reply net ≡ Err r → (compose_verdict net number sheet ≡ Err r) × (sheet_beside net number sheet r ≡ none)
   unfolding compose_verdict sheet_beside
-  net_refused {r} h = (rw h refl, rw h (either (eqb r.number 21)))
+  net_refused {r} h = (rw h refl, rw h (either (eqb (refusal_number r) 21)))
     where
       either : (b : Bool) → ◌≡◌ {A = Option ℕ} (cond b none none) none
       either true = refl
       either false = refl
 
-  module _ (h : net_reply net ≡ verdict.Accepted) where
+  module _ (h : net_reply net ≡ Ok tt) where
     found-verdict : (o : Option Refusal) → compose_fault N number sheet ≡ o → compose_verdict net number sheet ≡ verdict_of o
     unfolding compose_verdict
     found-verdict o e = then_next (net_reply net) _ h ∙ ap verdict_of e
 
     pub number-refused : number_fails N number sheet ≡ true
-        → (compose_verdict net number sheet ≡ verdict.Refused (refusal 28 Nothing)) × (sheet_beside net number sheet (refusal 28 Nothing) ≡ none)
+        → (compose_verdict net number sheet ≡ Err (refusal WrongNumber Nothing)) × (sheet_beside net number sheet (refusal WrongNumber Nothing) ≡ none)
     unfolding compose_fault finding found_by sheet_beside refused_sheet
-    number-refused e = (found-verdict (some (refusal 28 Nothing)) (or_else-hit _ _ _ (when-hit _ _ e)), rw (h, e) refl)
+    number-refused e = (found-verdict (some (refusal WrongNumber Nothing)) (or_else-hit _ _ _ (when-hit _ _ e)), rw (h, e) refl)
 
     module _ (c : number_fails N number sheet ≡ false) where
       -- the first of the schedules that is refused
       module _ {i : ℕ} (l : i < number) (before : (j : ℕ) → j < i → sheet_fault N number sheet j ≡ none) {r : Refusal} (there : sheet_fault N number sheet i ≡ some r) where
-        pub sheet-refused : (compose_verdict net number sheet ≡ verdict.Refused r) × (sheet_beside net number sheet r ≡ some i)
+        pub sheet-refused : (compose_verdict net number sheet ≡ Err r) × (sheet_beside net number sheet r ≡ some i)
         unfolding compose_fault finding found_by sheet_beside refused_sheet sheet_fails found passing when
         sheet-refused = (
           found-verdict (some r) (or_else-next _ _ (when-miss _ _ c)
               ∙ or_else-hit _ _ _ (first-hit (sheet_fault N number sheet) i r (first-empty (sheet_fault N number sheet) i before) there number l)),
-          rw (ne_eqb r.number 21 other, h, c) (first-hit (passing (sheet_fails N number sheet)) i i
+          rw (ne_eqb (refusal_number r) 21 other, h, c) (first-hit (passing (sheet_fails N number sheet)) i i
               (first-empty (passing (sheet_fails N number sheet)) i (λ j k. rw (before j k) refl)) (rw there refl) number l),
         )
           where
-            other : r.number ≡ 21 → ⊥
+            other : refusal_number r ≡ 21 → ⊥
             other = (fails-number (sheet_checks (net_of N i) (sheet i)) r refl
                 (((sheet-tells (net_of N i) (sheet i) (sizes net h).some_transition).fails r).0 (unfold sheet_fault in there))).1
 
@@ -101,26 +102,26 @@ module _ (net : List ℕ) (number : ℕ) (sheet : ℕ → List ℕ) where
         -- no schedule is named from here on
         pub none_beside : (r : Refusal) → sheet_beside net number sheet r ≡ none
         unfolding sheet_beside refused_sheet sheet_fails found passing when
-        none_beside r = rw (h, c, first-empty (passing (sheet_fails N number sheet)) number (λ j k. rw (pass j k) refl)) (either (eqb r.number 21))
+        none_beside r = rw (h, c, first-empty (passing (sheet_fails N number sheet)) number (λ j k. rw (pass j k) refl)) (either (eqb (refusal_number r) 21))
           where
             either : (b : Bool) → ◌≡◌ {A = Option ℕ} (cond b none none) none
             either true = refl
             either false = refl
 
-        pub many-refused : too_many N number sheet ≡ true → compose_verdict net number sheet ≡ verdict.Refused (refusal 29 Nothing)
+        pub many-refused : too_many N number sheet ≡ true → compose_verdict net number sheet ≡ Err (refusal TooLarge Nothing)
         unfolding finding found_by
-        many-refused e = last-verdict (some (refusal 29 Nothing)) (or_else-hit _ _ _ (when-hit _ _ e))
+        many-refused e = last-verdict (some (refusal TooLarge Nothing)) (or_else-hit _ _ _ (when-hit _ _ e))
 
         module _ (few : too_many N number sheet ≡ false) where
-          pub dependent-refused : is_dependent N (tasks_of N number sheet) ≡ true → compose_verdict net number sheet ≡ verdict.Refused (refusal 30 Nothing)
+          pub dependent-refused : is_dependent N (tasks_of N number sheet) ≡ true → compose_verdict net number sheet ≡ Err (refusal Dependent Nothing)
           unfolding finding found_by
-          dependent-refused e = last-verdict (some (refusal 30 Nothing)) (or_else-next _ _ (when-miss _ _ few) ∙ or_else-hit _ _ _ (when-hit _ _ e))
+          dependent-refused e = last-verdict (some (refusal Dependent Nothing)) (or_else-next _ _ (when-miss _ _ few) ∙ or_else-hit _ _ _ (when-hit _ _ e))
 
           module _ (free : is_dependent N (tasks_of N number sheet) ≡ false) where
-            pub limits-refused : limits_exceeded N number sheet ≡ true → compose_verdict net number sheet ≡ verdict.Refused (refusal 29 Nothing)
+            pub limits-refused : limits_exceeded N number sheet ≡ true → compose_verdict net number sheet ≡ Err (refusal TooLarge Nothing)
             unfolding finding found_by
-            limits-refused e = last-verdict (some (refusal 29 Nothing)) (or_else-next _ _ (when-miss _ _ few) ∙ or_else-next _ _ (when-miss _ _ free) ∙ when-hit _ _ e)
+            limits-refused e = last-verdict (some (refusal TooLarge Nothing)) (or_else-next _ _ (when-miss _ _ few) ∙ or_else-next _ _ (when-miss _ _ free) ∙ when-hit _ _ e)
 
-            pub all-passed : limits_exceeded N number sheet ≡ false → compose_verdict net number sheet ≡ verdict.Accepted
+            pub all-passed : limits_exceeded N number sheet ≡ false → compose_verdict net number sheet ≡ Ok tt
             unfolding finding found_by
             all-passed e = last-verdict none (or_else-next _ _ (when-miss _ _ few) ∙ or_else-next _ _ (when-miss _ _ free) ∙ when-miss _ _ e)

@@ -1,4 +1,6 @@
 -- The last of the call's own numbers names the first schedule that is refused, and none if the refusal is about no schedule (§10.30).
+use Rattle.std.specs.Prelude.{Err, Ok}
+use Rattle.refusal.specs.Refusal.{Verdict, refusal_number}
 use Rattle.scan.proofs.Basics.{ℕ, ◌+◌, ◌≤◌, ◌<◌, arith, ◌≡◌, refl, sym, ap, ◌∙◌, ⊎_elim, ◌↔◌, true, false, eqb, Option, none, some, List, length}
 use mathlib.Core.Logic.Iff
 use Rattle.scan.proofs.Tests.{by_test, eqb-false, true-false}
@@ -7,8 +9,6 @@ use Rattle.scan.proofs.First.{none-some, first-at, when-none, when-some}
 use Rattle.refusal.specs.Limits.{scratch_limit}
 use Rattle.refusal.specs.Checks.{AllPass}
 use Rattle.refusal.specs.declared.Refusal.{Refusal}
-use Rattle.refusal.specs.declared.Verdict.{Verdict}
-use Rattle.refusal.specs.declared.Verdict.TheVariants as verdict
 use Rattle.refusal.proofs.Verdicts.{then-refused}
 use Rattle.net.specs.Check.{net_reply}
 use Rattle.net.proofs.Checks.{net-judged}
@@ -17,15 +17,15 @@ use Rattle.sequential.specs.Petri.{petri_net}
 use Rattle.sequential.specs.Checks.{sheet_checks}
 use Rattle.sequential.proofs.Accepted.{sheet-tells}
 use Rattle.lending.specs.Call.{CallDone, words_verdict, call_verdict, answer_of}
-use Rattle.lending.specs.Index.{plain_index, index_from}
+use Rattle.refusal.specs.Index.{plain_index, index_from}
+use Rattle.lending.specs.Fault.{sheet_index}
 use Rattle.lending.proofs.Laws.{call-enough}
 use Rattle.lending.proofs.Judged.{call-judged, words-judged}
 use Rattle.lending.proofs.Lent.{Room}
 use Rattle.composed.specs.Sheet.{net_of}
 use Rattle.composed.specs.Fault.{number_fails, sheet_fault, sheet_fails, refused_sheet}
-use Rattle.composed.specs.Call.{where_accepted, sheet_beside, compose_core, sheet_index}
+use Rattle.composed.specs.Call.{where_accepted, sheet_beside, compose_core, ComposeAnswer}
 use Rattle.composed.specs.Named.{Named}
-use Rattle.composed.specs.declared.ComposeAnswer.{ComposeAnswer}
 use Rattle.composed.proofs.Chain.{number↔}
 use Rattle.composed.proofs.Done.{compose-law, sheet-refused}
 
@@ -35,9 +35,9 @@ index-told : (o : Option ℕ) (i : ℕ) → plain_index (index_from o) ≡ i + 1
 index-told none i e = absurd (omega arith)
 index-told (some j) i e = ap some (omega arith)
 
-named-net : (v : Verdict) (o : Option ℕ) (i : ℕ) → where_accepted v o ≡ some i → (v ≡ verdict.Accepted) × (o ≡ some i)
-named-net verdict.Accepted o i e = (refl, e)
-named-net (verdict.Refused r) o i e = none-some none i refl e
+named-net : (v : Verdict) (o : Option ℕ) (i : ℕ) → where_accepted v o ≡ some i → (v ≡ Ok tt) × (o ≡ some i)
+named-net (Ok tt) o i e = (refl, e)
+named-net (Err r) o i e = none-some none i refl e
 
 not_found : (o : Option Refusal) → found o ≡ false → o ≡ none
 unfolding found
@@ -58,15 +58,15 @@ module _ (net : List ℕ) (number : ℕ) (sheet : ℕ → List ℕ) where
       (q, rw s at l, rw s at t, λ m n. when-none _ _ (b m (omega arith))))
 
   beside-says : (r : Refusal) (i : ℕ) → sheet_beside net number sheet r ≡ some i
-      → (r.number ≡ 21 → ⊥) × (net_reply net ≡ verdict.Accepted) × (number_fails (petri_net net) number sheet ≡ false) × (i < number)
+      → (refusal_number r ≡ 21 → ⊥) × (net_reply net ≡ Ok tt) × (number_fails (petri_net net) number sheet ≡ false) × (i < number)
       × (sheet_fails (petri_net net) number sheet i ≡ true) × ((j : ℕ) → j < i → sheet_fails (petri_net net) number sheet j ≡ false)
   unfolding sheet_beside
-  beside-says r i e = by_test (eqb r.number 21) (λ q. none-some none i refl (rw q at e)) (λ q.
+  beside-says r i e = by_test (eqb (refusal_number r) 21) (λ q. none-some none i refl (rw q at e)) (λ q.
       let (h, k) = named-net (net_reply net) (refused_sheet (petri_net net) number sheet) i (rw q at e) in
       let (c, l, z, b) = refused_says i k in
-      (eqb-false r.number 21 q, h, c, l, z, b))
+      (eqb-false (refusal_number r) 21 q, h, c, l, z, b))
 
-  module _ (h : net_reply net ≡ verdict.Accepted) where
+  module _ (h : net_reply net ≡ Ok tt) where
     sheet-told : (i : ℕ) → (sheet_fails (petri_net net) number sheet i ≡ false) ↔ AllPass (sheet_checks (net_of (petri_net net) i) (sheet i))
     unfolding sheet_fails sheet_fault found
     sheet-told i =
@@ -82,15 +82,15 @@ module _ (net : List ℕ) (number : ℕ) (sheet : ℕ → List ℕ) where
     name_out : (i : ℕ) → sheet_index a ≡ i + 1 → Named net number sheet s i
     name_out i e = go answered refl (ap sheet_index (sym d.reply) ∙ e)
       where
-        enough : (r : Refusal) → answered ≡ verdict.Refused r → (r.number ≡ 21 → ⊥) → scratch_limit ≤ length s
+        enough : (r : Refusal) → answered ≡ Err r → (refusal_number r ≡ 21 → ⊥) → scratch_limit ≤ length s
         enough r q n =
-            ⊎_elim (λ (f, z). absurd (n (ap (λ (x : Refusal). x.number) z))) (λ (l, f). l)
+            ⊎_elim (λ (f, z). absurd (n (ap (λ (x : Refusal). refusal_number x) z))) (λ (l, f). l)
             (((call-judged (compose_core net number sheet) outs scratch_limit s
             (words-judged (compose_core net number sheet) outs {Fits = Room (compose_core net number sheet).results outs} (compose-law net number sheet).judged (λ p. Iff.rfl))).refuses r).0 q)
 
         go : (v : Verdict) → answered ≡ v → sheet_index (answer_of (compose_core net number sheet) v) ≡ i + 1 → Named net number sheet s i
-        go verdict.Accepted q z = absurd (omega arith)
-        go (verdict.Refused r) q z =
+        go (Ok tt) q z = absurd (omega arith)
+        go (Err r) q z =
             let (n, h, c, l, f, b) = beside-says r i (index-told _ i z) in
             let (t, k, y) = some-source net h in
             record {
@@ -110,7 +110,7 @@ module _ (net : List ℕ) (number : ℕ) (sheet : ℕ → List ℕ) where
         let c = (number↔ (petri_net net) (sizes net h).some_transition (t, k, (refl, y)) number sheet).1 n.count in
         let (r, e) = found-fault (sheet_fault (petri_net net) number sheet i) (λ q. n.fails ((sheet-told h i).0 (unfold sheet_fails found in (rw q refl)))) in
         let (v, b) = sheet-refused net number sheet h c n.below (λ j m. not_found _ (unfold sheet_fails in ((sheet-told h j).1 (n.before j m)))) e in
-        let q : answered ≡ verdict.Refused r = call-enough (compose_core net number sheet) outs scratch_limit (length s) n.enough ∙ then-refused _ _ r v ∙ v in
+        let q : answered ≡ Err r = call-enough (compose_core net number sheet) outs scratch_limit (length s) n.enough ∙ then-refused _ _ r v ∙ v in
         ap sheet_index (d.reply ∙ ap (answer_of (compose_core net number sheet)) q) ∙ ap (λ (o : Option ℕ). plain_index (index_from o)) b
 
     pub named : (i : ℕ) → (sheet_index a ≡ i + 1) ↔ Named net number sheet s i

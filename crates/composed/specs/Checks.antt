@@ -1,4 +1,5 @@
 -- The checks of composition in their order (§7.63), each with its clause and its number.
+use Rattle.refusal.specs.declared.Reason.TheVariants.{Dependent, TooLarge, WrongNumber}
 use Rattle.std.specs.Prelude.{ℕ, zero, suc, ◌≤◌, ◌<◌, ◌≡◌, List, [], ◌∷◌, ◌++◌, length}
 use Rattle.refusal.specs.Limits.{most_nodes, most_entries, most_count}
 use Rattle.refusal.specs.Checks.{Check, once}
@@ -39,10 +40,10 @@ module _ (N : PetriNet) (number : ℕ) (sheet : ℕ → List ℕ) where
     pub entries : length (keys N (composed N (tasks_of N number sheet))) ≤ most_entries
 
   abbrev pub number_checks : List Check
-  number_checks = once NumberPasses 28 ∷ []
+  number_checks = once NumberPasses WrongNumber ∷ []
 
   abbrev pub last_checks : List Check
-  last_checks = once FewPass 29 ∷ once (Independent N tasks) 30 ∷ once LimitsPass 29 ∷ []
+  last_checks = once FewPass TooLarge ∷ once (Independent N tasks) Dependent ∷ once LimitsPass TooLarge ∷ []
 
   abbrev pub compose_checks : List Check
   compose_checks = number_checks ++ (each_sheet number ++ last_checks)

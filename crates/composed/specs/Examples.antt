@@ -1,4 +1,5 @@
 -- Compositions to try: the net, the sheets, and the fault or the words that are written.
+use Rattle.refusal.specs.declared.Reason.TheVariants.{Dependent, NotOneChoiceSet, WrongNumber}
 use Rattle.std.specs.Prelude.{ℕ, List, [], ◌∷◌, get_or}
 use Rattle.std.proofs.Math.Option.{Option, none, some}
 use Rattle.refusal.specs.Refusal.{refusal}
@@ -55,12 +56,12 @@ table =
     record { net = apart; number = 2; sheets = apart_a ∷ apart_b ∷ []; fault = none; index = none; written = apart_both } ∷
     record { net = flag; number = 2; sheets = flag_y ∷ flag_b ∷ []; fault = none; index = none; written = flag_both } ∷
     -- both take the one F: after a x the sum at F is 0, after b z it would be - 1
-    record { net = flag; number = 2; sheets = flag_a ∷ flag_b ∷ []; fault = some (refusal 30 Nothing); index = none; written = [] } ∷
+    record { net = flag; number = 2; sheets = flag_a ∷ flag_b ∷ []; fault = some (refusal Dependent Nothing); index = none; written = [] } ∷
     -- one sheet for two sources, and in falling order: node 0 of the first sheet offers the removed source b
-    record { net = apart; number = 1; sheets = apart_a ∷ []; fault = some (refusal 28 Nothing); index = none; written = [] } ∷
-    record { net = apart; number = 2; sheets = apart_b ∷ apart_a ∷ []; fault = some (refusal 12 (Node 0)); index = some 0; written = [] } ∷
+    record { net = apart; number = 1; sheets = apart_a ∷ []; fault = some (refusal WrongNumber Nothing); index = none; written = [] } ∷
+    record { net = apart; number = 2; sheets = apart_b ∷ apart_a ∷ []; fault = some (refusal NotOneChoiceSet (Node 0)); index = some 0; written = [] } ∷
     -- a sheet of the whole net is no sheet of one source
-    record { net = apart; number = 2; sheets = apart_a ∷ apart_both ∷ []; fault = some (refusal 12 (Node 0)); index = some 1; written = [] } ∷
+    record { net = apart; number = 2; sheets = apart_a ∷ apart_both ∷ []; fault = some (refusal NotOneChoiceSet (Node 0)); index = some 1; written = [] } ∷
     -- one source: the sheet itself, here with its nodes renumbered breadth first
     record {
       net = 1 ∷ 2 ∷ 2 ∷ 1 ∷ 2 ∷ 1 ∷ 1 ∷ [];

@@ -1,11 +1,11 @@
 -- What the demands use about every call: when it answers 0, what its output buffers then hold, and that nothing depends on what the buffers held before.
+use Rattle.std.specs.Prelude.{Ok}
 use Rattle.scan.proofs.Basics.{ℕ, ◌≤◌, ◌≡◌, sym, ◌∙◌, inl, inr, ◌↔◌, List, [], ◌∷◌, ◌++◌, length, get_or, take, drop}
 use mathlib.Core.Logic.Iff
 use lib.ListN.{get_or-append}
 use Rattle.scan.proofs.Tests.{by_less, by_equal}
 use Rattle.refusal.specs.Limits.{scratch_limit}
 use Rattle.refusal.specs.Checks.{Check}
-use Rattle.refusal.specs.declared.Verdict.TheVariants.{Accepted}
 use Rattle.refusal.proofs.Judges.{pass-append}
 use Rattle.lending.specs.Call.{Core, CallDone, buffer}
 use Rattle.lending.specs.Demands.{number, own}
@@ -19,7 +19,7 @@ use Rattle.demands.specs.Replay.{LeftAlike}
 module _ {Answer : Type 0} {core : Core Answer} {plain : Answer → List ℕ} {numbers : List ℕ} {words : List Check} (law : Lawful core plain numbers words) where
   module _ {limit : ℕ} {outs outs' : List (List ℕ)} {s s' : List ℕ} {a : Answer} (d : CallDone limit core outs s a outs' s') where
     -- exactly where scratch suffices, the words pass and the results fit
-    pub call-zero : (number (plain a) ≡ 0) ↔ ((limit ≤ length s) × (core.verdict ≡ Accepted) × Room core.results outs)
+    pub call-zero : (number (plain a) ≡ 0) ↔ ((limit ≤ length s) × (core.verdict ≡ Ok tt) × Room core.results outs)
     call-zero =
         let (f, g) = (by-checks law d (words-judged core outs {Fits = Room core.results outs} law.judged (λ p. Iff.rfl))).zero in (
           λ z. let b = done-zero law d z in ((f z).0, b.passed, b.room),

@@ -1,4 +1,5 @@
 -- What is promised of capacities, proved.
+use Rattle.refusal.specs.declared.Reason.TheVariants.{SmallOutput}
 use Rattle.scan.proofs.Basics.{ℕ, ◌≤◌, arith, ◌≡◌, refl, sym, ap, ◌∙◌, true, List, [], ◌∷◌, ◌++◌, length, take, drop}
 use Rattle.scan.proofs.First.{none-some}
 use Rattle.automaton.specs.Automaton.{allows}
@@ -125,19 +126,19 @@ module _ (net : List ℕ) (h : NoCapacityKeys net) where
     fresh-walker = λ v w d. both net-26 net-27 (demand1.fresh-walker net v w d).0;
     check = λ sheet s s' a d. spares sheet s [] refl refl ((demand1.check net sheet).by_numbers s s' a tt d);
     place_bounds = λ sheet out s out' s' v d.
-        spares sheet s (once (N.places ≤ length out) 22 ∷ []) refl refl ((demand1.place_bounds net sheet out).by_numbers s s' v out' d);
+        spares sheet s (once (N.places ≤ length out) SmallOutput ∷ []) refl refl ((demand1.place_bounds net sheet out).by_numbers s s' v out' d);
     fire = λ sheet s s' w next t a d. spares sheet s (walker_checks N sheet w t) refl refl ((demand1.fire net sheet w t).by_numbers s s' a next d);
     run = λ sheet firings out s out' s' a d.
-        spares sheet s (run_checks N sheet firings ++ (once (N.places ≤ length out) 22 ∷ [])) refl refl ((demand1.run net sheet firings out).by_numbers s s' a out' d);
+        spares sheet s (run_checks N sheet firings ++ (once (N.places ≤ length out) SmallOutput ∷ [])) refl refl ((demand1.run net sheet firings out).by_numbers s s' a out' d);
     replay = λ sheet log taken put s taken' put' s' a d.
-        spares sheet s (replay_checks N sheet log ++ (once ((N.places ≤ length taken) × (N.places ≤ length put)) 22 ∷ [])) refl refl
+        spares sheet s (replay_checks N sheet log ++ (once ((N.places ≤ length taken) × (N.places ≤ length put)) SmallOutput ∷ [])) refl refl
         ((replay-demand.every net sheet log taken put).by_numbers s s' a (taken', put') d);
     minimal-form = λ sheet out s out' s' a d.
         let (needed, every) = demand1.minimal-form net sheet in
-        spares sheet s (once (needed ≤ length out) 22 ∷ []) refl refl ((every out).by_numbers s s' a out' d);
+        spares sheet s (once (needed ≤ length out) SmallOutput ∷ []) refl refl ((every out).by_numbers s s' a out' d);
     mend = λ sheet out list s out' list' s' a d.
         let c = mend-demand.every net sheet in
-        call-spares s (mend_checks N sheet) (once ((c.for_sheet ≤ length out) × (c.for_list ≤ length list)) 22 ∷ []) (without-spared 26 (mend_checks N sheet) refl)
+        call-spares s (mend_checks N sheet) (once ((c.for_sheet ≤ length out) × (c.for_list ≤ length list)) SmallOutput ∷ []) (without-spared 26 (mend_checks N sheet) refl)
         (without-spared 27 (mend_checks N sheet) refl) refl refl ((c.every out list).by_numbers s s' a (out', list') d);
   }
 

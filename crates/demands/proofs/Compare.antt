@@ -1,11 +1,11 @@
 -- What is promised of the comparison of two schedules, proved: what every call does, and what the postcondition says in the words of demand 3.
+use Rattle.std.specs.Prelude.{Ok}
 use Rattle.scan.proofs.Basics.{ℕ, ◌≤◌, arith, ◌≡◌, refl, sym, subst, ◌↔◌, List, [], ◌∷◌, length}
 use mathlib.Core.Logic.Iff
 use Rattle.scan.specs.Scan.{bit}
 use Rattle.scan.proofs.Count.{bit-one, bit_le}
 use Rattle.automaton.specs.Automaton.{SameLists}
 use Rattle.refusal.specs.Limits.{scratch_limit}
-use Rattle.refusal.specs.declared.Verdict.TheVariants as verdict
 use Rattle.sequential.specs.Check.{schedule_reply}
 use Rattle.lending.specs.Call.{written_over}
 use Rattle.lending.specs.Demands.{EveryCall}
@@ -50,7 +50,7 @@ module _ (net x y : List ℕ) (c : Comparing net x y) where
   answered : Answered (compare_core net x y) (c.one ∷ c.two ∷ []) c.answer (c.one' ∷ c.two' ∷ [])
   answered = done-zero (compare-law net x y) c.done.call c.zero
 
-  accepted-both : (schedule_reply net x ≡ verdict.Accepted) × (schedule_reply net y ≡ verdict.Accepted)
+  accepted-both : (schedule_reply net x ≡ Ok tt) × (schedule_reply net y ≡ Ok tt)
   accepted-both = both-pass net x y answered.passed
 
   sizes_are : (first_size c ≡ length (minimal_form net x)) × (second_size c ≡ length (minimal_form net y))
@@ -72,7 +72,7 @@ module _ (net x y : List ℕ) (c : Comparing net x y) where
   same_lists : (told_same c ≡ 1) ↔ SameLists (said net x) (said net y) 0 0
   same_lists = Iff.trans same-words (forms-equal net x y accepted-both.0 accepted-both.1)
 
-form-of-sheet : (net sheet : List ℕ) → schedule_reply net sheet ≡ verdict.Accepted → {out form out' : List ℕ} → form ≡ minimal_form net sheet
+form-of-sheet : (net sheet : List ℕ) → schedule_reply net sheet ≡ Ok tt → {out form out' : List ℕ} → form ≡ minimal_form net sheet
     → length (minimal_form net sheet) ≤ length out → out' ≡ written_over (minimal_form net sheet) out → FormOfSheet net sheet out form out'
 form-of-sheet net sheet h e l w = rw e (record {
   original = reply-accepted net sheet h;

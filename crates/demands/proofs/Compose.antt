@@ -1,4 +1,5 @@
 -- What is promised of composition, proved.
+use Rattle.std.specs.Prelude.{Ok}
 use Rattle.scan.proofs.Basics.{ℕ, ◌+◌, ◌-◌, ◌*◌, ◌≤◌, ◌<◌, arith, ◌≡◌, refl, sym, ap, ◌∙◌, ltb, option_map, List, [], ◌∷◌, ◌++◌, length, get_or}
 use mathlib.Core.Path.{subst, fun_ext}
 use mathlib.Core.Logic.Iff
@@ -8,7 +9,6 @@ use Rattle.automaton.specs.Automaton.{allows}
 use Rattle.automaton.specs.Reach.{Reachable}
 use Rattle.automaton.specs.Quotient.{Renumbering}
 use Rattle.refusal.specs.Limits.{scratch_limit}
-use Rattle.refusal.specs.declared.Verdict.TheVariants as verdict
 use Rattle.refusal.proofs.Judges.{pass-append}
 use Rattle.net.specs.Checks.{net_checks}
 use Rattle.net.specs.Check.{net_reply}
@@ -26,8 +26,7 @@ use Rattle.composed.specs.Product.{Tasks, OnePerSource, held_at, held_by_all, pr
 use Rattle.composed.specs.Composed.{ReachedPart, trimmed_number, OwnSources}
 use Rattle.composed.specs.Sheet.{four_sheets, given_sheets, read_sheets, source_of, composed_sheet}
 use Rattle.composed.specs.Checks.{compose_checks, Composes}
-use Rattle.composed.specs.Call.{compose_verdict, compose_core, ComposeDone, plain_compose}
-use Rattle.composed.specs.declared.ComposeAnswer.{ComposeAnswer}
+use Rattle.composed.specs.Call.{compose_verdict, compose_core, ComposeDone, plain_compose, ComposeAnswer}
 use Rattle.composed.proofs.Chain.{one-per-source, composes↔}
 use Rattle.composed.proofs.Commute.{commutes}
 use Rattle.composed.proofs.Composed.{await-sources, sources-await}
@@ -60,10 +59,10 @@ module _ (net : List ℕ) (k : ℕ) (a b c d : List ℕ) where
   X = tasks net k a b c d
 
   module _ (x : Composing net k a b c d) where
-    accepted : compose_verdict net k (given_sheets k a b c d) ≡ verdict.Accepted
+    accepted : compose_verdict net k (given_sheets k a b c d) ≡ Ok tt
     accepted = (done-zero (compose-law net k sheet) x.done x.zero).passed
 
-    net_accepted : net_reply net ≡ verdict.Accepted
+    net_accepted : net_reply net ≡ Ok tt
     net_accepted = (net-judged net).accepts.1 ((pass-append (net_checks net) (compose_checks N k sheet)).0 ((compose-judged net k sheet).accepts.0 accepted)).0
 
     T : 0 < (petri_net net).transitions
@@ -94,7 +93,7 @@ module _ (net : List ℕ) (k : ℕ) (a b c d : List ℕ) where
 
     -- ---- what they say
 
-    reply : schedule_reply net (composed_by x) ≡ verdict.Accepted
+    reply : schedule_reply net (composed_by x) ≡ Ok tt
     reply = rw words_are ((accepted-exactly net (composed_sheet N k sheet)).1 (record {
       net_accepted = net_accepted;
       words = written-words N T S k sheet composes;

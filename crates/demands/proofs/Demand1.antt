@@ -1,9 +1,8 @@
 -- Demand 1, proved: each call is an instance of what is true of every call.
+use Rattle.std.specs.Prelude.{Err, Ok}
 use Rattle.scan.proofs.Basics.{ℕ, ◌≡◌, refl, List, length, replicate}
 use mathlib.Core.Logic.Iff
-use Rattle.refusal.specs.Refusal.{plain_verdict}
-use Rattle.refusal.specs.declared.Verdict.{Verdict}
-use Rattle.refusal.specs.declared.Verdict.TheVariants.{Accepted, Refused}
+use Rattle.refusal.specs.Refusal.{plain_verdict, Verdict}
 use Rattle.net.specs.Checks.{net_checks}
 use Rattle.net.specs.Check.{NetDone}
 use Rattle.net.proofs.Checks.{net-judged}
@@ -28,8 +27,8 @@ pub net-by : (net : List ℕ) (v : Verdict) → NetDone net v → ByChecks (net_
 net-by net v e = rw e (verdict-by-checks _ (net_checks net) (net-judged net) refl)
 
 refused-walker : (net : List ℕ) (v : Verdict) (w : Walker) → w ≡ fresh_walker v net → (number (plain_verdict v) ≡ 0 → ⊥) → w ≡ walker 0 (replicate 32 0)
-refused-walker net Accepted w e n = absurd (n refl)
-refused-walker net (Refused r) w e n = e
+refused-walker net (Ok tt) w e n = absurd (n refl)
+refused-walker net (Err r) w e n = e
 
 pub demand1 : Demand1
 demand1 = record {

@@ -5,8 +5,7 @@ use Rattle.scan.specs.Scan.{bit, count}
 use Rattle.scan.proofs.Tests.{by_test}
 use Rattle.scan.proofs.Tabulate.{tabulate-length, tabulate-at}
 use Rattle.automaton.specs.Reach.{Reachable}
-use Rattle.refusal.specs.Refusal.{plain_verdict}
-use Rattle.refusal.specs.declared.Verdict.{Verdict}
+use Rattle.refusal.specs.Refusal.{plain_verdict, Verdict}
 use Rattle.net.specs.Checks.{IsNet}
 use Rattle.net.proofs.Checks.{net-judged}
 use Rattle.net.proofs.Laws.{sizes, some-source, start_no_place}
@@ -23,8 +22,7 @@ use Rattle.sequential.proofs.Runs.{from-root, runs, goes_on}
 use Rattle.sequential.proofs.Published.{sequential, published-schedule}
 use Rattle.sequential.proofs.Numbers.{arcs-counted}
 use Rattle.sequential.proofs.Bounds.{bounds-length, bounds-at, least-bound}
-use Rattle.judge.specs.Answer.{counts_of, plain_check}
-use Rattle.judge.specs.declared.CheckAnswer.{CheckAnswer}
+use Rattle.judge.specs.Answer.{counts_of, plain_check, CheckAnswer}
 use Rattle.lending.specs.Call.{written_over}
 use Rattle.lending.specs.Demands.{number, own}
 use Rattle.lending.proofs.Judged.{words-judged-none}
@@ -34,10 +32,8 @@ use Rattle.schedule.specs.Walker.{Stands}
 use Rattle.schedule.specs.Firing.{fresh_walker, end_counts}
 use Rattle.refusal.specs.Limits.{scratch_limit}
 use Rattle.schedule.specs.Calls.{check_core, CheckDone, BoundsDone, FreshDone, FireDone, RunDone}
-use Rattle.schedule.specs.Plain.{plain_fire, plain_run}
+use Rattle.schedule.specs.Plain.{plain_fire, plain_run, FireAnswer, RunAnswer}
 use Rattle.schedule.specs.declared.Walker.{Walker}
-use Rattle.schedule.specs.declared.FireAnswer.{FireAnswer}
-use Rattle.schedule.specs.declared.RunAnswer.{RunAnswer}
 use Rattle.schedule.proofs.Walkers.{walker-out, step-tells, handed-back}
 use Rattle.schedule.proofs.Following.{run-leads, end-length}
 use Rattle.schedule.proofs.Done.{check-law, bounds-law, fire-law, run-law}

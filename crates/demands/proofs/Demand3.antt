@@ -1,8 +1,8 @@
 -- Demand 3, proved: what each call writes is the minimal form, which is the one that merging and numbering give.
+use Rattle.std.specs.Prelude.{Ok}
 use Rattle.scan.proofs.Basics.{ℕ, ◌+◌, ◌*◌, ◌≤◌, arith, ◌≡◌, refl, sym, subst, ◌∙◌, ◌↔◌, List, [], ◌∷◌, length}
 use mathlib.Core.Logic.Iff
 use Rattle.refusal.specs.Limits.{most_entries}
-use Rattle.refusal.specs.declared.Verdict.TheVariants as verdict
 use Rattle.sequential.specs.Check.{schedule_reply}
 use Rattle.sequential.proofs.Accepted.{accepts}
 use Rattle.lending.specs.Call.{CallDone}
@@ -10,8 +10,7 @@ use Rattle.lending.specs.Demands.{number}
 use Rattle.lending.proofs.Lent.{room-one}
 use Rattle.lending.proofs.Demands.{every-call-one}
 use Rattle.minimal.specs.Minimal.{minimal_form}
-use Rattle.minimal.specs.Form.{form_core, plain_form}
-use Rattle.minimal.specs.declared.FormAnswer.{FormAnswer}
+use Rattle.minimal.specs.Form.{form_core, plain_form, FormAnswer}
 use Rattle.minimal.proofs.Minimal.{form-accepted, form-lists, form-short, form-quotient, form-unique, forms-equal}
 use Rattle.minimal.proofs.Done.{form-law}
 use Rattle.demands.specs.Terms.{Accepted}
@@ -21,7 +20,7 @@ use Rattle.demands.proofs.Checked.{accepted-reply, reply-accepted, always-accept
 
 -- ---- what merging and numbering give
 
-module _ (net sheet : List ℕ) (h : schedule_reply net sheet ≡ verdict.Accepted) where
+module _ (net sheet : List ℕ) (h : schedule_reply net sheet ≡ Ok tt) where
   pub form-merges : Merges net sheet (minimal_form net sheet)
   form-merges =
       let q = form-quotient net sheet h in
@@ -49,7 +48,7 @@ module _ (net sheet : List ℕ) (c : Form net sheet) where
 
 -- for any limit of scratch
 pub form-zero : (net sheet : List ℕ) {limit : ℕ} {out s out' s' : List ℕ} {a : FormAnswer} → CallDone limit (form_core net sheet) (out ∷ []) s a (out' ∷ []) s'
-    → (number (plain_form a) ≡ 0) ↔ ((limit ≤ length s) × (schedule_reply net sheet ≡ verdict.Accepted) × (length (minimal_form net sheet) ≤ length out))
+    → (number (plain_form a) ≡ 0) ↔ ((limit ≤ length s) × (schedule_reply net sheet ≡ Ok tt) × (length (minimal_form net sheet) ≤ length out))
 form-zero net sheet d =
     let (f, g) = call-zero (form-law net sheet) d in
     (λ z. let (l, h, m) = f z in (l, h, m 0), λ (l, h, m). g (l, h, (room-one _ _).0 m))

@@ -1,14 +1,15 @@
 -- When the call of composition answers 30: exactly if no counts make a schedule, and exactly if in some reached state a task fires what is not enabled.
+use Rattle.std.specs.Prelude.{Ok}
+use Rattle.refusal.specs.declared.Reason.TheVariants as reason
 use Rattle.scan.proofs.Basics.{ℕ, ◌<◌, arith, ◌≡◌, refl, sym, ap, ◌∙◌, ⊎_elim, inl, inr, List, [], ◌∷◌, ◌++◌}
 use mathlib.Core.Logic.Iff
 use Rattle.scan.proofs.Tests.{by_test, true-false}
 use Rattle.scan.specs.Scan.{first}
 use Rattle.scan.proofs.First.{none-some}
-use Rattle.refusal.specs.Refusal.{refusal}
+use Rattle.refusal.specs.Refusal.{refusal, refusal_number}
 use Rattle.refusal.specs.Checks.{AllPass, FirstFails}
 use Rattle.refusal.specs.declared.Position.TheVariants.{Nothing}
 use Rattle.refusal.specs.declared.Refusal.{Refusal}
-use Rattle.refusal.specs.declared.Verdict.TheVariants as verdict
 use Rattle.refusal.proofs.Judges.{fail-append}
 use Rattle.refusal.proofs.Verdicts.{accepted-refused}
 use Rattle.net.specs.Checks.{net_checks}
@@ -25,14 +26,13 @@ use Rattle.composed.specs.Composed.{Dependent, Independent, is_dependent, Compos
 use Rattle.composed.specs.Sheet.{given_sheets}
 use Rattle.composed.specs.Fault.{sheet_fault}
 use Rattle.composed.specs.Checks.{each_sheet, last_checks, compose_checks}
-use Rattle.composed.specs.Call.{compose_core, ComposeDone, plain_compose}
-use Rattle.composed.specs.declared.ComposeAnswer.{ComposeAnswer}
+use Rattle.composed.specs.Call.{compose_core, ComposeDone, plain_compose, ComposeAnswer}
 use Rattle.composed.proofs.Chain.{sheet↔, sheets↔, sheets-tell, one-per-source}
 use Rattle.composed.proofs.Dependent.{dependent↔, independent↔, dependent-early, independent↔composable}
 use Rattle.composed.proofs.Done.{compose-law, compose-judged}
 use Rattle.demands.specs.Compose.{tasks, all_compose_checks, SheetsPass, DependentAnswer}
 
-module _ (net : List ℕ) (h : net_reply net ≡ verdict.Accepted) where
+module _ (net : List ℕ) (h : net_reply net ≡ Ok tt) where
   pub some_transition : 0 < (petri_net net).transitions
   some_transition = (sizes net h).some_transition
 
@@ -50,7 +50,7 @@ module _ (net : List ℕ) (k : ℕ) (a b c d : List ℕ) where
   X = tasks net k a b c d
 
   module _ {out s out' s' : List ℕ} {r : ComposeAnswer} (done : ComposeDone net k a b c d out s r out' s') (before : SheetsPass net k a b c d s) where
-    h : net_reply net ≡ verdict.Accepted
+    h : net_reply net ≡ Ok tt
     h = (net-judged net).accepts.1 before.net_passes
 
     T : 0 < (petri_net net).transitions
@@ -69,35 +69,33 @@ module _ (net : List ℕ) (k : ℕ) (a b c d : List ℕ) where
     told = by-checks (compose-law net k sheet) done (words-judged (compose_core net k sheet) (out ∷ []) (compose-judged net k sheet) (λ p. Iff.rfl))
 
     -- what fails where all of these pass
-    first-left : {f : Refusal} → FirstFails (compose_checks (petri_net net) k (given_sheets k a b c d)) f → f.number ≡ 30 → Independent (petri_net net) (tasks net k a b c d) → ⊥
+    first-left : {f : Refusal} → FirstFails (compose_checks (petri_net net) k (given_sheets k a b c d)) f → refusal_number f ≡ 30 → Independent (petri_net net) (tasks net k a b c d) → ⊥
     first-left {f} g e I =
         ⊎_elim (λ (n, q). n before.number_passes)
         (λ (p, g₁). ⊎_elim (λ z. none-some (first (sheet_fault N k sheet) k) f ((sheets-tell N T S k sheet k).passes.1 all-sheets) (((sheets-tell N T S k sheet k).fails f).1 z))
         (λ (z, g₂). ⊎_elim (λ (n, q). n before.few)
         (λ (u, g₃). ⊎_elim (λ (n, q). n I)
-        (λ (v, g₄). ⊎_elim (λ (n, q). other 29 f q e (λ w. omega arith)) (λ (w, y). y) g₄) g₃) g₂) ((fail-append (each_sheet N k sheet k) (last_checks N k sheet) f).0 g₁)) g
-      where
-        other : (n : ℕ) (f : Refusal) → f ≡ refusal n Nothing → f.number ≡ 30 → (n ≡ 30 → ⊥) → ⊥
-        other n f q e d = d (sym (ap (λ (x : Refusal). x.number) q) ∙ e)
+        (λ (v, g₄). ⊎_elim (λ (n, q). let w : ◌≡◌ {A = ℕ} 29 30 = sym (ap (λ (x : Refusal). refusal_number x) q) ∙ e in omega arith) (λ (w, y). y) g₄) g₃) g₂)
+        ((fail-append (each_sheet N k sheet k) (last_checks N k sheet) f).0 g₁)) g
 
     to : number (plain_compose r) ≡ 30 → Composable (petri_net net) (tasks net k a b c d) → ⊥
     to e C =
         let I = (independent↔composable N X tasks-pass).1 C in
         let (f, g, q) = told.named (λ z. let w : ◌≡◌ {A = ℕ} 0 30 = sym z ∙ e in omega arith) in
-        let m : f.number ≡ 30 = sym (ap number q) ∙ e in
+        let m : refusal_number f ≡ 30 = sym (ap number q) ∙ e in
         ⊎_elim (λ (z, y). z before.scratch_holds)
         (λ (z, g₁). ⊎_elim
         (λ g₂. ⊎_elim (λ y. accepted-refused (net_reply net) f h (((net-judged net).refuses f).1 y)) (λ (y, g₃). first-left g₃ m I) ((fail-append (net_checks net) (compose_checks N k sheet) f).0 g₂))
-        (λ (y, g₂). ⊎_elim (λ (v, w). let t : ◌≡◌ {A = ℕ} 22 30 = sym (ap (λ (x : Refusal). x.number) w) ∙ m in omega arith) (λ (v, w). w) g₂)
+        (λ (y, g₂). ⊎_elim (λ (v, w). let t : ◌≡◌ {A = ℕ} 22 30 = sym (ap (λ (x : Refusal). refusal_number x) w) ∙ m in omega arith) (λ (v, w). w) g₂)
         ((fail-append (net_checks net ++ compose_checks N k sheet) _ f).0 g₁)) g
 
     from : (Composable (petri_net net) (tasks net k a b c d) → ⊥) → number (plain_compose r) ≡ 30
     from n =
-        let last = (fail-append (each_sheet N k sheet k) (last_checks N k sheet) (refusal 30 Nothing)).1
+        let last = (fail-append (each_sheet N k sheet k) (last_checks N k sheet) (refusal reason.Dependent Nothing)).1
         (inr (all-sheets, inr (before.few, inl (λ I. n ((independent↔composable N X tasks-pass).0 I), refl)))) in
-        let f = (fail-append (net_checks net ++ compose_checks N k sheet) _ (refusal 30 Nothing)).1
-        (inl ((fail-append (net_checks net) (compose_checks N k sheet) (refusal 30 Nothing)).1 (inr (before.net_passes, inr (before.number_passes, last))))) in
-        ap number (told.this (refusal 30 Nothing) (inr (before.scratch_holds, f)))
+        let f = (fail-append (net_checks net ++ compose_checks N k sheet) _ (refusal reason.Dependent Nothing)).1
+        (inl ((fail-append (net_checks net) (compose_checks N k sheet) (refusal reason.Dependent Nothing)).1 (inr (before.net_passes, inr (before.number_passes, last))))) in
+        ap number (told.this (refusal reason.Dependent Nothing) (inr (before.scratch_holds, f)))
 
     -- whether some state fires a transition that is not enabled is decided
     disabled : number (plain_compose r) ≡ 30 → Dependent (petri_net net) (tasks net k a b c d)

@@ -1,12 +1,12 @@
 -- The rows of worked examples hold: one computation of the definitions for a table, and one law that carries it to the calls.
+use Rattle.std.specs.Prelude.{Err, Ok}
+use Rattle.refusal.specs.Refusal.{Verdict}
 use Rattle.scan.proofs.Basics.{ℕ, ◌≤◌, arith, ◌≡◌, refl, ap, ◌∙◌, List, [], ◌∷◌, length, take}
 use mathlib.Core.List.{map}
 use Rattle.scan.specs.Scan.{or_else, when, found, first, all, any, bit, count, passing, least, tabulate}
 use Rattle.table.specs.Table.{key_at, value_at, entry_of}
 use Rattle.table.specs.Keys.{key_fails}
 use Rattle.refusal.specs.Finding.{found_at, found_by, finding}
-use Rattle.refusal.specs.declared.Verdict.{Verdict}
-use Rattle.refusal.specs.declared.Verdict.TheVariants as verdict
 use Rattle.automaton.specs.Reach.{arc_into, arc_from, reached_in, leads_in}
 use Rattle.automaton.specs.Equivalence.{equal_labels, agree, same_in, same}
 use Rattle.automaton.specs.BreadthFirst.{class_at, index_of, enter, expand, explored, order}
@@ -18,8 +18,7 @@ use Rattle.sequential.specs.Words as words
 use Rattle.sequential.specs.Tests as tests
 use Rattle.sequential.specs.Check as check
 use Rattle.sequential.specs.Check.{schedule_reply}
-use Rattle.judge.specs.Answer.{counts_of, plain_check}
-use Rattle.judge.specs.declared.CheckAnswer.{CheckAnswer}
+use Rattle.judge.specs.Answer.{counts_of, plain_check, CheckAnswer}
 use Rattle.lending.specs.Call.{answer_of}
 use Rattle.lending.specs.Demands.{own}
 use Rattle.lending.proofs.Laws.{call-enough}
@@ -30,8 +29,7 @@ use Rattle.sequential.proofs.Accepted.{schedule-judged}
 use Rattle.schedule.specs.Calls.{check_core, CheckDone}
 use Rattle.encoding.specs.Encoding as encoding
 use Rattle.minimal.specs.Minimal.{minimal_form}
-use Rattle.minimal.specs.Form.{plain_form, FormDone}
-use Rattle.minimal.specs.declared.FormAnswer.{FormAnswer}
+use Rattle.minimal.specs.Form.{plain_form, FormDone, FormAnswer}
 use Rattle.minimal.proofs.Minimal.{form-short}
 use Rattle.minimal.proofs.Done.{form-law}
 use Rattle.demands.specs.Examples.{Row, starred, further, capped, Holds, AllHold, Starred, FurtherRows, CappedRows}
@@ -44,8 +42,8 @@ answered r = plain_check (answer_of (check_core r.net r.sheet) (schedule_reply r
 
 -- the minimal form of an accepted one
 abbrev pub form_where : Verdict → List ℕ → List ℕ → List ℕ
-form_where verdict.Accepted net sheet = minimal_form net sheet
-form_where (verdict.Refused r) net sheet = []
+form_where (Ok tt) net sheet = minimal_form net sheet
+form_where (Err r) net sheet = []
 
 abbrev pub formed : Row → List ℕ
 formed r = form_where (schedule_reply r.net r.sheet) r.net r.sheet
@@ -63,10 +61,10 @@ form-answers : (net sheet out s out' s' : List ℕ) (a : FormAnswer) → scratch
 form-answers net sheet out s out' s' a l m d = go (schedule_reply net sheet) refl
   where
     go : (v : Verdict) → schedule_reply net sheet ≡ v → take (own (plain_form a) 0) out' ≡ form_where v net sheet
-    go verdict.Accepted e =
+    go (Ok tt) e =
         let z = (form-zero net sheet d).1 (l, e, omega (arith, form-short net sheet e)) in
         made-form net sheet (record { limit = scratch_limit; out = out; scratch = s; answer = a; out' = out'; scratch' = s'; done = d; zero = z })
-    go (verdict.Refused r) e =
+    go (Err r) e =
         let n = own-refused (form-law net sheet) d (λ z. let q = ((form-zero net sheet d).0 z).1 in let x : ◌≡◌ {A = ℕ} 0 1 = cc in omega arith) 0 in
         ap (λ (k : ℕ). take k out') n
 

@@ -1,11 +1,11 @@
 -- The promises beside the three demands, each proved.
+use Rattle.std.specs.Prelude.{Ok}
+use Rattle.refusal.specs.Refusal.{Verdict}
 use Rattle.scan.proofs.Basics.{ℕ, ◌≤◌, arith, ◌≡◌, refl, sym, ap, subst, ◌∙◌, none, List, length, get_or}
 use lib.ListN.{get_or-append}
 use Rattle.scan.proofs.Tests.{iff→eq}
 use Rattle.automaton.proofs.Automaton.{follow-allows}
 use Rattle.refusal.specs.Verdict.{verdict_of}
-use Rattle.refusal.specs.declared.Verdict.{Verdict}
-use Rattle.refusal.specs.declared.Verdict.TheVariants as verdict
 use Rattle.refusal.proofs.Verdicts.{answer-none, then_next, then-accepted}
 use Rattle.net.proofs.Checks.{net-judged}
 use Rattle.net.proofs.Laws.{sizes, some-source}
@@ -27,12 +27,9 @@ use Rattle.lending.proofs.Laws.{served, answered-none}
 use Rattle.schedule.specs.Firing.{fresh_walker, step_fault, follows, entry_fired, run_fault, node_after, end_counts}
 use Rattle.refusal.specs.Limits.{scratch_limit}
 use Rattle.schedule.specs.Calls.{FreshDone, FireDone, RunDone}
-use Rattle.schedule.specs.Plain.{plain_run}
+use Rattle.schedule.specs.Plain.{plain_run, FireAnswer, RunAnswer}
 use Rattle.schedule.specs.Walks.{Chain, stays, goes}
 use Rattle.schedule.specs.declared.Walker.{Walker}
-use Rattle.schedule.specs.declared.FireAnswer.{FireAnswer}
-use Rattle.schedule.specs.declared.FireAnswer.TheVariants.{Done}
-use Rattle.schedule.specs.declared.RunAnswer.{RunAnswer}
 use Rattle.schedule.proofs.Walkers.{walker-out, few_places, fresh-passes, fresh-node, fresh-length}
 use Rattle.schedule.proofs.Following.{run-leads, run-allowed, run_ends, end-length}
 use Rattle.schedule.proofs.Folded.{Kept, chain-along, along-chain}
@@ -91,13 +88,14 @@ never_stuck net sheet σ h a = let r = accepted-reply net sheet h in goes_on (pe
 
 -- ---- runs
 
-module _ (net sheet : List ℕ) (h : schedule_reply net sheet ≡ verdict.Accepted) where
+module _ (net sheet : List ℕ) (h : schedule_reply net sheet ≡ Ok tt) where
   abbrev N : PetriNet
   N = petri_net net
 
   -- a call of the single firing for each firing that passes, and the other way round
   fire-call : (w : Walker) (t : ℕ) → step_fault (petri_net net) sheet w t ≡ none
-      → FireDone net sheet (some-scratch scratch_limit) w t (Done (entry_fired (petri_net net) sheet w t)) (follows (petri_net net) sheet w t) (cleared scratch_limit (some-scratch scratch_limit))
+      → FireDone net sheet (some-scratch scratch_limit) w t (Ok (record { entry = entry_fired (petri_net net) sheet w t })) (follows (petri_net net) sheet w t)
+      (cleared scratch_limit (some-scratch scratch_limit))
   fire-call w t e = served (scratch-enough scratch_limit (length (some-scratch scratch_limit)) (enough-scratch scratch_limit)) (answered-none refl (then_next _ _ h ∙ ap verdict_of e) refl) refl
 
   chain-calls : (w y : Walker) (σ : List ℕ) → Chain (petri_net net) sheet w σ y → Firings net sheet w σ y
@@ -145,7 +143,7 @@ module _ (net sheet : List ℕ) (h : schedule_reply net sheet ≡ verdict.Accept
           ∙ sym (ap (λ (x : List ℕ). get_or x p 0) ((done-zero (run-law net sheet firings) d z).written 0));
     }
 
-pub fresh_kept : (net sheet : List ℕ) (r : schedule_reply net sheet ≡ verdict.Accepted) (v : Verdict) (w : Walker) → FreshDone net v w → Kept net sheet r w 0
+pub fresh_kept : (net sheet : List ℕ) (r : schedule_reply net sheet ≡ Ok tt) (v : Verdict) (w : Walker) → FreshDone net v w → Kept net sheet r w 0
 fresh_kept net sheet r v w f =
     subst (λ (x : Walker). Kept net sheet r x 0) (sym (f.made ∙ ap (λ (x : Verdict). fresh_walker x net) f.reply))
     (record { passes = fresh-passes net sheet r; node = fresh-node net sheet r; counts = fresh-length net sheet r })

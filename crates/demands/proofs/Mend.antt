@@ -1,11 +1,11 @@
 -- What is promised of mending, proved.
+use Rattle.std.specs.Prelude.{Ok}
 use Rattle.scan.proofs.Basics.{ℕ, ◌+◌, ◌*◌, ◌/◌, ◌%◌, ◌≤◌, ◌<◌, arith, ◌≡◌, refl, sym, ap, ◌∙◌, inl, inr, ◌↔◌, List, [], ◌∷◌, length}
 use mathlib.Core.Logic.Iff
 use Rattle.scan.proofs.Tests.{by_equal}
 use Rattle.automaton.specs.Automaton.{SameLists}
 use Rattle.refusal.specs.Limits.{scratch_limit, most_entries}
 use Rattle.refusal.specs.Checks.{AllPass}
-use Rattle.refusal.specs.declared.Verdict.TheVariants as verdict
 use Rattle.refusal.proofs.Judges.{pass-append}
 use Rattle.net.specs.Checks.{net_checks, IsNet}
 use Rattle.net.proofs.Checks.{net-judged}
@@ -26,8 +26,7 @@ use Rattle.mended.specs.Checks.{arc_checks, mend_checks}
 use Rattle.mended.specs.Mend.{mended_words}
 use Rattle.mended.specs.Changes.{changes}
 use Rattle.mended.specs.Listed.{ListsChanges}
-use Rattle.mended.specs.Call.{plain_mend, MendDone}
-use Rattle.mended.specs.declared.MendAnswer.{MendAnswer}
+use Rattle.mended.specs.Call.{plain_mend, MendDone, MendAnswer}
 use Rattle.mended.proofs.Bare.{same_refl, same-allows, same-mended}
 use Rattle.mended.proofs.Exact.{mended, other-is, mended-passes, mended-arcs, mend-judged, arcs-exist}
 use Rattle.mended.proofs.Changes.{mended-count, mended-lists, none-changed}
@@ -40,10 +39,10 @@ use Rattle.demands.proofs.Checked.{accepted-reply, reply-accepted, always-accept
 -- ---- accepted with its net, and what passes all checks of a schedule
 
 module _ (net other : List ℕ) where
-  reply-checks : schedule_reply net other ≡ verdict.Accepted → AllPass (sheet_checks (petri_net net) other)
+  reply-checks : schedule_reply net other ≡ Ok tt → AllPass (sheet_checks (petri_net net) other)
   reply-checks h = ((pass-append (net_checks net) (sheet_checks (petri_net net) other)).0 ((schedule-judged net other).accepts.0 h)).1
 
-  checks-reply : IsNet net → AllPass (sheet_checks (petri_net net) other) → schedule_reply net other ≡ verdict.Accepted
+  checks-reply : IsNet net → AllPass (sheet_checks (petri_net net) other) → schedule_reply net other ≡ Ok tt
   checks-reply n a = (schedule-judged net other).accepts.1 ((pass-append (net_checks net) (sheet_checks (petri_net net) other)).1 (n, a))
 
 mendable↔ : (net sheet : List ℕ) → IsNet net → CountsExist (petri_net net) sheet ↔ Mendable net sheet
@@ -96,7 +95,7 @@ module _ (net sheet : List ℕ) (c : Mending net sheet) where
   known : Passed net sheet
   known = passed net sheet (done-zero (mend-law net sheet) c.done c.zero).passed
 
-  written-accepted : schedule_reply net (mended_by c) ≡ verdict.Accepted
+  written-accepted : schedule_reply net (mended_by c) ≡ Ok tt
   unfolding mended_words
   written-accepted = rw mended-is (checks-reply net (mended N sheet) ((net-judged net).accepts.0 known.net_accepted)
       (mended-passes N known.some_transition known.some_place sheet known.words known.arcs known.fit))
@@ -105,7 +104,7 @@ module _ (net sheet : List ℕ) (c : Mending net sheet) where
   unfolding mended_words SameLists
   mends =
       let s = mended-arcs N known.some_transition known.some_place sheet known.words known.arcs known.fit in
-      let a : schedule_reply net (mended N sheet) ≡ verdict.Accepted = rw mended-is at written-accepted in
+      let a : schedule_reply net (mended N sheet) ≡ Ok tt = rw mended-is at written-accepted in
       rw mended-is (record {
         accepted = always-accepted net (mended N sheet) a;
         same_arcs = s;

@@ -1,4 +1,6 @@
 -- The nine-node schedule: its check is computed, and its minimal form is found by a table of classes, which one round leaves as it is.
+use Rattle.std.specs.Prelude.{Ok}
+use Rattle.refusal.specs.Refusal.{Verdict}
 use Rattle.scan.proofs.Basics.{ℕ, arith, ◌≡◌, refl, sym, ap, ◌∙◌, none, List, [], ◌∷◌, get_or}
 use Rattle.scan.specs.Scan.{tabulate}
 use Rattle.scan.proofs.Tabulate.{tabulate-at}
@@ -17,8 +19,6 @@ use Rattle.demands.proofs.Examples.{checking, forming, answered, form_where, row
 use Rattle.sequential.specs.Words as words
 use Rattle.sequential.specs.Check as check
 use Rattle.encoding.specs.Encoding as encoding
-use Rattle.refusal.specs.declared.Verdict.{Verdict}
-use Rattle.refusal.specs.declared.Verdict.TheVariants as verdict
 
 abbrev N : PetriNet
 N = petri_net net_q
@@ -64,7 +64,7 @@ form = ap (encoding.encode N) (sym is-minimal) ∙ words-of-it
 abbrev answer : List ℕ
 answer = 0 ∷ 0 ∷ 0 ∷ 9 ∷ 12 ∷ 3 ∷ []
 
-checked : (check.schedule_reply net_q nine ≡ verdict.Accepted) × (answered (row net_q nine answer nine_form) ≡ answer)
+checked : (check.schedule_reply net_q nine ≡ Ok tt) × (answered (row net_q nine answer nine_form) ≡ answer)
 unfolding checking
 checked = (refl, refl)
 

@@ -1,4 +1,5 @@
 -- What is promised of reaction times, proved.
+use Rattle.refusal.specs.declared.Reason.TheVariants.{SmallOutput}
 use Rattle.scan.proofs.Basics.{ℕ, ◌≤◌, arith, ◌≡◌, refl, sym, ap, ◌∙◌, ◌↔◌, List, [], ◌∷◌, ◌++◌, length}
 use Prim.Native.Nat.{min, max}
 use mathlib.Core.Logic.Iff
@@ -17,9 +18,8 @@ use Rattle.reaction.specs.Extreme.{AtMost, AtLeast}
 use Rattle.reaction.specs.ToGo.{best, worst}
 use Rattle.reaction.specs.Words.{early, late}
 use Rattle.reaction.specs.Checks.{reaction_checks}
-use Rattle.reaction.specs.Call.{sheet_graph, sheet_await, report_words, plain_reaction, ReactionDone}
+use Rattle.reaction.specs.Call.{sheet_graph, sheet_await, report_words, plain_reaction, ReactionDone, ReactionAnswer}
 use Rattle.reaction.specs.Known.{Passed}
-use Rattle.reaction.specs.declared.ReactionAnswer.{ReactionAnswer}
 use Rattle.reaction.proofs.Extreme.{picks-min, picks-max}
 use Rattle.reaction.proofs.Unique.{solution-unique}
 use Rattle.reaction.proofs.Judged.{reaction-judged, reaction-law, passed}
@@ -45,7 +45,7 @@ module _ (net sheet words : List ℕ) where
   answers : (out s out' s' : List ℕ) (a : ReactionAnswer) → ReactionDone net sheet words out s a out' s' → (number (plain_reaction a) ≡ 0) ↔ Reportable net sheet words out s
   answers out s out' s' a d =
       let (f, g) = ((every out).by_numbers s s' a out' d).zero in
-      let (h, k) = pass-append base (reaction_checks (petri_net net) sheet words ++ (once (pair_words net sheet ≤ length out) 22 ∷ [])) in (
+      let (h, k) = pass-append base (reaction_checks (petri_net net) sheet words ++ (once (pair_words net sheet ≤ length out) SmallOutput ∷ [])) in (
         λ z. let (l, p) = f z in
             let (b, (x, (y, (w, (m, u))))) = h p in
             let (n, v, i) = (reply-passes net sheet).0 ((schedule-judged net sheet).accepts.1 b) in

@@ -1,9 +1,9 @@
 -- What is promised of the functions that read a schedule without scratch, proved: each is a call that is lent no scratch and asks for none.
+use Rattle.std.specs.Prelude.{Ok}
+use Rattle.refusal.specs.Refusal.{Verdict}
 use Rattle.scan.proofs.Basics.{ℕ, ◌≡◌, refl, sym, ◌∙◌, true, List, [], ◌∷◌, ◌++◌, length}
 use mathlib.Core.Logic.Iff
 use Rattle.refusal.specs.Checks.{Check}
-use Rattle.refusal.specs.declared.Verdict.{Verdict}
-use Rattle.refusal.specs.declared.Verdict.TheVariants as verdict
 use Rattle.refusal.proofs.Verdicts.{then_next}
 use Rattle.refusal.proofs.Judges.{Judges, judges-found, judges-then, properly, pass-append}
 use Rattle.net.specs.Check.{net_reply}
@@ -16,8 +16,7 @@ use Rattle.sequential.proofs.Words.{words-tell, arcs-tell}
 use Rattle.sequential.proofs.Accepted.{schedule-judged, task-judged}
 use Rattle.sequential.proofs.Bounds.{bounds-length}
 use Rattle.graph.specs.Readable.{words_reply, arcs_reply}
-use Rattle.judge.specs.Answer.{counts_of, check_answer}
-use Rattle.judge.specs.declared.CheckAnswer.{CheckAnswer}
+use Rattle.judge.specs.Answer.{counts_of, check_answer, CheckAnswer}
 use Rattle.lending.specs.Call.{CallDone}
 use Rattle.lending.proofs.Judged.{Lawful}
 use Rattle.lending.proofs.Done.{verdict-by-checks}
@@ -71,7 +70,7 @@ module _ (net sheet : List ℕ) where
   check-back d = (of_words d).reply ∙ sym (of_words (no-scratch (check-words net sheet _ refl))).reply
 
   -- with a net that is one
-  own-judged : net_reply net ≡ verdict.Accepted → Judges (words_reply net sheet) (word_checks (petri_net net) sheet)
+  own-judged : net_reply net ≡ Ok tt → Judges (words_reply net sheet) (word_checks (petri_net net) sheet)
   unfolding words_reply
   own-judged n = rw (then_next (net_reply net) _ n) (judges-found _ _ (words-tell (petri_net net) sheet))
 

@@ -1,4 +1,5 @@
 -- What is promised of a replay, proved.
+use Rattle.refusal.specs.declared.Reason.TheVariants.{SmallOutput}
 use Rattle.scan.proofs.Basics.{ℕ, ◌≤◌, arith, ◌≡◌, refl, ◌∙◌, inl, inr, ⊎_elim, ◌↔◌, List, [], ◌∷◌, ◌++◌, length}
 use mathlib.Core.Logic.Iff
 use Rattle.scan.proofs.Tabulate.{tabulate-length}
@@ -17,8 +18,7 @@ use Rattle.schedule.specs.Walker.{run_checks}
 use Rattle.replay.specs.Log.{firings}
 use Rattle.replay.specs.Checks.{replay_checks}
 use Rattle.replay.specs.Calls.{totals_of, taken_row, put_row, ReplayDone}
-use Rattle.replay.specs.Plain.{plain_replay}
-use Rattle.replay.specs.declared.ReplayAnswer.{ReplayAnswer}
+use Rattle.replay.specs.Plain.{plain_replay, ReplayAnswer}
 use Rattle.replay.proofs.Replays.{passed-sheet, passed-node, passed-ends, balance}
 use Rattle.replay.proofs.Done.{replay-law}
 use Rattle.demands.specs.Terms.{said}
@@ -48,7 +48,7 @@ module _ (net sheet log taken put s taken' put' s' : List ℕ) (a : ReplayAnswer
   exactly : (number (plain_replay a) ≡ 0) ↔ Replayable net sheet log taken put s
   exactly =
       let (f, g) = ((every net sheet log taken put).by_numbers s s' a (taken', put') d).zero in
-      let (h, k) = pass-append base (replay_checks (petri_net net) sheet log ++ (once (((petri_net net).places ≤ length taken) × ((petri_net net).places ≤ length put)) 22 ∷ [])) in (
+      let (h, k) = pass-append base (replay_checks (petri_net net) sheet log ++ (once (((petri_net net).places ≤ length taken) × ((petri_net net).places ≤ length put)) SmallOutput ∷ [])) in (
         λ z. let (l, p) = f z in
             let (b, (x, (y, (w, (q, ((t, u), e)))))) = h p in
             let (n, v, i) = (reply-passes net sheet).0 ((schedule-judged net sheet).accepts.1 b) in

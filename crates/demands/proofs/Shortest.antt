@@ -1,7 +1,7 @@
 -- Shortest means shortest, proved: schedules that allow the same lists have the same form, and one with as many nodes differs from it only in their numbers.
+use Rattle.std.specs.Prelude.{Ok}
 use Rattle.scan.proofs.Basics.{ℕ, ◌≤◌, ◌<◌, arith, ◌≡◌, refl, sym, ap, subst, ◌∙◌, ◌↔◌, List, length}
 use Rattle.automaton.specs.Automaton.{Automaton, SameLists}
-use Rattle.refusal.specs.declared.Verdict.TheVariants as verdict
 use Rattle.net.proofs.Laws.{sizes}
 use Rattle.sequential.specs.Petri.{petri_net}
 use Rattle.sequential.specs.Words.{node_count, entry_count, graph}
@@ -30,7 +30,7 @@ lists-on A B C s t σ = s σ ∙ t σ
 
 -- ---- an accepted schedule, and the same under other numbers
 
-module _ (net sheet : List ℕ) (h : schedule_reply net sheet ≡ verdict.Accepted) where
+module _ (net sheet : List ℕ) (h : schedule_reply net sheet ≡ Ok tt) where
   some_place : 0 < (petri_net net).places
   some_place = (sizes net (accepts net sheet h).net_accepted).some_place
 
@@ -45,7 +45,7 @@ module _ (net sheet : List ℕ) (h : schedule_reply net sheet ≡ verdict.Accept
     says = decode_encode (petri_net net) (renumbered (said net sheet) to from) (some_transition net sheet h)
         (renumbered-encodable (said net sheet) to from r encodable.closed (petri_net net) encodable)
 
-    other-accepted : schedule_reply net (renumbered_words net sheet to from) ≡ verdict.Accepted
+    other-accepted : schedule_reply net (renumbered_words net sheet to from) ≡ Ok tt
     other-accepted = (accepted-exactly net (renumbered_words net sheet to from)).1 (record {
       net_accepted = (accepts net sheet h).net_accepted;
       words = encoded-passes (petri_net net) (renumbered (said net sheet) to from)
@@ -62,7 +62,7 @@ module _ (net sheet : List ℕ) (h : schedule_reply net sheet ≡ verdict.Accept
 
 -- ---- beside the form
 
-module _ (net sheet other : List ℕ) (h : schedule_reply net sheet ≡ verdict.Accepted) (k : schedule_reply net other ≡ verdict.Accepted)
+module _ (net sheet other : List ℕ) (h : schedule_reply net sheet ≡ Ok tt) (k : schedule_reply net other ≡ Ok tt)
     (s : SameLists (said net other) (said net sheet) 0 0) where
   -- one form for both
   one_form : minimal_form net sheet ≡ minimal_form net other
@@ -90,7 +90,7 @@ module _ (net sheet other : List ℕ) (h : schedule_reply net sheet ≡ verdict.
         sym (its-words net other k) ∙ ap (encode (petri_net net)) (renumbered-is (said net other) F f R e E.closed E.confined refl),
       )
 
-form-exactly : (net sheet other : List ℕ) → schedule_reply net sheet ≡ verdict.Accepted
+form-exactly : (net sheet other : List ℕ) → schedule_reply net sheet ≡ Ok tt
     → (Rival net sheet other × (node_count other ≡ node_count (minimal_form net sheet))) ↔ SameButNumbers net (minimal_form net sheet) other
 form-exactly net sheet other h = (
   λ ((a, s), e). form-numbers net sheet other h (accepted-reply net other a) s e,
@@ -118,7 +118,7 @@ shortest = record {
       rw q (always-accepted net _ (other-accepted net sheet h to from r), other-lists net sheet h to from r, other-nodes net sheet h to from r);
   form_kept = λ net sheet other a (to, from, r, q) c d.
       let h = accepted-reply net sheet a in
-      let k : schedule_reply net other ≡ verdict.Accepted = rw q (other-accepted net sheet h to from r) in
+      let k : schedule_reply net other ≡ Ok tt = rw q (other-accepted net sheet h to from r) in
       let s : SameLists (said net other) (said net sheet) 0 0 = rw q (other-lists net sheet h to from r) in
       made-form net other d ∙ sym (one_form net sheet other h k s) ∙ sym (made-form net sheet c);
   alike = λ net x y a (b, s) c d.

@@ -1,12 +1,12 @@
 -- The slow engine: what it spreads, and that it answers what the check answers.
+use Rattle.std.specs.Prelude.{Err, Ok}
+use Rattle.refusal.specs.Refusal.{Verdict}
 use Rattle.scan.proofs.Basics.{ℕ, ◌+◌, ◌*◌, ◌/◌, ◌%◌, ◌-◌, ◌≤◌, ◌<◌, arith, ◌≡◌, refl, sym, ap, ◌∙◌, ◌⊎◌, inl, inr, Option, none, some, option_map, ltb, List, [], ◌∷◌, ◌++◌, get_or}
 use mathlib.Core.Bool.{and-false}
 use Rattle.scan.specs.Scan.{or_else, found_or}
 use Rattle.scan.proofs.Tests.{lt-ltb, le-ltb}
 use Rattle.refusal.specs.Verdict.{verdict_of}
 use Rattle.refusal.specs.declared.Refusal.{Refusal}
-use Rattle.refusal.specs.declared.Verdict.{Verdict}
-use Rattle.refusal.specs.declared.Verdict.TheVariants.{Accepted, Refused}
 use Rattle.lending.specs.Call.{scratch_fault, output_fault, words_verdict, call_verdict, answer_of}
 use Rattle.lending.proofs.Judged.{Lawful}
 use Rattle.lending.proofs.Demands.{every-call-none}
@@ -22,7 +22,6 @@ use Rattle.sequential.proofs.Entries.{row-div, row-mod}
 use Rattle.graph.specs.Readable.{words_reply}
 use Rattle.graph.proofs.Readable.{reply-readable}
 use Rattle.judge.specs.Answer.{counts_of, plain_check}
-use Rattle.judge.specs.declared.CheckAnswer.TheVariants.{Passed}
 use Rattle.judge.proofs.Judged.{accepted-readable}
 use Rattle.schedule.specs.Calls.{check_core}
 use Rattle.schedule.proofs.Done.{check-law}
@@ -109,13 +108,13 @@ module _ (net sheet : List ℕ) where
   verdict-same = go (net_reply net) refl (words_fault (petri_net net) sheet) refl
     where
       go : (v : Verdict) → net_reply net ≡ v → (o : Option Refusal) → words_fault (petri_net net) sheet ≡ o → slow_verdict net sheet ≡ schedule_reply net sheet
-      go (Refused x) e o f = rw e
-      go Accepted e (some x) f = rw (e, f)
-      go Accepted e none f =
+      go (Err x) e o f = rw e
+      go (Ok tt) e (some x) f = rw (e, f)
+      go (Ok tt) e none f =
           let r = reply-readable net sheet (rw (e, f)) in
           rw (e, f) (ap verdict_of (clauses-same (petri_net net) sheet r.arcs.sizes.some_transition r.arcs.holds))
 
-  counts_same : schedule_reply net sheet ≡ Accepted → slow_counts net sheet ≡ counts_of net sheet
+  counts_same : schedule_reply net sheet ≡ Ok tt → slow_counts net sheet ≡ counts_of net sheet
   unfolding slow_counts counts_of
   counts_same h =
       let r = accepted-readable net sheet h in
@@ -125,9 +124,9 @@ module _ (net sheet : List ℕ) where
   answer-same : (v : Verdict) (lent : ℕ) → scratch_fault 8192 lent ≡ v → (w : Verdict) → schedule_reply net sheet ≡ w
       → answer_of (slow_core net sheet) (call_verdict 8192 (slow_core net sheet) [] lent) ≡ answer_of (check_core net sheet) (call_verdict 8192 (check_core net sheet) [] lent)
   unfolding call_verdict words_verdict output_fault
-  answer-same (Refused x) lent e w f = rw e
-  answer-same Accepted lent e (Refused x) f = rw (e, verdict-same, f)
-  answer-same Accepted lent e Accepted f = rw (e, verdict-same, f) (ap Passed (counts_same f))
+  answer-same (Err x) lent e w f = rw e
+  answer-same (Ok tt) lent e (Err x) f = rw (e, verdict-same, f)
+  answer-same (Ok u) lent e (Ok v) f = rw (e, verdict-same, f) (ap Ok (counts_same f))
 
   slow-law : Lawful (slow_core net sheet) plain_check ((slow_counts net sheet).nodes ∷ (slow_counts net sheet).arcs ∷ (slow_counts net sheet).awaits ∷ [])
       (net_checks net ++ sheet_checks (petri_net net) sheet)

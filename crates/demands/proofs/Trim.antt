@@ -1,9 +1,9 @@
 -- What is promised of trimming, proved.
+use Rattle.std.specs.Prelude.{Ok}
 use Rattle.scan.proofs.Basics.{ℕ, ◌≤◌, ◌<◌, arith, ◌≡◌, refl, ◌∙◌, ◌↔◌, List, length}
 use mathlib.Core.Logic.Iff
 use Rattle.automaton.specs.Reach.{Reachable}
 use Rattle.refusal.specs.Limits.{scratch_limit}
-use Rattle.refusal.specs.declared.Verdict.TheVariants as verdict
 use Rattle.refusal.proofs.Judges.{pass-append}
 use Rattle.net.specs.Checks.{net_checks, IsNet}
 use Rattle.sequential.specs.Petri.{petri_net}
@@ -12,8 +12,7 @@ use Rattle.sequential.specs.Checks.{word_checks, WordsPass}
 use Rattle.sequential.proofs.Words.{words-hold}
 use Rattle.sequential.proofs.Accepted.{accepts}
 use Rattle.graph.specs.Readable.{words_reply}
-use Rattle.judge.specs.Answer.{plain_check}
-use Rattle.judge.specs.declared.CheckAnswer.{CheckAnswer}
+use Rattle.judge.specs.Answer.{plain_check, CheckAnswer}
 use Rattle.schedule.specs.Calls.{CheckDone}
 use Rattle.schedule.proofs.Done.{check-law}
 use Rattle.lending.specs.Demands.{number}
@@ -22,8 +21,7 @@ use Rattle.lending.proofs.Done.{done-zero}
 use Rattle.lending.proofs.Demands.{every-call-none, every-call-two}
 use Rattle.trimmed.specs.Trim.{new_number, trimmed_words, kept_list}
 use Rattle.sequential.specs.OnReached.{HoldsOnReached}
-use Rattle.trimmed.specs.Call.{plain_trim, TrimDone}
-use Rattle.trimmed.specs.declared.TrimAnswer.{TrimAnswer}
+use Rattle.trimmed.specs.Call.{plain_trim, TrimDone, TrimAnswer}
 use Rattle.trimmed.proofs.Words.{result-trimming, result-list, list-old, list-size, result-unique, result-lists, result-reached, result-accepted, all-on-reached}
 use Rattle.trimmed.proofs.Words.{result-spared, reached-itself, reached-list, result-short, list-short}
 use Rattle.trimmed.proofs.Done.{words-judged, trim-law}
@@ -51,7 +49,7 @@ module _ (net sheet : List ℕ) (c : TrimCall net sheet) where
   list-is : kept_by c ≡ kept_list net sheet
   list-is = own-front (trim-law net sheet) c.done c.zero 1 refl
 
-  passed : words_reply net sheet ≡ verdict.Accepted
+  passed : words_reply net sheet ≡ Ok tt
   passed = (done-zero (trim-law net sheet) c.done c.zero).passed
 
   cut : CutDown net sheet (trimmed_by c) (kept_by c)

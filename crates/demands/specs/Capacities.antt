@@ -3,8 +3,7 @@
 use Rattle.std.specs.Prelude.{ℕ, ◌<◌, ◌≡◌, ◌↔◌, List, true, get_or}
 use Rattle.std.proofs.Math.Option.{none}
 use Rattle.automaton.specs.Automaton.{allows}
-use Rattle.refusal.specs.Refusal.{plain_verdict}
-use Rattle.refusal.specs.declared.Verdict.{Verdict}
+use Rattle.refusal.specs.Refusal.{plain_verdict, Verdict}
 use Rattle.net.specs.Net.{Within, start, capacity}
 use Rattle.net.specs.Checks.{IsNet}
 use Rattle.net.specs.Check.{NetDone}
@@ -13,21 +12,15 @@ use Rattle.sequential.specs.Petri.{PetriNet, petri_net, initial, HoldsTaken, Ena
 use Rattle.sequential.specs.Schedule.{Await}
 use Rattle.sequential.specs.Runs.{WithinCapacities, StaysWithin}
 use Rattle.sequential.specs.Checks.{ArcHasRoom}
-use Rattle.judge.specs.Answer.{plain_check}
-use Rattle.judge.specs.declared.CheckAnswer.{CheckAnswer}
+use Rattle.judge.specs.Answer.{plain_check, CheckAnswer}
 use Rattle.lending.specs.Demands.{number}
 use Rattle.schedule.specs.Calls.{CheckDone, BoundsDone, FreshDone, FireDone, RunDone}
-use Rattle.schedule.specs.Plain.{plain_fire, plain_run}
+use Rattle.schedule.specs.Plain.{plain_fire, plain_run, FireAnswer, RunAnswer}
 use Rattle.schedule.specs.declared.Walker.{Walker}
-use Rattle.schedule.specs.declared.FireAnswer.{FireAnswer}
-use Rattle.schedule.specs.declared.RunAnswer.{RunAnswer}
 use Rattle.replay.specs.Calls.{ReplayDone}
-use Rattle.replay.specs.Plain.{plain_replay}
-use Rattle.replay.specs.declared.ReplayAnswer.{ReplayAnswer}
-use Rattle.minimal.specs.Form.{plain_form, FormDone}
-use Rattle.minimal.specs.declared.FormAnswer.{FormAnswer}
-use Rattle.mended.specs.Call.{plain_mend, MendDone}
-use Rattle.mended.specs.declared.MendAnswer.{MendAnswer}
+use Rattle.replay.specs.Plain.{plain_replay, ReplayAnswer}
+use Rattle.minimal.specs.Form.{plain_form, FormDone, FormAnswer}
+use Rattle.mended.specs.Call.{plain_mend, MendDone, MendAnswer}
 use Rattle.demands.specs.Terms.{said, Accepted}
 
 -- ---- within capacities

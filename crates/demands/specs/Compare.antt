@@ -1,5 +1,6 @@
 -- What is promised of the comparison of two schedules (§13.20): demand 3 for one call, and for anything that meets its postcondition. proofs/Compare has a term
 -- for the record. Its two forms are also shown to be those that the call of the minimal form writes, so that §11.9 holds of both.
+use Rattle.refusal.specs.declared.Reason.TheVariants.{SmallOutput}
 use Rattle.std.specs.Prelude.{ℕ, ◌+◌, ◌*◌, ◌≤◌, ◌≡◌, ◌↔◌, List, [], ◌∷◌, ◌++◌, length, take, drop}
 use Rattle.automaton.specs.Automaton.{SameLists}
 use Rattle.refusal.specs.Limits.{scratch_limit, most_entries}
@@ -8,9 +9,9 @@ use Rattle.net.specs.Checks.{IsNet}
 use Rattle.sequential.specs.Petri.{petri_net}
 use Rattle.sequential.specs.Checks.{sheet_checks}
 use Rattle.lending.specs.Demands.{number, own, EveryCall}
-use Rattle.compare.specs.Compare.{plain_compare, sheet_index}
+use Rattle.lending.specs.Fault.{sheet_index}
+use Rattle.compare.specs.Compare.{plain_compare, CompareAnswer}
 use Rattle.compare.specs.Means.{CompareDone}
-use Rattle.compare.specs.declared.CompareAnswer.{CompareAnswer}
 use Rattle.demands.specs.Terms.{said, all_checks, Accepted}
 use Rattle.demands.specs.Demand3.{Merges, AlwaysAccepted, Form, made}
 use Rattle.demands.specs.Replay.{LeftAlike}
@@ -50,7 +51,7 @@ module _ {net x y : List ℕ} (c : Comparing net x y) where
 
 -- scratch, the net, all checks of the first schedule, all of the second, and room for both forms: §7.67
 abbrev pub all_compare_checks : List ℕ → List ℕ → List ℕ → Type 0 → List ℕ → List Check
-all_compare_checks net x y Room = all_checks net x (sheet_checks (petri_net net) y ++ (once Room 22 ∷ []))
+all_compare_checks net x y Room = all_checks net x (sheet_checks (petri_net net) y ++ (once Room SmallOutput ∷ []))
 
 -- it does what every call does (§13.1), its last number apart; the words that it needs of each buffer are as many as the length that it answers
 pub record EveryComparison (net x y : List ℕ) : Type 0 where

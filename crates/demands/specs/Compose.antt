@@ -1,4 +1,5 @@
 -- What is promised of composition (§10.30 to §10.34), for anything that meets its postcondition. proofs/Compose has a term for the record.
+use Rattle.refusal.specs.declared.Reason.TheVariants.{SmallOutput, SmallScratch}
 use Rattle.std.specs.Prelude.{ℕ, ◌+◌, ◌*◌, ◌≤◌, ◌<◌, ◌≡◌, ◌↔◌, true, List, [], ◌∷◌, ◌++◌, length, take, drop}
 use Rattle.std.proofs.Math.Option.{some}
 use Rattle.automaton.specs.Automaton.{follow, allows}
@@ -18,9 +19,9 @@ use Rattle.composed.specs.Product.{Tasks, OnePerSource, size_of, node_of, all_aw
 use Rattle.composed.specs.Composed.{ReachedPart, Disabled, Dependent, ReachedEnabled, OneBusy, Composable, Serves, OwnSources}
 use Rattle.composed.specs.Sheet.{four_sheets, given_sheets, source_of, net_of, tasks_of}
 use Rattle.composed.specs.Checks.{NumberPasses, FewPass, compose_checks}
-use Rattle.composed.specs.Call.{ComposeDone, plain_compose, sheet_index}
+use Rattle.lending.specs.Fault.{sheet_index}
+use Rattle.composed.specs.Call.{ComposeDone, plain_compose, ComposeAnswer}
 use Rattle.composed.specs.Named.{Named}
-use Rattle.composed.specs.declared.ComposeAnswer.{ComposeAnswer}
 use Rattle.demands.specs.Terms.{said}
 use Rattle.demands.specs.Demand1.{Unread}
 use Rattle.demands.specs.Demand3.{AlwaysAccepted}
@@ -42,7 +43,7 @@ module _ (net : List ℕ) (k : ℕ) (a b c d : List ℕ) where
 
   -- all that is checked, in the order of §7.63; room for the result comes last
   abbrev pub all_compose_checks : Type 0 → List ℕ → List Check
-  all_compose_checks Room scratch = once (scratch_limit ≤ length scratch) 21 ∷ ((net_checks net ++ compose_checks (petri_net net) k (given_sheets k a b c d)) ++ (once Room 22 ∷ []))
+  all_compose_checks Room scratch = once (scratch_limit ≤ length scratch) SmallScratch ∷ ((net_checks net ++ compose_checks (petri_net net) k (given_sheets k a b c d)) ++ (once Room SmallOutput ∷ []))
 
 -- the length that the call answered, and that many words of its buffer: §10.30
 abbrev pub composed_size : {net : List ℕ} {k : ℕ} {a b c d : List ℕ} → Composing net k a b c d → ℕ

@@ -1,9 +1,9 @@
 -- Demand 1 (§13.1): every call replies, whatever it is handed and whatever was called before; it answers or refuses by the numbers, and a refusal changes
 -- nothing but scratch. The proof of each function shows that it ends, and no call has a `requires`. proofs/Demand1 has a term for this record.
+use Rattle.refusal.specs.declared.Reason.TheVariants.{SmallOutput}
 use Rattle.std.specs.Prelude.{ℕ, ◌≤◌, ◌≡◌, ◌⊎◌, List, [], ◌∷◌, ◌++◌, length, get_or, replicate}
-use Rattle.refusal.specs.Refusal.{plain_verdict}
+use Rattle.refusal.specs.Refusal.{plain_verdict, Verdict}
 use Rattle.refusal.specs.Checks.{once}
-use Rattle.refusal.specs.declared.Verdict.{Verdict}
 use Rattle.net.specs.Checks.{net_checks}
 use Rattle.net.specs.Check.{NetDone}
 use Rattle.sequential.specs.Petri.{petri_net}
@@ -30,14 +30,15 @@ pub record Demand1 : Type 0 where
       → ByChecks (net_checks net) (plain_verdict v) × ((number (plain_verdict v) ≡ 0 → ⊥) → w ≡ record { node = 0; counts = replicate most_places 0 })
   pub check : (net sheet : List ℕ) → EveryCall {Left = Unit} scratch_limit plain_check (all_checks net sheet []) tt (λ s a left s'. CheckDone net sheet s a s')
   pub place_bounds : (net sheet out : List ℕ)
-      → EveryCall scratch_limit plain_verdict (all_checks net sheet (once ((petri_net net).places ≤ length out) 22 ∷ [])) out (BoundsDone net sheet out)
+      → EveryCall scratch_limit plain_verdict (all_checks net sheet (once ((petri_net net).places ≤ length out) SmallOutput ∷ [])) out (BoundsDone net sheet out)
   pub fire : (net sheet : List ℕ) (w : Walker) (t : ℕ)
       → EveryCall scratch_limit plain_fire (all_checks net sheet (walker_checks (petri_net net) sheet w t)) w (λ s a next s'. FireDone net sheet s w t a next s')
   pub run : (net sheet firings out : List ℕ)
-      → EveryCall scratch_limit plain_run (all_checks net sheet (run_checks (petri_net net) sheet firings ++ (once ((petri_net net).places ≤ length out) 22 ∷ []))) out (RunDone net sheet firings out)
+      → EveryCall scratch_limit plain_run (all_checks net sheet (run_checks (petri_net net) sheet firings ++ (once ((petri_net net).places ≤ length out) SmallOutput ∷ []))) out
+      (RunDone net sheet firings out)
   -- demand 3 says how many words the minimal form needs (§11.7)
   pub minimal-form : (net sheet : List ℕ) → (needed : ℕ)
-      × ((out : List ℕ) → EveryCall scratch_limit plain_form (all_checks net sheet (once (needed ≤ length out) 22 ∷ [])) out (FormDone net sheet out))
+      × ((out : List ℕ) → EveryCall scratch_limit plain_form (all_checks net sheet (once (needed ≤ length out) SmallOutput ∷ [])) out (FormDone net sheet out))
   -- ---- and none depends on what the buffers held
   pub bounds_unread : (net sheet : List ℕ) → Unread (BoundsDone net sheet)
   pub run_unread : (net sheet firings : List ℕ) → Unread (RunDone net sheet firings)

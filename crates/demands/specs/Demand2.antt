@@ -4,25 +4,21 @@ use Rattle.std.specs.Prelude.{ℕ, suc, ◌*◌, ◌/◌, ◌%◌, ◌≤◌, �
 use Rattle.std.proofs.Math.Option.{some}
 use Rattle.automaton.specs.Automaton.{Automaton, follow, allows}
 use Rattle.automaton.specs.Reach.{Reachable}
-use Rattle.refusal.specs.Refusal.{plain_verdict}
+use Rattle.refusal.specs.Refusal.{plain_verdict, Verdict}
 use Rattle.refusal.specs.Checks.{AllPass}
-use Rattle.refusal.specs.declared.Verdict.{Verdict}
 use Rattle.net.specs.Checks.{IsNet}
 use Rattle.sequential.specs.Petri.{PetriNet, petri_net, initial, fired_count, fire_all, Enabled, FiresEnabled}
 use Rattle.sequential.specs.Schedule.{Offers, Await, ToAwait, IsSchedule}
 use Rattle.sequential.specs.Published.{SequentialSchedule}
 use Rattle.sequential.specs.Runs.{LeastBound}
 use Rattle.sequential.specs.Checks.{WordsPass}
-use Rattle.judge.specs.Answer.{plain_check}
-use Rattle.judge.specs.declared.CheckAnswer.{CheckAnswer}
+use Rattle.judge.specs.Answer.{plain_check, CheckAnswer}
 use Rattle.lending.specs.Demands.{number, own, ByChecks}
 use Rattle.schedule.specs.Walker.{Stands, walker_checks}
 use Rattle.refusal.specs.Limits.{scratch_limit}
 use Rattle.schedule.specs.Calls.{CheckDone, BoundsDone, FreshDone, FireDone, RunDone}
-use Rattle.schedule.specs.Plain.{plain_fire, plain_run}
+use Rattle.schedule.specs.Plain.{plain_fire, plain_run, FireAnswer, RunAnswer}
 use Rattle.schedule.specs.declared.Walker.{Walker}
-use Rattle.schedule.specs.declared.FireAnswer.{FireAnswer}
-use Rattle.schedule.specs.declared.RunAnswer.{RunAnswer}
 use Rattle.demands.specs.Terms.{said, all_checks, Accepted}
 
 -- k of the numbers 0, 1, .., n - 1 have the property

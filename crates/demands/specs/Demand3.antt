@@ -4,13 +4,11 @@ use Rattle.std.specs.Prelude.{ℕ, ◌+◌, ◌*◌, ◌≤◌, ◌≡◌, ◌�
 use Rattle.automaton.specs.Automaton.{SameLists}
 use Rattle.automaton.specs.Quotient.{Quotient}
 use Rattle.automaton.specs.BreadthFirst.{BreadthFirst}
-use Rattle.judge.specs.Answer.{plain_check}
-use Rattle.judge.specs.declared.CheckAnswer.{CheckAnswer}
+use Rattle.judge.specs.Answer.{plain_check, CheckAnswer}
 use Rattle.lending.specs.Demands.{number, own}
 use Rattle.refusal.specs.Limits.{most_entries}
 use Rattle.schedule.specs.Calls.{CheckWithinDone}
-use Rattle.minimal.specs.Form.{plain_form, FormWithinDone}
-use Rattle.minimal.specs.declared.FormAnswer.{FormAnswer}
+use Rattle.minimal.specs.Form.{plain_form, FormWithinDone, FormAnswer}
 use Rattle.demands.specs.Terms.{said, Accepted}
 
 -- `form` is an accepted schedule whose graph is what merging (§11.3) and numbering (§11.5) give

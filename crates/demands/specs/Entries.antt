@@ -1,21 +1,18 @@
 -- What is promised of the entry that a single firing, a run and a replay name (§13.11), for anything that meets their postconditions. proofs/Entries has a
 -- term for the record.
+use Rattle.refusal.specs.Refusal.{Verdict}
 use Rattle.std.specs.Prelude.{ℕ, suc, ◌+◌, ◌*◌, ◌<◌, ◌≡◌, ◌↔◌, ◌⊎◌, List, [], ◌∷◌, ◌++◌}
 use Rattle.std.proofs.Math.Option.{some}
 use Rattle.automaton.specs.Automaton.{follow}
-use Rattle.refusal.specs.declared.Verdict.{Verdict}
 use Rattle.sequential.specs.Petri.{PetriNet, petri_net}
 use Rattle.sequential.specs.Words.{entry_count, entry_key, entry_value}
 use Rattle.lending.specs.Demands.{number, own}
 use Rattle.schedule.specs.Calls.{FreshDone, FireDone, RunDone}
-use Rattle.schedule.specs.Plain.{plain_fire, plain_run}
+use Rattle.schedule.specs.Plain.{plain_fire, plain_run, FireAnswer, RunAnswer}
 use Rattle.schedule.specs.declared.Walker.{Walker}
-use Rattle.schedule.specs.declared.FireAnswer.{FireAnswer}
-use Rattle.schedule.specs.declared.RunAnswer.{RunAnswer}
 use Rattle.replay.specs.Log.{firing_count, fired_at, logged_at, firings_to, firings}
 use Rattle.replay.specs.Calls.{ReplayDone}
-use Rattle.replay.specs.Plain.{plain_replay}
-use Rattle.replay.specs.declared.ReplayAnswer.{ReplayAnswer}
+use Rattle.replay.specs.Plain.{plain_replay, ReplayAnswer}
 use Rattle.demands.specs.Terms.{said, Accepted}
 use Rattle.demands.specs.Further.{Firings}
 

@@ -1,11 +1,9 @@
 -- The proved table (§13.7): nets and schedules, what every check of them answers, and what every call of the minimal form writes.
 use Rattle.std.specs.Prelude.{ℕ, ◌+◌, ◌*◌, ◌≤◌, ◌≡◌, List, [], ◌∷◌, length, take}
-use Rattle.judge.specs.Answer.{plain_check}
-use Rattle.judge.specs.declared.CheckAnswer.{CheckAnswer}
+use Rattle.judge.specs.Answer.{plain_check, CheckAnswer}
 use Rattle.refusal.specs.Limits.{scratch_limit, most_entries}
 use Rattle.schedule.specs.Calls.{CheckDone}
-use Rattle.minimal.specs.Form.{plain_form, FormDone}
-use Rattle.minimal.specs.declared.FormAnswer.{FormAnswer}
+use Rattle.minimal.specs.Form.{plain_form, FormDone, FormAnswer}
 use Rattle.lending.specs.Demands.{own}
 
 -- a net, a schedule, the check's answer as plain numbers, and the words of the minimal form, none if the schedule is refused

@@ -1,8 +1,8 @@
 -- What is promised besides the three demands: of paths, choice sets and runs, of the encoding, and of minimal forms. proofs/Further has a term for each.
-use Rattle.std.specs.Prelude.{ℕ, ◌≤◌, ◌<◌, ◌≡◌, ◌↔◌, List, [], ◌∷◌, Bool, true, length, get_or}
+use Rattle.refusal.specs.Refusal.{Verdict}
+use Rattle.std.specs.Prelude.{ℕ, ◌≤◌, ◌<◌, ◌≡◌, ◌↔◌, List, [], ◌∷◌, Bool, true, length, get_or, Ok}
 use Rattle.automaton.specs.Automaton.{Automaton, allows}
 use Rattle.refusal.specs.Checks.{AllPass}
-use Rattle.refusal.specs.declared.Verdict.{Verdict}
 use Rattle.net.specs.Checks.{IsNet}
 use Rattle.sequential.specs.Petri.{PetriNet, petri_net, Source, TakesSame, SharesPlace, FreeChoice, SameChoice}
 use Rattle.sequential.specs.Words.{graph}
@@ -14,10 +14,8 @@ use Rattle.lending.specs.Demands.{number, own}
 use Rattle.refusal.specs.Limits.{scratch_limit}
 use Rattle.schedule.specs.Calls.{FreshDone, FireDone, RunDone}
 use Rattle.schedule.specs.Walker.{walker_checks}
-use Rattle.schedule.specs.Plain.{plain_run}
+use Rattle.schedule.specs.Plain.{plain_run, RunAnswer}
 use Rattle.schedule.specs.declared.Walker.{Walker}
-use Rattle.schedule.specs.declared.FireAnswer.TheVariants.{Done}
-use Rattle.schedule.specs.declared.RunAnswer.{RunAnswer}
 use Rattle.encoding.specs.Encoding.{encode, Encodable}
 use Rattle.demands.specs.Terms.{said, Accepted}
 use Rattle.demands.specs.Demand3.{Form, size, made}
@@ -73,7 +71,7 @@ FreshPasses = (net sheet : List ℕ) (v : Verdict) (w : Walker) (t : ℕ) → Ac
 -- calls of the single firing, each accepted, each with the walker that the one before handed back
 pub data Firings (net sheet : List ℕ) : Walker → List ℕ → Walker → Type 0 where
   none_fired : (w : Walker) → Firings net sheet w [] w
-  one_fired : (w x y : Walker) (t e : ℕ) (σ s s' : List ℕ) → FireDone net sheet s w t (Done e) x s' → Firings net sheet x σ y → Firings net sheet w (t ∷ σ) y
+  one_fired : (w x y : Walker) (t e : ℕ) (σ s s' : List ℕ) → FireDone net sheet s w t (Ok (record { entry = e })) x s' → Firings net sheet x σ y → Firings net sheet w (t ∷ σ) y
 
 -- a run answers 0 exactly if single firings from a fresh walker do; it ends at the same node, with the counts of the last walker
 pub record Folds (net sheet firings out s : List ℕ) (a : RunAnswer) (out' : List ℕ) (w : Walker) : Type 0 where

@@ -1,4 +1,5 @@
 -- What is promised of mending (§13.12), for anything that meets its postcondition. proofs/Mend has a term for the record.
+use Rattle.refusal.specs.declared.Reason.TheVariants.{SmallOutput, SmallScratch}
 use Rattle.std.specs.Prelude.{ℕ, ◌+◌, ◌*◌, ◌≤◌, ◌<◌, ◌≡◌, ◌↔◌, ◌⊎◌, List, [], ◌∷◌, ◌++◌, length, take, drop}
 use Rattle.automaton.specs.Automaton.{SameLists}
 use Rattle.refusal.specs.Limits.{scratch_limit, most_entries}
@@ -11,8 +12,7 @@ use Rattle.lending.specs.Demands.{number, own, EveryCall}
 use Rattle.mended.specs.Arcs.{SameArcs}
 use Rattle.mended.specs.Checks.{mend_checks}
 use Rattle.mended.specs.Listed.{Listed, ListsChanges}
-use Rattle.mended.specs.Call.{plain_mend, MendDone}
-use Rattle.mended.specs.declared.MendAnswer.{MendAnswer}
+use Rattle.mended.specs.Call.{plain_mend, MendDone, MendAnswer}
 use Rattle.demands.specs.Terms.{said, Accepted}
 use Rattle.demands.specs.Demand3.{AlwaysAccepted}
 use Rattle.demands.specs.Replay.{LeftAlike}
@@ -48,7 +48,7 @@ Mendable net sheet = (other : List ℕ) × Accepted net other × SameArcs (said 
 
 -- all that is checked, in the order of §7.62; room for both results comes last
 abbrev pub all_mend_checks : List ℕ → List ℕ → Type 0 → List ℕ → List Check
-all_mend_checks net sheet Room scratch = once (scratch_limit ≤ length scratch) 21 ∷ ((net_checks net ++ mend_checks (petri_net net) sheet) ++ (once Room 22 ∷ []))
+all_mend_checks net sheet Room scratch = once (scratch_limit ≤ length scratch) SmallScratch ∷ ((net_checks net ++ mend_checks (petri_net net) sheet) ++ (once Room SmallOutput ∷ []))
 
 -- it does what every call does (§13.1), by its checks; the words that it needs of each buffer are as many as the length that it answers
 pub record EveryMending (net sheet : List ℕ) : Type 0 where

@@ -1,4 +1,5 @@
 -- What is promised of the calls for the small panel (§13.16): each does what the other call does, from less scratch. proofs/Panel has a term for the record.
+use Rattle.refusal.specs.declared.Reason.TheVariants.{SmallOutput}
 use Rattle.std.specs.Prelude.{ℕ, ◌≤◌, ◌≡◌, ◌↔◌, List, [], ◌∷◌, ◌++◌, length}
 use Rattle.refusal.specs.Limits.{scratch_limit}
 use Rattle.refusal.specs.Refusal.{plain_verdict}
@@ -6,8 +7,7 @@ use Rattle.refusal.specs.Checks.{Check, once}
 use Rattle.net.specs.Checks.{net_checks}
 use Rattle.sequential.specs.Petri.{petri_net}
 use Rattle.sequential.specs.Checks.{sheet_checks}
-use Rattle.judge.specs.Answer.{plain_check}
-use Rattle.judge.specs.declared.CheckAnswer.{CheckAnswer}
+use Rattle.judge.specs.Answer.{plain_check, CheckAnswer}
 use Rattle.lending.specs.Demands.{number, call_checks, EveryCall}
 use Rattle.schedule.specs.Calls.{CheckDone, BoundsDone, FireDone, RunDone}
 use Rattle.schedule.specs.Plain.{plain_fire, plain_run}
@@ -38,7 +38,7 @@ panel_checks net sheet besides scratch = call_checks panel_limit scratch ((net_c
 
 -- all that the panel's mending checks, which has an order of its own (§7.62); room for both results comes last
 abbrev pub panel_mend_checks : List ℕ → List ℕ → Type 0 → List ℕ → List Check
-panel_mend_checks net sheet Room scratch = call_checks panel_limit scratch ((net_checks net ++ mend_checks (petri_net net) sheet) ++ (once Room 22 ∷ []))
+panel_mend_checks net sheet Room scratch = call_checks panel_limit scratch ((net_checks net ++ mend_checks (petri_net net) sheet) ++ (once Room SmallOutput ∷ []))
 
 -- ---- what is accepted
 
@@ -69,17 +69,17 @@ pub record PanelDemand : Type 0 where
   -- each does what every call does (§13.1), with 1,024 in place of 8,192: fewer words are refused by 21, and so many words are cleared
   pub every_check : (net sheet : List ℕ) → EveryCall {Left = Unit} panel_limit plain_check (panel_checks net sheet []) tt (λ s a left s'. PanelCheckDone net sheet s a s')
   pub every_bounds : (net sheet out : List ℕ)
-      → EveryCall panel_limit plain_verdict (panel_checks net sheet (once ((petri_net net).places ≤ length out) 22 ∷ [])) out (PanelBoundsDone net sheet out)
+      → EveryCall panel_limit plain_verdict (panel_checks net sheet (once ((petri_net net).places ≤ length out) SmallOutput ∷ [])) out (PanelBoundsDone net sheet out)
   pub every_fire : (net sheet : List ℕ) (w : Walker) (t : ℕ)
       → EveryCall panel_limit plain_fire (panel_checks net sheet (walker_checks (petri_net net) sheet w t)) w (λ s a next s'. PanelFireDone net sheet s w t a next s')
   pub every_run : (net sheet firings out : List ℕ)
-      → EveryCall panel_limit plain_run (panel_checks net sheet (run_checks (petri_net net) sheet firings ++ (once ((petri_net net).places ≤ length out) 22 ∷ []))) out
+      → EveryCall panel_limit plain_run (panel_checks net sheet (run_checks (petri_net net) sheet firings ++ (once ((petri_net net).places ≤ length out) SmallOutput ∷ []))) out
       (PanelRunDone net sheet firings out)
   pub every_form : (net sheet : List ℕ) → (needed : ℕ)
-      × ((out : List ℕ) → EveryCall panel_limit plain_form (panel_checks net sheet (once (needed ≤ length out) 22 ∷ [])) out (PanelFormDone net sheet out))
+      × ((out : List ℕ) → EveryCall panel_limit plain_form (panel_checks net sheet (once (needed ≤ length out) SmallOutput ∷ [])) out (PanelFormDone net sheet out))
   pub every_replay : (net sheet log taken put : List ℕ)
       → EveryCall {Left = List ℕ × List ℕ} panel_limit plain_replay
-      (panel_checks net sheet (replay_checks (petri_net net) sheet log ++ (once (((petri_net net).places ≤ length taken) × ((petri_net net).places ≤ length put)) 22 ∷ [])))
+      (panel_checks net sheet (replay_checks (petri_net net) sheet log ++ (once (((petri_net net).places ≤ length taken) × ((petri_net net).places ≤ length put)) SmallOutput ∷ [])))
       (taken, put) (λ s a left s'. PanelReplayDone net sheet log taken put s a left.0 left.1 s')
   pub every_mend : (net sheet : List ℕ) → (for_sheet : ℕ) × (for_list : ℕ)
       × ((out list : List ℕ) → EveryCall {Left = List ℕ × List ℕ} panel_limit plain_mend (panel_mend_checks net sheet ((for_sheet ≤ length out) × (for_list ≤ length list)))

@@ -1,4 +1,5 @@
 -- What is promised of reaction times (request #112), for anything that meets the call's postcondition. proofs/Reaction has a term for the record.
+use Rattle.refusal.specs.declared.Reason.TheVariants.{SmallOutput}
 use Rattle.std.specs.Prelude.{ℕ, ◌*◌, ◌≤◌, ◌<◌, ◌≡◌, ◌↔◌, true, List, [], ◌∷◌, ◌++◌, length, take, drop}
 use Rattle.scan.specs.Scan.{count}
 use Rattle.refusal.specs.Limits.{scratch_limit}
@@ -17,9 +18,8 @@ use Rattle.reaction.specs.Loop.{NoLoop}
 use Rattle.reaction.specs.Meaning.{Solves}
 use Rattle.reaction.specs.Words.{early, late}
 use Rattle.reaction.specs.Checks.{duration_checks, reaction_checks}
-use Rattle.reaction.specs.Call.{sheet_graph, sheet_await, best_time, worst_time, plain_reaction, ReactionDone}
+use Rattle.reaction.specs.Call.{sheet_graph, sheet_await, best_time, worst_time, plain_reaction, ReactionDone, ReactionAnswer}
 use Rattle.reaction.specs.Times.{NodeTimes, ReactionTimes, FewFirings, RunsAttain}
-use Rattle.reaction.specs.declared.ReactionAnswer.{ReactionAnswer}
 use Rattle.demands.specs.Terms.{said, all_checks, Accepted}
 use Rattle.demands.specs.Demand1.{Unread}
 
@@ -64,7 +64,7 @@ pub record Stimulus (net sheet : List ℕ) (a t : ℕ) : Type 0 where
 -- it does what every call does, by its checks: scratch, the net, the schedule, 32, 33, and room for the report
 abbrev pub EveryReaction : List ℕ → List ℕ → List ℕ → List ℕ → Type 0
 EveryReaction net sheet durations out =
-    EveryCall scratch_limit plain_reaction (all_checks net sheet (reaction_checks (petri_net net) sheet durations ++ (once (pair_words net sheet ≤ length out) 22 ∷ []))) out
+    EveryCall scratch_limit plain_reaction (all_checks net sheet (reaction_checks (petri_net net) sheet durations ++ (once (pair_words net sheet ≤ length out) SmallOutput ∷ []))) out
     (ReactionDone net sheet durations out)
 
 pub record ReactionDemand : Type 0 where

@@ -1,4 +1,5 @@
 -- What is promised of a replay (§13.10), for anything that meets its postcondition. proofs/Replay has a term for the record.
+use Rattle.refusal.specs.declared.Reason.TheVariants.{NotOffered, SmallOutput}
 use Rattle.std.specs.Prelude.{ℕ, suc, ◌+◌, ◌-◌, ◌≤◌, ◌<◌, ◌≡◌, ◌↔◌, ◌⊎◌, List, [], ◌∷◌, ◌++◌, length, get_or, drop}
 use Rattle.std.proofs.Math.Option.{some}
 use Rattle.scan.specs.Scan.{sum, tabulate}
@@ -13,13 +14,11 @@ use Rattle.sequential.specs.Schedule.{IsSchedule}
 use Rattle.sequential.specs.Checks.{WordsPass}
 use Rattle.lending.specs.Demands.{number, own, EveryCall}
 use Rattle.schedule.specs.Calls.{RunDone}
-use Rattle.schedule.specs.Plain.{plain_run}
-use Rattle.schedule.specs.declared.RunAnswer.{RunAnswer}
+use Rattle.schedule.specs.Plain.{plain_run, RunAnswer}
 use Rattle.replay.specs.Log.{firing_count, logged_at, firings_to, firings, moved}
 use Rattle.replay.specs.Checks.{log_checks, FiringOffered, NodeReached, replay_checks}
 use Rattle.replay.specs.Calls.{ReplayDone}
-use Rattle.replay.specs.Plain.{plain_replay}
-use Rattle.replay.specs.declared.ReplayAnswer.{ReplayAnswer}
+use Rattle.replay.specs.Plain.{plain_replay, ReplayAnswer}
 use Rattle.demands.specs.Terms.{said, all_checks}
 
 -- all that a replay checks: §10.11
@@ -59,7 +58,7 @@ LeftAlike o₁ o₂ o₁' o₂' = (i : ℕ) → (get_or o₁' i 0 ≡ get_or o�
 abbrev pub EveryReplay : List ℕ → List ℕ → List ℕ → List ℕ → List ℕ → Type 0
 EveryReplay net sheet log taken put =
     EveryCall {Left = List ℕ × List ℕ} scratch_limit plain_replay
-    (all_checks net sheet (replay_checks (petri_net net) sheet log ++ (once (((petri_net net).places ≤ length taken) × ((petri_net net).places ≤ length put)) 22 ∷ [])))
+    (all_checks net sheet (replay_checks (petri_net net) sheet log ++ (once (((petri_net net).places ≤ length taken) × ((petri_net net).places ≤ length put)) SmallOutput ∷ [])))
     (taken, put) (λ s a left s'. ReplayDone net sheet log taken put s a left.0 left.1 s')
 
 pub record ReplayDemand : Type 0 where
@@ -78,4 +77,4 @@ pub record ReplayDemand : Type 0 where
   pub runs : (net sheet log taken put s taken' put' s' out t out' t' : List ℕ) (a : ReplayAnswer) (b : RunAnswer) (i : ℕ)
       → ReplayDone net sheet log taken put s a taken' put' s' → RunDone net sheet (firings log) out t b out' t' → scratch_limit ≤ length s → scratch_limit ≤ length t
       → AllPass (log_checks log) → ((j : ℕ) → j < i → NodeReached (petri_net net) sheet log j)
-      → (plain_replay a ≡ plain_refusal (refusal 20 (Record i))) ↔ (plain_run b ≡ plain_refusal (refusal 20 (Record i)))
+      → (plain_replay a ≡ plain_refusal (refusal NotOffered (Record i))) ↔ (plain_run b ≡ plain_refusal (refusal NotOffered (Record i)))

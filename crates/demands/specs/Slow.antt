@@ -8,8 +8,7 @@ use Rattle.refusal.specs.Limits.{scratch_limit}
 use Rattle.net.specs.Net as words
 use Rattle.net.specs.Net.{place_count, transition_count, put, start, capacity}
 use Rattle.sequential.specs.Words.{node_count, entry_value, entry_with_key}
-use Rattle.judge.specs.Answer.{plain_check}
-use Rattle.judge.specs.declared.CheckAnswer.{CheckAnswer}
+use Rattle.judge.specs.Answer.{plain_check, CheckAnswer}
 use Rattle.lending.specs.Demands.{EveryCall}
 use Rattle.schedule.specs.Calls.{CheckDone}
 use Rattle.plainly.specs.Numbers.{plus_one, NetSpread, GridSpread}

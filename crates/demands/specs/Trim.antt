@@ -1,4 +1,5 @@
 -- What is promised of trimming (§13.18), for anything that meets its postcondition. proofs/Trim has a term for the record.
+use Rattle.refusal.specs.declared.Reason.TheVariants.{SmallOutput, SmallScratch}
 use Rattle.std.specs.Prelude.{ℕ, ◌≤◌, ◌≡◌, ◌↔◌, List, [], ◌∷◌, ◌++◌, length, take, drop, get_or}
 use Rattle.scan.specs.Scan.{tabulate}
 use Rattle.automaton.specs.Automaton.{SameLists}
@@ -9,14 +10,12 @@ use Rattle.net.specs.Checks.{net_checks, IsNet}
 use Rattle.sequential.specs.Petri.{petri_net}
 use Rattle.sequential.specs.Words.{node_count}
 use Rattle.sequential.specs.Checks.{word_checks, WordsPass}
-use Rattle.judge.specs.Answer.{plain_check}
-use Rattle.judge.specs.declared.CheckAnswer.{CheckAnswer}
+use Rattle.judge.specs.Answer.{plain_check, CheckAnswer}
 use Rattle.schedule.specs.Calls.{CheckDone}
 use Rattle.lending.specs.Demands.{number, own, EveryCall}
 use Rattle.trimmed.specs.Trim.{Trimming, ListsReached}
 use Rattle.sequential.specs.OnReached.{HoldsOnReached, HoldsOnAll}
-use Rattle.trimmed.specs.Call.{plain_trim, TrimDone}
-use Rattle.trimmed.specs.declared.TrimAnswer.{TrimAnswer}
+use Rattle.trimmed.specs.Call.{plain_trim, TrimDone, TrimAnswer}
 use Rattle.demands.specs.Terms.{said, Accepted}
 use Rattle.demands.specs.Replay.{LeftAlike}
 
@@ -47,7 +46,7 @@ kept_by c = take (kept_size c) c.list'
 
 -- all that is checked, in the order of §7.64; room for both results comes last
 abbrev pub all_trim_checks : List ℕ → List ℕ → Type 0 → List ℕ → List Check
-all_trim_checks net sheet Room scratch = once (scratch_limit ≤ length scratch) 21 ∷ ((net_checks net ++ word_checks (petri_net net) sheet) ++ (once Room 22 ∷ []))
+all_trim_checks net sheet Room scratch = once (scratch_limit ≤ length scratch) SmallScratch ∷ ((net_checks net ++ word_checks (petri_net net) sheet) ++ (once Room SmallOutput ∷ []))
 
 -- it does what every call does (§13.1), by its checks; the words that it needs of each buffer are as many as the length that it answers
 pub record EveryTrimming (net sheet : List ℕ) : Type 0 where

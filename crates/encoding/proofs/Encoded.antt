@@ -1,5 +1,5 @@
 -- The words of an automaton as a sheet: its entries are the automaton's arcs and counts, and 6 to 9 refuse nothing.
-use Rattle.scan.proofs.Basics.{ℕ, suc, ◌+◌, ◌-◌, ◌*◌, ◌≤◌, ◌<◌, arith, ◌≡◌, refl, sym, ◌∙◌, inl, inr, some, length, get_or, length-append}
+use Rattle.scan.proofs.Basics.{ℕ, suc, ◌+◌, ◌-◌, ◌*◌, ◌≤◌, ◌<◌, arith, ◌≡◌, refl, sym, ◌∙◌, inl, inr, length, get_or, length-append}
 use native.Mathlib.Nat.{mul-add}
 use lib.ListN.{get_or-append}
 use lib.Seq.{get_or-append-add}

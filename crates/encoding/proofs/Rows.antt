@@ -9,7 +9,7 @@ use Rattle.scan.proofs.First.{when-hit, when-miss}
 use Rattle.scan.proofs.Placed.{placed-none, placed_past, placed-length, next-append, placed-next}
 use Rattle.automaton.specs.Automaton.{Automaton}
 use Rattle.sequential.specs.Petri.{PetriNet}
-use Rattle.encoding.specs.Encoding.{list_of, gather, gather_rows, key_of_arc, held, key_of_count, value_of_count, keys, values, encode}
+use Rattle.encoding.specs.Encoding.{list_of, gather, gather_rows, key_of_arc, key_of_count, value_of_count, keys, values, encode}
 use Rattle.encoding.specs.Rows.{word_of, filled_at, column_word, row_words, Appended, width_of, cell_of, arc_code, section_cell, first_key, RowOf, section_to, section_of}
 use Rattle.encoding.specs.declared.Row.{Row}
 use Rattle.encoding.specs.declared.Section.{Section}

@@ -1,3 +1,4 @@
 pub mod Encoding
 pub mod Rows
 pub mod Kept
+pub mod Lengths

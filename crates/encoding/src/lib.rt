@@ -5,6 +5,9 @@ ghost use Rattle.std.specs.Prelude.{◌≡◌, [], ◌∷◌, ◌+◌, ◌<◌};
 ghost use Rattle.scan.specs.Scan.{count};
 ghost use Rattle.encoding.specs.Rows.{word_of, filled_at, row_words, Appended};
 ghost use Rattle.encoding.specs.Kept.{arc_cell, arc_cells};
+ghost use Rattle.encoding.specs.Lengths.{lengths_numbers};
+
+use refusal::Numbers;
 
 // The sections of the words after V and K, in their order: the keys of arcs, the keys of counts, the targets of arcs, the counts.
 // `Numbers` is for words that may be 0, so that a cell holds 1 more than the word: the targets of arcs, and the new counts of a list of changes.
@@ -22,6 +25,21 @@ pub enum Section {
 pub struct Row {
     pub first: u16,
     pub cells: [u32; 32],
+}
+
+// The lengths in words of a schedule that a call wrote and of the list that it wrote beside it.
+#[derive(Clone, Copy)]
+pub struct Lengths {
+    pub sheet: usize,
+    pub list: usize,
+}
+
+impl Numbers for Lengths {
+    ghost numbers = { lengths_numbers };
+
+    fn numbers(self) -> [u64; 3] {
+        [self.sheet as u64, self.list as u64, 0]
+    }
 }
 
 // The word of an entry.
@@ -55,11 +73,9 @@ pub fn append(row: Row, section: Section, out: &mut [u32], at: usize) -> usize
     let cells = row.cells;
     let first = row.first as u32;
     let mut next = at;
-    let mut c = 0;
-    while c < 32 {
+    for c in 0..32 {
         let cell = cells[c];
         let key = first + c as u32;
-        c += 1;
         if 0 < cell {
             next = put(word(section, key, cell), out, next);
         }
@@ -72,10 +88,7 @@ pub fn filled(cells: [u32; 32]) -> usize
     ensures { result ≡ count (filled_at cells) 32 }
 {
     let mut entries = 0;
-    let mut c = 0;
-    while c < 32 {
-        let cell = cells[c];
-        c += 1;
+    for cell in cells {
         if 0 < cell {
             entries += 1;
         }
@@ -108,13 +121,10 @@ pub fn arc_cells(net: &[u32], sheet: &[u32], numbers: [u8; 128], n: u32) -> [u32
 {
     let codes = graph::arc_entries(net, sheet, n);
     let mut cells = [0u32; 32];
-    let mut t = 0;
-    while t < 32 {
-        let at = t;
-        let entry = codes[at];
-        t += 1;
+    for t in 0..32 {
+        let entry = codes[t];
         if 0 < entry {
-            cells[at] = arc_cell(sheet, numbers, entry);
+            cells[t] = arc_cell(sheet, numbers, entry);
         }
     }
     cells

@@ -1,15 +1,19 @@
 -- No number that is printed has more than ten digits, so that the longest text has room.
-use Rattle.scan.proofs.Basics.{ℕ, zero, suc, ◌+◌, ◌-◌, ◌≤◌, ◌<◌, arith, ◌≡◌, refl, ⊎_elim, Bool, true, false, ◌&&◌, ltb, List, [], ◌∷◌, ◌++◌, length, get_or}
+use Rattle.std.specs.Prelude.{Err, Ok}
+use Rattle.scan.proofs.Basics.{ℕ, zero, suc, ◌+◌, ◌-◌, ◌≤◌, ◌<◌, arith, ◌≡◌, refl, ⊎_elim, Bool, true, false, ltb, List, [], ◌∷◌, ◌++◌, length, get_or}
 use Prim.Native.Nat.{◌^◌}
 use native.Mathlib.Nat.{mul-le-mul}
-use Rattle.scan.proofs.Tests.{ltb-true, ltb-false, by_test, and_left, and_right}
+use Rattle.scan.proofs.Tests.{ltb-true, ltb-false, by_test}
 use Rattle.text.proofs.Longest.{Short, AllShort}
 use Rattle.table.specs.Table.{key_at, value_at}
-use Rattle.refusal.specs.Refusal.{refusal, kind_of, index_of}
+use Rattle.refusal.specs.Refusal.{refusal, kind_of, index_of, refusal_number}
 use Rattle.refusal.specs.Checks.{Clause, Check, once, each, Passes, FailAt, FirstFails}
 use Rattle.refusal.specs.declared.Position.{Position}
 use Rattle.refusal.specs.declared.Refusal.{Refusal}
+use Rattle.refusal.specs.declared.Reason.{Reason}
+use Rattle.refusal.specs.declared.Reason.TheVariants.{NetLength, ScheduleLength}
 use Rattle.refusal.proofs.Checks.{◌▸◌}
+use Rattle.refusal.proofs.Reasons.{reason-few}
 use Rattle.net.specs.Checks.{net_checks}
 use Rattle.sequential.specs.Petri.{PetriNet, petri_net}
 use Rattle.sequential.specs.Words.{node_count, entry_count, entry_key, entry_value, arc_keys, key_limit}
@@ -19,9 +23,7 @@ use Rattle.sequential.specs.Check.{schedule_reply}
 use Rattle.sequential.proofs.Accepted.{schedule-judged}
 use Rattle.net.specs.Check.{net_reply}
 use Rattle.refusal.specs.declared.Position.TheVariants.{Nothing}
-use Rattle.refusal.specs.declared.Verdict.TheVariants.{Refused}
 use Rattle.refusal.proofs.Verdicts.{then-cases}
-use Rattle.refusal.specs.declared.Verdict.TheVariants.{Accepted}
 use Rattle.scan.proofs.Count.{count-le}
 use Rattle.scan.proofs.Greatest.{greatest-attained}
 use Rattle.scan.proofs.Tabulate.{tabulate-at, tabulate-length}
@@ -36,12 +38,10 @@ use Rattle.sequential.proofs.Accepted.{accepts}
 use Rattle.sequential.proofs.Bounds.{bounds-length}
 use Rattle.graph.specs.Readable.{Sizes}
 use Rattle.graph.proofs.Readable.{known}
-use Rattle.judge.specs.Answer.{counts_of}
+use Rattle.judge.specs.Answer.{counts_of, CheckAnswer}
 use Rattle.judge.proofs.Judged.{accepted-readable}
 use Rattle.minimal.specs.Minimal.{minimal_form}
 use Rattle.minimal.proofs.Minimal.{form-accepted, form-short}
-use Rattle.judge.specs.declared.CheckAnswer.{CheckAnswer}
-use Rattle.judge.specs.declared.CheckAnswer.TheVariants.{Passed, Failed}
 use Rattle.octets.specs.Words.{is_ragged, words_of}
 use Rattle.files.specs.Words.{net_read, sheet_read}
 use Rattle.files.specs.Program.{tail_reply, read_reply, read_answer, files_answer, program_answer}
@@ -49,39 +49,23 @@ use Rattle.files.specs.Printed.{refused_text, text_of, printed, text_most}
 use Rattle.octets.proofs.Decoding.{words-length, count_fits}
 use Rattle.files.proofs.Replies.{check-failed, read-passed}
 
--- ---- a refusal
-
-abbrev ShortRefusal : Refusal → Type 0
-ShortRefusal r = Short r.number × Short (index_of r.at)
-
-abbrev short_clauses : List Clause → Bool
-short_clauses [] = true
-short_clauses (c ∷ cs) = ltb c.number (10 ^ 10) && short_clauses cs
-
-abbrev short_numbers : List Check → Bool
-short_numbers [] = true
-short_numbers (once P number ∷ cs) = ltb number (10 ^ 10) && short_numbers cs
-short_numbers (each size at clauses ∷ cs) = short_clauses clauses && short_numbers cs
+-- ---- a refusal: the numbers of reasons are small, so that it is the index that has to be
 
 -- the indices are below a size that is limited where the checks before pass, and a position tells its index
 abbrev ShortIndices : Type 0 → List Check → Type 0
 ShortIndices H [] = Unit
-ShortIndices H (once P number ∷ cs) = ShortIndices (H × P) cs
+ShortIndices H (once P reason ∷ cs) = ShortIndices (H × P) cs
 ShortIndices H (each size at clauses ∷ cs) = ((H → Short size) × ((i : ℕ) → index_of (at i) ≡ i)) × ShortIndices (H × Passes (each size at clauses)) cs
 
-at-short : (at : ℕ → Position) (cs : List Clause) (i : ℕ) (r : Refusal) → Short i → index_of (at i) ≡ i → short_clauses cs ≡ true → FailAt at cs i r → ShortRefusal r
-at-short at [] i r l e s f = absurd f
-at-short at (c ∷ cs) i r l e s f =
-    ⊎_elim (λ (m, q). rw (q, e) (ltb-true _ _ (and_left (ltb c.number (10 ^ 10)) _ s), l)) (λ (p, g). at-short at cs i r l e (and_right (ltb c.number (10 ^ 10)) _ s) g) f
+at-short : (at : ℕ → Position) (cs : List Clause) (i : ℕ) (r : Refusal) → Short i → index_of (at i) ≡ i → FailAt at cs i r → Short (index_of r.at)
+at-short at [] i r l e f = absurd f
+at-short at (c ∷ cs) i r l e f = ⊎_elim (λ (m, q). rw (q, e) l) (λ (p, g). at-short at cs i r l e g) f
 
-fails-short : (H : Type 0) (cs : List Check) (r : Refusal) → H → ShortIndices H cs → short_numbers cs ≡ true → FirstFails cs r → ShortRefusal r
-fails-short H [] r h s n f = absurd f
-fails-short H (once P number ∷ cs) r h s n f =
-    ⊎_elim (λ (x, e). rw e (ltb-true _ _ (and_left (ltb number (10 ^ 10)) _ n), omega arith))
-    (λ (p, g). fails-short (H × P) cs r (h, p) s (and_right (ltb number (10 ^ 10)) _ n) g) f
-fails-short H (each size at clauses ∷ cs) r h ((l, e), s) n f =
-    ⊎_elim (λ k. at-short at clauses k.index r (omega (arith, k.within, l h)) (e _) (and_left (short_clauses clauses) _ n) k.there)
-    (λ (p, g). fails-short _ cs r (h, p) s (and_right (short_clauses clauses) _ n) g) f
+fails-short : (H : Type 0) (cs : List Check) (r : Refusal) → H → ShortIndices H cs → FirstFails cs r → Short (index_of r.at)
+fails-short H [] r h s f = absurd f
+fails-short H (once P reason ∷ cs) r h s f = ⊎_elim (λ (x, e). rw e (omega arith)) (λ (p, g). fails-short (H × P) cs r (h, p) s g) f
+fails-short H (each size at clauses ∷ cs) r h ((l, e), s) f =
+    ⊎_elim (λ k. at-short at clauses k.index r (omega (arith, k.within, l h)) (e _) k.there) (λ (p, g). fails-short _ cs r (h, p) s g) f
 
 checks-short : (net sheet : List ℕ) → length net ≤ 10 ^ 9 → ShortIndices Unit (net_checks net ++ sheet_checks (petri_net net) sheet)
 checks-short net sheet l =
@@ -112,24 +96,24 @@ words-short N sheet t p w (suc (suc i)) l =
 
 -- ---- all that is printed
 
-tail-short : (b : Bool) (number : ℕ) (r : Refusal) → Short number → tail_reply b number ≡ Refused r → ShortRefusal r
-tail-short true number r l e = let q : refusal number Nothing ≡ r = cc in rw (← q) (l, omega arith)
-tail-short false number r l e = let z : ◌≡◌ {A = ℕ} 0 1 = cc in absurd (omega arith)
+tail-short : (b : Bool) (reason : Reason) (r : Refusal) → tail_reply b reason ≡ Err r → Short (index_of r.at)
+tail-short true reason r e = let q : refusal reason Nothing ≡ r = cc in rw (← q) (omega arith)
+tail-short false reason r e = let z : ◌≡◌ {A = ℕ} 0 1 = cc in absurd (omega arith)
 
 -- the net is asked twice where there is no tail
-refused-short : (a b : Bool) (net sheet : List ℕ) (r : Refusal) → length net ≤ 10 ^ 9 → read_reply a b net sheet ≡ Refused r → ShortRefusal r
+refused-short : (a b : Bool) (net sheet : List ℕ) (r : Refusal) → length net ≤ 10 ^ 9 → read_reply a b net sheet ≡ Err r → Short (index_of r.at)
 unfolding read_reply schedule_reply
 refused-short a b net sheet r l e =
-    ⊎_elim (tail-short a 1 r (omega arith))
+    ⊎_elim (tail-short a NetLength r)
     (λ (p, e). ⊎_elim (λ n. fails (rw n))
-    (λ (q, e). ⊎_elim (tail-short b 6 r (omega arith)) (λ (t, e). fails e) (then-cases (tail_reply b 6) (schedule_reply net sheet) r e)) (then-cases (net_reply net) _ r e))
-    (then-cases (tail_reply a 1) _ r e)
+    (λ (q, e). ⊎_elim (tail-short b ScheduleLength r) (λ (t, e). fails e) (then-cases (tail_reply b ScheduleLength) (schedule_reply net sheet) r e)) (then-cases (net_reply net) _ r e))
+    (then-cases (tail_reply a NetLength) _ r e)
   where
-    fails : schedule_reply net sheet ≡ Refused r → ShortRefusal r
-    fails f = fails-short Unit (net_checks net ++ sheet_checks (petri_net net) sheet) r tt (checks-short net sheet l) refl (((schedule-judged net sheet).refuses r).0 f)
+    fails : schedule_reply net sheet ≡ Err r → Short (index_of r.at)
+    fails f = fails-short Unit (net_checks net ++ sheet_checks (petri_net net) sheet) r tt (checks-short net sheet l) (((schedule-judged net sheet).refuses r).0 f)
 
 -- the numbers of an accepted schedule
-module _ (net sheet : List ℕ) (h : schedule_reply net sheet ≡ Accepted) where
+module _ (net sheet : List ℕ) (h : schedule_reply net sheet ≡ Ok tt) where
   abbrev N : PetriNet
   N = petri_net net
 
@@ -161,10 +145,10 @@ module _ (net sheet : List ℕ) (h : schedule_reply net sheet ≡ Accepted) wher
 
 text-fits : (answer : CheckAnswer) (a b : Bool) (net sheet : List ℕ) → length net ≤ 10 ^ 9 → read_answer a b net sheet ≡ answer → length (text_of answer net sheet) ≤ text_most
 unfolding read_answer text_of refused_text
-text-fits (Failed r) a b net sheet l e =
-    let (n, i) = refused-short a b net sheet r l (check-failed (read_reply a b net sheet) (counts_of net sheet) r e) in
-    omega (arith, answer-length r.number (kind_of r.at) (index_of r.at) n i)
-text-fits (Passed c) a b net sheet l e = let (h, q) = read-passed a b net sheet c e in rw (← q) (accepted-fits net sheet h)
+text-fits (Err r) a b net sheet l e =
+    let i = refused-short a b net sheet r l (check-failed (read_reply a b net sheet) (counts_of net sheet) r e) in
+    omega (arith, answer-length (refusal_number r) (kind_of r.at) (index_of r.at) (omega (arith, reason-few r.reason)) i)
+text-fits (Ok c) a b net sheet l e = let (h, q) = read-passed a b net sheet c e in rw (← q) (accepted-fits net sheet h)
 
 pub printed-fits : (net sheet : List ℕ) → length (printed net sheet) ≤ text_most
 unfolding files_answer program_answer printed

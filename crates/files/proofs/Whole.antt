@@ -1,14 +1,13 @@
 -- The program's buffers hold all that is handed on and printed, so that what is printed for what was read is what is printed for the files.
+use Rattle.std.specs.Prelude.{Err, Ok}
+use Rattle.judge.specs.Answer.{CheckAnswer}
 use Rattle.scan.proofs.Basics.{ℕ, ◌*◌, ◌≤◌, arith, ◌≡◌, refl, sym, ◌∙◌, List, length, take}
 use lib.Seq.{length-take-le}
 use Rattle.text.specs.Buffer.{Put}
 use Rattle.text.proofs.Put.{all-put, put_front, same_length}
-use Rattle.refusal.specs.declared.Verdict.TheVariants.{Accepted}
 use Rattle.lending.proofs.Lent.{room-enough}
 use Rattle.sequential.specs.Check.{schedule_reply}
 use Rattle.judge.specs.declared.Counts.{Counts}
-use Rattle.judge.specs.declared.CheckAnswer.{CheckAnswer}
-use Rattle.judge.specs.declared.CheckAnswer.TheVariants.{Passed, Failed}
 use Rattle.minimal.specs.Minimal.{minimal_form}
 use Rattle.minimal.proofs.Minimal.{form-short}
 use Rattle.octets.specs.Words.{words_of, cut}
@@ -42,10 +41,10 @@ pub read-prints : ReadPrints
 read-prints netFile sheetFile netBuffer sheetBuffer n s k l a b = rw (read-cut net_read n netFile netBuffer k a, read-cut sheet_read s sheetFile sheetBuffer l b) (cut-prints netFile sheetFile)
 
 -- 22 is not given
-room-for-form : (answer : CheckAnswer) (net sheet : List ℕ) → ((c : Counts) → answer ≡ Passed c → schedule_reply net sheet ≡ Accepted)
+room-for-form : (answer : CheckAnswer) (net sheet : List ℕ) → ((c : Counts) → answer ≡ Ok c → schedule_reply net sheet ≡ Ok tt)
     → room_answer answer form_most (minimal_form net sheet) ≡ answer
-room-for-form (Failed r) net sheet h = refl
-room-for-form (Passed c) net sheet h = rw (room-enough form_most (length (minimal_form net sheet)) (form-short net sheet (h c refl)))
+room-for-form (Err r) net sheet h = refl
+room-for-form (Ok c) net sheet h = rw (room-enough form_most (length (minimal_form net sheet)) (form-short net sheet (h c refl)))
 
 module _ (netBytes sheetBytes netBuffer sheetBuffer net sheet form out net' sheet' form' out' : List ℕ) (r : ℕ) (b : Buffers netBuffer sheetBuffer net sheet form out)
     (h : FilesPrinted netBytes sheetBytes net sheet form out r net' sheet' form' out') where

@@ -1,18 +1,17 @@
 -- What is promised of the reading of files and of what is printed for them, as statements. proofs/Demands has a term for each.
-use Rattle.std.specs.Prelude.{ℕ, ◌*◌, ◌≤◌, ◌≡◌, List, true, false, length, take}
+use Rattle.refusal.specs.declared.Reason.TheVariants.{NetLength, ScheduleLength}
+use Rattle.std.specs.Prelude.{ℕ, ◌*◌, ◌≤◌, ◌≡◌, List, true, false, length, take, Err, Ok}
 use Rattle.text.specs.Lines.{answer_line, accepted_lines}
-use Rattle.refusal.specs.Refusal.{refusal, kind_of, index_of}
+use Rattle.refusal.specs.Refusal.{refusal, kind_of, index_of, refusal_number}
 use Rattle.net.specs.Check.{net_reply}
 use Rattle.refusal.specs.declared.Position.TheVariants.{Nothing}
 use Rattle.refusal.specs.declared.Refusal.{Refusal}
-use Rattle.refusal.specs.declared.Verdict.TheVariants.{Accepted, Refused}
 use Rattle.sequential.specs.Petri.{petri_net}
 use Rattle.sequential.specs.Words.{node_count}
 use Rattle.sequential.specs.Check.{arc_count, await_count, schedule_reply}
 use Rattle.sequential.specs.Bounds.{bounds}
 use Rattle.judge.specs.Answer.{counts_of, check_answer}
 use Rattle.judge.specs.declared.Counts.{Counts}
-use Rattle.judge.specs.declared.CheckAnswer.TheVariants.{Passed, Failed}
 use Rattle.minimal.specs.Minimal.{minimal_form}
 use Rattle.octets.specs.Words.{ReadAsCut, is_ragged, words_of, cut}
 use Rattle.files.specs.Words.{net_read, sheet_read}
@@ -32,10 +31,10 @@ CutChecks = (net sheet : List ℕ) → schedule_reply (take net_read net) (take 
 
 -- what is answered, in this order: the net's tail, the net, the sheet's tail, the sheet: §12.4
 pub record AnswersFiles (net sheet : List ℕ) : Type 0 where
-  pub net_tail : is_ragged net_read net ≡ true → program_answer net sheet ≡ Failed (refusal 1 Nothing)
-  pub net_refused : is_ragged net_read net ≡ false → (r : Refusal) → net_reply (words_of net_read net) ≡ Refused r → program_answer net sheet ≡ Failed r
-  pub sheet_tail : is_ragged net_read net ≡ false → net_reply (words_of net_read net) ≡ Accepted → is_ragged sheet_read sheet ≡ true
-      → program_answer net sheet ≡ Failed (refusal 6 Nothing)
+  pub net_tail : is_ragged net_read net ≡ true → program_answer net sheet ≡ Err (refusal NetLength Nothing)
+  pub net_refused : is_ragged net_read net ≡ false → (r : Refusal) → net_reply (words_of net_read net) ≡ Err r → program_answer net sheet ≡ Err r
+  pub sheet_tail : is_ragged net_read net ≡ false → net_reply (words_of net_read net) ≡ Ok tt → is_ragged sheet_read sheet ≡ true
+      → program_answer net sheet ≡ Err (refusal ScheduleLength Nothing)
   pub no_tail : is_ragged net_read net ≡ false → is_ragged sheet_read sheet ≡ false → program_answer net sheet
       ≡ check_answer (schedule_reply (words_of net_read net) (words_of sheet_read sheet)) (counts_of (words_of net_read net) (words_of sheet_read sheet))
 
@@ -50,8 +49,8 @@ accepted_text net sheet = accepted_lines (node_count sheet) (arc_count (petri_ne
 
 -- a refusal prints line 1 only: §12.6
 pub record PrintsFiles (net sheet : List ℕ) : Type 0 where
-  pub refused : (r : Refusal) → program_answer net sheet ≡ Failed r → printed net sheet ≡ answer_line r.number (kind_of r.at) (index_of r.at)
-  pub accepted : (c : Counts) → program_answer net sheet ≡ Passed c → printed net sheet ≡ accepted_text (words_of net_read net) (words_of sheet_read sheet)
+  pub refused : (r : Refusal) → program_answer net sheet ≡ Err r → printed net sheet ≡ answer_line (refusal_number r) (kind_of r.at) (index_of r.at)
+  pub accepted : (c : Counts) → program_answer net sheet ≡ Ok c → printed net sheet ≡ accepted_text (words_of net_read net) (words_of sheet_read sheet)
 
 abbrev pub PrintsInOrder : Type 0
 PrintsInOrder = (net sheet : List ℕ) → PrintsFiles net sheet

@@ -1,16 +1,14 @@
 -- All that the program prints for its two files: §12.6, §12.7.
-use Rattle.std.specs.Prelude.{ℕ, ◌+◌, ◌*◌, ◌≡◌, List, length, take}
+use Rattle.std.specs.Prelude.{ℕ, ◌+◌, ◌*◌, ◌≡◌, List, length, take, Err, Ok}
 use Rattle.text.specs.Buffer.{Put}
 use Rattle.text.specs.Lines.{answer_line, accepted_lines}
 use Rattle.refusal.specs.Limits.{most_places, most_entries}
-use Rattle.refusal.specs.Refusal.{kind_of, index_of}
+use Rattle.refusal.specs.Refusal.{kind_of, index_of, refusal_number}
 use Rattle.refusal.specs.declared.Refusal.{Refusal}
 use Rattle.lending.specs.Call.{room_fault, written_over}
 use Rattle.sequential.specs.Petri.{petri_net}
 use Rattle.sequential.specs.Bounds.{bounds}
-use Rattle.judge.specs.Answer.{check_answer}
-use Rattle.judge.specs.declared.CheckAnswer.{CheckAnswer}
-use Rattle.judge.specs.declared.CheckAnswer.TheVariants.{Passed, Failed}
+use Rattle.judge.specs.Answer.{check_answer, CheckAnswer}
 use Rattle.minimal.specs.Minimal.{minimal_form}
 use Rattle.octets.specs.Words.{words_of, decoded}
 use Rattle.files.specs.Words.{net_read, sheet_read}
@@ -18,12 +16,12 @@ use Rattle.files.specs.Program.{files_answer, program_answer}
 
 -- line 1, all that a refusal prints: §12.6
 unfoldable pub refused_text : Refusal → List ℕ
-refused_text r = answer_line r.number (kind_of r.at) (index_of r.at)
+refused_text r = answer_line (refusal_number r) (kind_of r.at) (index_of r.at)
 
 -- what is printed for the check's answer to words: line 1, and on acceptance the counts, the bounds and the minimal form (§12.7)
 unfoldable pub text_of : CheckAnswer → List ℕ → List ℕ → List ℕ
-text_of (Failed r) net sheet = refused_text r
-text_of (Passed c) net sheet = accepted_lines c.nodes c.arcs c.awaits (bounds (petri_net net) sheet) (minimal_form net sheet)
+text_of (Err r) net sheet = refused_text r
+text_of (Ok c) net sheet = accepted_lines c.nodes c.arcs c.awaits (bounds (petri_net net) sheet) (minimal_form net sheet)
 
 -- what is printed for the bytes of two files: §12.5, §12.9
 unfoldable pub printed : List ℕ → List ℕ → List ℕ
@@ -56,12 +54,12 @@ Reads file buffer n = take (length buffer) file ≡ take n buffer
 
 -- 22 comes last (§7.54), if the buffer is too short for the minimal form
 abbrev pub room_answer : CheckAnswer → ℕ → List ℕ → CheckAnswer
-room_answer (Failed r) room form = Failed r
-room_answer (Passed c) room form = check_answer (room_fault room (length form)) c
+room_answer (Err r) room form = Err r
+room_answer (Ok c) room form = check_answer (room_fault room (length form)) c
 
 abbrev pub form_after : CheckAnswer → List ℕ → List ℕ → List ℕ
-form_after (Failed r) result form = form
-form_after (Passed c) result form = written_over result form
+form_after (Err r) result form = form
+form_after (Ok c) result form = written_over result form
 
 -- what is printed for words and the check's answer to them
 pub record WordsPrinted (answer : CheckAnswer) (net sheet form out : List ℕ) (r : ℕ) (form' out' : List ℕ) : Type 0 where

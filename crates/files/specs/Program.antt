@@ -1,27 +1,26 @@
 -- What the program answers for its two files: §12.4, §12.5.
-use Rattle.std.specs.Prelude.{ℕ, ◌≡◌, List, Bool, true, false, length}
-use Rattle.refusal.specs.Refusal.{refusal}
+use Rattle.std.specs.Prelude.{ℕ, ◌≡◌, List, Bool, true, false, length, Err, Ok}
+use Rattle.refusal.specs.Refusal.{refusal, Verdict}
 use Rattle.net.specs.Check.{net_reply}
 use Rattle.refusal.specs.declared.Position.TheVariants.{Nothing}
-use Rattle.refusal.specs.declared.Verdict.{Verdict}
-use Rattle.refusal.specs.declared.Verdict.TheVariants.{Accepted, Refused}
+use Rattle.refusal.specs.declared.Reason.{Reason}
+use Rattle.refusal.specs.declared.Reason.TheVariants.{NetLength, ScheduleLength}
 use Rattle.refusal.specs.Verdict.{and_then}
 use Rattle.sequential.specs.Check.{schedule_reply}
-use Rattle.judge.specs.Answer.{counts_of, check_answer}
-use Rattle.judge.specs.declared.CheckAnswer.{CheckAnswer}
+use Rattle.judge.specs.Answer.{counts_of, check_answer, CheckAnswer}
 use Rattle.octets.specs.Words.{is_ragged, word_count, words_of, decoded}
 use Rattle.files.specs.Words.{net_read, sheet_read}
 use Rattle.files.specs.declared.FilesAnswer.{FilesAnswer}
 
--- a tail is refused by the number of its file: §12.4
-abbrev pub tail_reply : Bool → ℕ → Verdict
-tail_reply true number = Refused (refusal number Nothing)
-tail_reply false number = Accepted
+-- a tail is refused for the reason of its file: §12.4
+abbrev pub tail_reply : Bool → Reason → Verdict
+tail_reply true reason = Err (refusal reason Nothing)
+tail_reply false reason = Ok tt
 
 -- the checks in their order: the net's tail, the net, the sheet's tail, the sheet: §12.4
 unfoldable pub read_reply : Bool → Bool → List ℕ → List ℕ → Verdict
 read_reply netRagged sheetRagged net sheet =
-    and_then (tail_reply netRagged 1) (and_then (net_reply net) (and_then (tail_reply sheetRagged 6) (schedule_reply net sheet)))
+    and_then (tail_reply netRagged NetLength) (and_then (net_reply net) (and_then (tail_reply sheetRagged ScheduleLength) (schedule_reply net sheet)))
 
 unfoldable pub read_answer : Bool → Bool → List ℕ → List ℕ → CheckAnswer
 read_answer netRagged sheetRagged net sheet = check_answer (read_reply netRagged sheetRagged net sheet) (counts_of net sheet)

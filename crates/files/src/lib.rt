@@ -1,17 +1,14 @@
 // The program's two files: their bytes as words, the answer to both, and all that is printed.
 #![tactic(auto)]
 
-ghost use Rattle.std.specs.Prelude.{◌≡◌};
-ghost use Rattle.refusal.specs.declared.Verdict.TheVariants.{Accepted};
+ghost use Rattle.std.specs.Prelude.{◌≡◌, Ok};
 ghost use Rattle.sequential.specs.Check.{schedule_reply};
-ghost use Rattle.judge.specs.declared.CheckAnswer.TheVariants.{Passed};
 ghost use Rattle.text.specs.Buffer.{Put};
 ghost use Rattle.files.specs.Program.{read_answer, FilesRead};
 ghost use Rattle.files.specs.Printed.{refused_text, WordsPrinted, FilesPrinted};
 
 use judge::{CheckAnswer, Counts};
-use minimal::FormAnswer;
-use refusal::{Position, Refusal, Verdict};
+use refusal::{Position, Reason, Refusal};
 
 // Which of the two files had a tail.
 #[derive(Clone, Copy)]
@@ -33,18 +30,15 @@ fn check_read(tails: Tails, net: &[u32], sheet: &[u32]) -> CheckAnswer
     ensures { result ≡ read_answer tails.net tails.sheet net.now sheet.now }
 {
     if tails.net {
-        return CheckAnswer::Failed(Refusal {
-            number: Refusal::NET_LENGTH,
+        return Err(Refusal {
+            reason: Reason::NetLength,
             at: Position::Nothing,
         });
     }
     if tails.sheet {
-        let found = net::check(net);
-        if let Verdict::Refused(r) = found {
-            return CheckAnswer::Failed(r);
-        }
-        return CheckAnswer::Failed(Refusal {
-            number: Refusal::SCHEDULE_LENGTH,
+        net::check(net)?;
+        return Err(Refusal {
+            reason: Reason::ScheduleLength,
             at: Position::Nothing,
         });
     }
@@ -76,7 +70,7 @@ fn print_refusal(refusal: Refusal, out: &mut [u8]) -> usize
     ensures { Put out.old 0 (refused_text refusal) result out.new }
 {
     let at = refusal.at;
-    text::answer_line(out, 0, refusal.number, at.kind(), at.index())
+    text::answer_line(out, 0, refusal.reason.number(), at.kind(), at.index())
 }
 
 // All lines for words that are accepted (§12.7), or 22 if the buffer is too short for their minimal form.
@@ -87,12 +81,12 @@ fn print_accepted(
     form: &mut [u32],
     out: &mut [u8],
 ) -> usize
-    requires { schedule_reply net.now sheet.now ≡ Accepted }
-    ensures { WordsPrinted (Passed counts) net.now sheet.now form.old out.old result form.new out.new }
+    requires { schedule_reply net.now sheet.now ≡ Ok tt }
+    ensures { WordsPrinted (Ok counts) net.now sheet.now form.old out.old result form.new out.new }
 {
     match minimize::form_of(net, sheet, form) {
-        FormAnswer::Refused(r) => print_refusal(r, out),
-        FormAnswer::Written(k) => {
+        Err(r) => print_refusal(r, out),
+        Ok(k) => {
             let bounds = schedule::bounds(net, sheet);
             let places = net::places(net) as usize;
             text::accepted_lines(
@@ -124,7 +118,7 @@ pub fn print_files(
     let s = found.sheet;
     let answer = found.answer;
     match answer {
-        CheckAnswer::Failed(r) => print_refusal(r, out),
-        CheckAnswer::Passed(counts) => print_accepted(counts, &net[..n], &sheet[..s], form, out),
+        Err(r) => print_refusal(r, out),
+        Ok(counts) => print_accepted(counts, &net[..n], &sheet[..s], form, out),
     }
 }

@@ -1,12 +1,12 @@
 -- Net and schedule are decoded up to one word more than the longest accepted one: words behind that change no answer (§15.7).
+use Rattle.std.specs.Prelude.{Err, Ok}
+use Rattle.refusal.specs.Refusal.{Verdict}
 use Rattle.scan.proofs.Basics.{ℕ, ◌<◌, arith, ◌≡◌, refl, ◌∙◌, List, [], length, take}
 use lib.Seq.{take_all}
 use Rattle.scan.proofs.Tests.{by_less}
 use Rattle.scan.specs.Scan.{tabulate}
 use Rattle.refusal.specs.Verdict.{verdict_of}
 use Rattle.refusal.specs.declared.Refusal.{Refusal}
-use Rattle.refusal.specs.declared.Verdict.{Verdict}
-use Rattle.refusal.specs.declared.Verdict.TheVariants.{Accepted, Refused}
 use Rattle.refusal.proofs.Verdicts.{then-accepted, then-refused}
 use Rattle.net.specs.Check.{net_reply}
 use Rattle.net.proofs.Cut.{overlong}
@@ -14,8 +14,7 @@ use Rattle.sequential.specs.Petri.{petri_net}
 use Rattle.sequential.specs.Check.{schedule_fault, schedule_reply}
 use Rattle.sequential.proofs.Cut.{cut-reply-both}
 use Rattle.graph.proofs.Readable.{known}
-use Rattle.judge.specs.Answer.{check_answer, counts_of}
-use Rattle.judge.specs.declared.CheckAnswer.{CheckAnswer}
+use Rattle.judge.specs.Answer.{check_answer, counts_of, CheckAnswer}
 use Rattle.judge.proofs.Judged.{accepted-readable}
 use Rattle.lending.specs.Call.{Core, output_fault, words_verdict}
 use Rattle.schedule.specs.Calls.{check_core, run_core}
@@ -29,7 +28,7 @@ use Rattle.firmware.specs.Parts.{Written}
 -- ---- what is handed on
 
 -- all of what is accepted
-pub handed-whole : (net sheet : List ℕ) → schedule_reply net sheet ≡ Accepted → (take 4228 net ≡ net) × (take 8195 sheet ≡ sheet)
+pub handed-whole : (net sheet : List ℕ) → schedule_reply net sheet ≡ Ok tt → (take 4228 net ≡ net) × (take 8195 sheet ≡ sheet)
 unfolding schedule_reply
 handed-whole net sheet h =
     let k = known net sheet (accepted-readable net sheet h) in
@@ -42,13 +41,13 @@ handed-whole net sheet h =
         let z : ◌≡◌ {A = ℕ} 0 1 = cc in
         omega arith
 
-pub decoded-words : (most : ℕ) (bytes out out' : List ℕ) (x : Reading) → length out ≡ most → FileRead bytes out x out' → take x.words out' ≡ take most (all_words bytes)
-decoded-words most bytes out out' x l d = words_are bytes out x.words out' d.words d.written ∙ rw l (read-as-cut most bytes).handed_on
+pub decoded-words : (bytes out out' : List ℕ) (x : Reading) → FileRead bytes out x out' → take x.words out' ≡ take (length out) (all_words bytes)
+decoded-words bytes out out' x d = words_are bytes out x.words out' d.words d.written ∙ (read-as-cut (length out) bytes).handed_on
 
 -- ---- a call that asks the schedule check first
 
 pub record Asks {Answer : Type 0} (core : List ℕ → List ℕ → Core Answer) : Type 0 where
-  pub refuses : (net sheet : List ℕ) (r : Refusal) → schedule_reply net sheet ≡ Refused r → (core net sheet).verdict ≡ Refused r
+  pub refuses : (net sheet : List ℕ) (r : Refusal) → schedule_reply net sheet ≡ Err r → (core net sheet).verdict ≡ Err r
   pub refused : (net sheet net' sheet' : List ℕ) (r : Refusal) → (core net sheet).refused r ≡ (core net' sheet').refused r
 
 pub check-asks : Asks check_core
@@ -63,31 +62,24 @@ form-asks = record { refuses = λ net sheet r e. e; refused = λ net sheet net' 
 -- ---- from the words decoded to all words
 
 module _ {Answer : Type 0} where
-  pub refused-written : {core : Core Answer} {out : List ℕ} {a : Answer} {r : Refusal} → core.verdict ≡ Refused r → a ≡ core.refused r → Written core out a out
+  pub refused-written : {core : Core Answer} {out : List ℕ} {a : Answer} {r : Refusal} → core.verdict ≡ Err r → a ≡ core.refused r → Written core out a out
   unfolding words_verdict
   refused-written e h = record { answered = rw e h; written = rw e }
 
-  refused-answer : {core : Core Answer} {out out' : List ℕ} {a : Answer} {r : Refusal} → core.verdict ≡ Refused r → Written core out a out' → (a ≡ core.refused r) × (out' ≡ out)
+  refused-answer : {core : Core Answer} {out out' : List ℕ} {a : Answer} {r : Refusal} → core.verdict ≡ Err r → Written core out a out' → (a ≡ core.refused r) × (out' ≡ out)
   unfolding words_verdict
   refused-answer e d = (rw e at d.answered, rw e at d.written)
 
-  written-cut : (core : List ℕ → List ℕ → Core Answer) → Asks core → (net sheet out : List ℕ) (a : Answer) (out' : List ℕ)
+  pub written-cut : (core : List ℕ → List ℕ → Core Answer) → Asks core → (net sheet : List ℕ) {out out' : List ℕ} {a : Answer}
       → Written (core (take 4228 net) (take 8195 sheet)) out a out' → Written (core net sheet) out a out'
-  written-cut core asks net sheet out a out' d = go (schedule_reply net sheet) refl
+  written-cut core asks net sheet {out} {out'} {a} d = go (schedule_reply net sheet) refl
     where
       go : (v : Verdict) → schedule_reply net sheet ≡ v → Written (core net sheet) out a out'
-      go Accepted e = let (n, s) = handed-whole net sheet e in rw (n, s) at d
-      go (Refused r) e =
+      go (Ok tt) e = let (n, s) = handed-whole net sheet e in rw (n, s) at d
+      go (Err r) e =
           let q = cut-reply-both 4228 8195 (omega arith) (omega arith) net sheet ∙ e in
           let (h, o) = refused-answer (asks.refuses _ _ r q) d in
           rw o (refused-written (asks.refuses net sheet r e) (h ∙ asks.refused _ _ net sheet r))
-
-  pub written-decoded : (core : List ℕ → List ℕ → Core Answer) → Asks core → (netBytes sheetBytes out net sheet net' sheet' : List ℕ) (x y : Reading) (a : Answer) (out' : List ℕ)
-      → length net ≡ 4228 → length sheet ≡ 8195 → FileRead netBytes net x net' → FileRead sheetBytes sheet y sheet'
-      → Written (core (take x.words net') (take y.words sheet')) out a out' → Written (core (all_words netBytes) (all_words sheetBytes)) out a out'
-  written-decoded core asks netBytes sheetBytes out net sheet net' sheet' x y a out' k l n s d =
-      written-cut core asks (all_words netBytes) (all_words sheetBytes) out a out'
-      (rw (decoded-words 4228 netBytes net net' x k n, decoded-words 8195 sheetBytes sheet sheet' y l s) at d)
 
 -- ---- the check's answer, which writes nothing
 
@@ -96,5 +88,5 @@ unfolding words_verdict output_fault bytes_over bytes_of tabulate
 check-written net sheet a h = go (schedule_reply net sheet) refl
   where
     go : (v : Verdict) → schedule_reply net sheet ≡ v → Written (check_core net sheet) [] a []
-    go Accepted e = record { answered = rw e (rw e at h); written = rw e }
-    go (Refused r) e = refused-written e (rw e at h)
+    go (Ok tt) e = record { answered = rw e (rw e at h); written = rw e }
+    go (Err r) e = refused-written e (rw e at h)

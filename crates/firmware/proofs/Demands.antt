@@ -1,4 +1,5 @@
 -- The promises of the calls over bytes, proved.
+use Rattle.refusal.specs.declared.Reason.TheVariants.{BrokenWord, SmallOutput}
 use Rattle.scan.proofs.Basics.{ℕ, ◌/◌, ◌≤◌, arith, refl, List, [], ◌∷◌, ◌++◌, length}
 use Rattle.refusal.specs.Checks.{once}
 use Rattle.refusal.proofs.Judges.{Judges}
@@ -20,8 +21,8 @@ use Rattle.firmware.proofs.Fires.{fires-by-number, every-firing, fires-as-words}
 use Rattle.firmware.proofs.Forms.{room-bytes, form-judged, check-judged, made-accepted, made-lists, forms-same, form-there}
 
 run-judged : (net sheet firings out : List ℕ) → Judges (words_verdict (run_bytes net sheet firings) (all_words out ∷ []))
-    (once (Whole (length net) (length sheet) (length firings)) 31
-    ∷ ((decoded_checks net sheet ++ run_checks (petri_net (all_words net)) (all_words sheet) (all_words firings)) ++ (once ((petri_net (all_words net)).places ≤ length out / 4) 22 ∷ [])))
+    (once (Whole (length net) (length sheet) (length firings)) BrokenWord
+    ∷ ((decoded_checks net sheet ++ run_checks (petri_net (all_words net)) (all_words sheet) (all_words firings)) ++ (once ((petri_net (all_words net)).places ≤ length out / 4) SmallOutput ∷ [])))
 run-judged net sheet firings out =
     words-judged (run_bytes net sheet firings) (all_words out ∷ []) (bytes-law (length net) (length sheet) (length firings) (run-law (all_words net) (all_words sheet) (all_words firings))).judged
     (λ p. let e = end-length (all_words net) (all_words firings) in

@@ -1,16 +1,17 @@
 -- The number of a single firing: below 2,147,483,648 it is the target of the arc, from there on it tells the first check that fails, and never 19. What holds of every
 -- call holds of it, and it does what the word call does with the node's own counts.
+use Rattle.std.specs.Prelude.{Err, Ok}
+use Rattle.refusal.specs.declared.Reason.TheVariants.{BrokenWord, NoSuchNode, NotOffered, SmallScratch}
+use Rattle.schedule.specs.Plain.{FireAnswer}
 use Rattle.scan.proofs.Basics.{ℕ, ◌+◌, ◌≤◌, ◌<◌, arith, ◌≡◌, refl, sym, ap, ◌∙◌, inl, inr, ⊎_elim, some, List, [], ◌∷◌, ◌++◌, length, get_or}
 use Rattle.scan.proofs.Tests.{by_less}
 use Rattle.scan.proofs.Tabulate.{tabulate-at}
 use Rattle.scan.proofs.Front.{cleared-whole}
 use Rattle.refusal.specs.Limits.{scratch_limit}
-use Rattle.refusal.specs.Refusal.{refusal}
+use Rattle.refusal.specs.Refusal.{refusal, Verdict, refusal_number}
 use Rattle.refusal.specs.declared.Position.TheVariants.{Nothing}
 use Rattle.refusal.specs.Checks.{Check, once, FirstFails}
 use Rattle.refusal.specs.declared.Refusal.{Refusal}
-use Rattle.refusal.specs.declared.Verdict.{Verdict}
-use Rattle.refusal.specs.declared.Verdict.TheVariants.{Accepted, Refused}
 use Rattle.refusal.proofs.Checks.{Tells}
 use Rattle.refusal.proofs.Judges.{Judges, judges-found, judges-then, pass-append, without-spared, spared-never}
 use Rattle.refusal.proofs.Verdicts.{accepted-refused}
@@ -30,7 +31,6 @@ use Rattle.lending.proofs.Lent.{scratch-kept, scratch-cleared}
 use Rattle.lending.proofs.Laws.{call-enough}
 use Rattle.lending.proofs.Judged.{words-judged-none, call-judged}
 use Rattle.schedule.specs.Firing.{step_fault, follows}
-use Rattle.schedule.specs.declared.FireAnswer.{FireAnswer}
 use Rattle.schedule.specs.declared.Walker.{Walker}
 use Rattle.schedule.proofs.Walkers.{step-tells}
 use Rattle.octets.specs.Words.{all_words}
@@ -46,13 +46,13 @@ use Rattle.firmware.proofs.Forms.{accepted-passes}
 
 module _ (net sheet : List ℕ) (n t : ℕ) where
   abbrev own_checks : List Check
-  own_checks = once (n < node_count sheet) 18 ∷ once (Offers (petri_net net) (graph (petri_net net) sheet) n t) 20 ∷ []
+  own_checks = once (n < node_count sheet) NoSuchNode ∷ once (Offers (petri_net net) (graph (petri_net net) sheet) n t) NotOffered ∷ []
 
-  own-counts : schedule_reply net sheet ≡ Accepted → n < node_count sheet → (p : ℕ) → p < 32 → get_or (marking_row net sheet n) p 0 ≡ count_at (petri_net net) sheet n p
+  own-counts : schedule_reply net sheet ≡ Ok tt → n < node_count sheet → (p : ℕ) → p < 32 → get_or (marking_row net sheet n) p 0 ≡ count_at (petri_net net) sheet n p
   own-counts h low p l =
       ap (λ (y : List ℕ). get_or y p 0) (marking-right net sheet (accepted-readable net sheet h).arcs n low) ∙ tabulate-at (count_at (petri_net net) sheet n) 0 32 p l
 
-  own-tells : schedule_reply net sheet ≡ Accepted → Tells (step_fault (petri_net net) sheet (own_walker net sheet n) t) own_checks
+  own-tells : schedule_reply net sheet ≡ Ok tt → Tells (step_fault (petri_net net) sheet (own_walker net sheet n) t) own_checks
   own-tells h =
       let s = step-tells (petri_net net) sheet (own_walker net sheet n) t in
       record {
@@ -74,7 +74,7 @@ module _ (net sheet : List ℕ) (n t : ℕ) where
       (λ p. judges-found _ _ (own-tells ((schedule-judged net sheet).accepts.1 p)))
 
   -- the target of an arc is a node
-  target_low : schedule_reply net sheet ≡ Accepted → n < node_count sheet → (m : ℕ) → (graph (petri_net net) sheet).arc n t ≡ some m → m < 128
+  target_low : schedule_reply net sheet ≡ Ok tt → n < node_count sheet → (m : ℕ) → (graph (petri_net net) sheet).arc n t ≡ some m → m < 128
   target_low h low m e =
       let l = (closed net sheet h).lands n t m low e in
       let k = (known net sheet (accepted-readable net sheet h)).few_nodes in
@@ -92,36 +92,36 @@ module _ (net sheet : List ℕ) (n t : ℕ) (scratch : List ℕ) where
   own_words = decoded_checks net sheet ++ own_checks (all_words net) (all_words sheet) n t
 
   abbrev past_scratch : List Check
-  past_scratch = once (Whole (length net) (length sheet) 0) 31 ∷ own_words
+  past_scratch = once (Whole (length net) (length sheet) 0) BrokenWord ∷ own_words
 
   fire-judged : Judges (bytes_verdict (fire_bytes net sheet n t) [] (length scratch)) (firing_checks net sheet n t scratch)
   unfolding bytes_verdict
   fire-judged =
       call-judged (fire_bytes net sheet n t) (all_words [] ∷ []) scratch_bytes scratch
       (words-judged-none (fire_bytes net sheet n t) (all_words [] ∷ [])
-      (judges-then (broken_fault (length net) (length sheet) 0) _ (once (Whole (length net) (length sheet) 0) 31 ∷ []) _ (broken-judged (length net) (length sheet) 0)
+      (judges-then (broken_fault (length net) (length sheet) 0) _ (once (Whole (length net) (length sheet) 0) BrokenWord ∷ []) _ (broken-judged (length net) (length sheet) 0)
       (λ p. own-judged (all_words net) (all_words sheet) n t)) refl)
 
   -- the refusals of number 21, and those of number 31
-  by-21 : (x : Refusal) → FirstFails (firing_checks net sheet n t scratch) x → x.number ≡ 21 → length scratch < scratch_bytes
+  by-21 : (x : Refusal) → FirstFails (firing_checks net sheet n t scratch) x → refusal_number x ≡ 21 → length scratch < scratch_bytes
   by-21 x f e =
       ⊎_elim (λ (no_room, q). by_less (length scratch) scratch_bytes (λ l. l) (λ l. absurd (no_room l)))
       (λ (l, g). absurd (spared-never 21 past_scratch x (without-spared 21 past_scratch refl) g e)) f
 
-  by-31 : (x : Refusal) → FirstFails (firing_checks net sheet n t scratch) x → x.number ≡ 31 → (scratch_bytes ≤ length scratch) × (Whole (length net) (length sheet) 0 → ⊥)
+  by-31 : (x : Refusal) → FirstFails (firing_checks net sheet n t scratch) x → refusal_number x ≡ 31 → (scratch_bytes ≤ length scratch) × (Whole (length net) (length sheet) 0 → ⊥)
   by-31 x f e =
-      ⊎_elim (λ (no_room, q). let k : x.number ≡ 21 = ap (λ (y : Refusal). y.number) q in absurd (omega arith))
+      ⊎_elim (λ (no_room, q). let k : refusal_number x ≡ 21 = ap refusal_number q in absurd (omega arith))
       (λ (l, g). ⊎_elim (λ (cut, q). (l, cut)) (λ (w, h). absurd (spared-never 31 own_words x (without-spared 31 own_words refl) h e)) g) f
 
   pub fires-by-number : (r : ℕ) (scratch' : List ℕ) → BytesFired net sheet n t scratch r scratch' → FiresByNumber net sheet n t scratch r
   fires-by-number r scratch' d = go (bytes_verdict (fire_bytes net sheet n t) [] (length scratch)) refl
     where
-      this : (x : Refusal) → bytes_verdict (fire_bytes net sheet n t) [] (length scratch) ≡ Refused x → r ≡ 2147483648 + x.number
-          → (y : Refusal) → FirstFails (firing_checks net sheet n t scratch) y → r ≡ 2147483648 + y.number
-      this x e q y f = let same : x ≡ y = cc (e, (fire-judged.refuses y).1 f) in q ∙ ap (λ (z : Refusal). 2147483648 + z.number) same
+      this : (x : Refusal) → bytes_verdict (fire_bytes net sheet n t) [] (length scratch) ≡ Err x → r ≡ 2147483648 + refusal_number x
+          → (y : Refusal) → FirstFails (firing_checks net sheet n t scratch) y → r ≡ 2147483648 + refusal_number y
+      this x e q y f = let same : x ≡ y = cc (e, (fire-judged.refuses y).1 f) in q ∙ ap (λ (z : Refusal). 2147483648 + refusal_number z) same
 
       go : (v : Verdict) → bytes_verdict (fire_bytes net sheet n t) [] (length scratch) ≡ v → FiresByNumber net sheet n t scratch r
-      go Accepted e =
+      go (Ok tt) e =
           let (a, (w, b)) = fire-judged.accepts.0 e in
           let (words, (low, ((m, arc), u))) = (pass-append (decoded_checks net sheet) (own_checks (all_words net) (all_words sheet) n t)).0 b in
           let h = (schedule-judged (all_words net) (all_words sheet)).accepts.1 words in
@@ -136,16 +136,16 @@ module _ (net sheet : List ℕ) (n t : ℕ) (scratch : List ℕ) where
             broken = (λ k. absurd (omega arith), λ (k, cut). absurd (cut w));
             never_19 = λ k. omega arith;
           }
-      go (Refused x) e =
-          let q : r ≡ 2147483648 + x.number = d.returned ∙ rw e in
+      go (Err x) e =
+          let q : r ≡ 2147483648 + refusal_number x = d.returned ∙ rw e in
           let f = (fire-judged.refuses x).0 e in
           record {
             fires = (λ k. absurd (omega arith), λ p. accepted-refused _ x (fire-judged.accepts.1 p) e);
             leads = λ k. absurd (omega arith);
             named = λ k. (x, f, q);
             this = this x e q;
-            small = (λ k. by-21 x f (omega arith), λ k. this x e q (refusal 21 Nothing) (inl (λ l. omega arith, refl)));
-            broken = (λ k. by-31 x f (omega arith), λ (k, cut). this x e q (refusal 31 Nothing) (inr (k, inl (cut, refl))));
+            small = (λ k. by-21 x f (omega arith), λ k. this x e q (refusal SmallScratch Nothing) (inl (λ l. omega arith, refl)));
+            broken = (λ k. by-31 x f (omega arith), λ (k, cut). this x e q (refusal BrokenWord Nothing) (inr (k, inl (cut, refl))));
             never_19 = λ k. spared-never 19 (firing_checks net sheet n t scratch) x (without-spared 19 (firing_checks net sheet n t scratch) refl) f (omega arith);
           }
 

@@ -1,4 +1,6 @@
 -- Demand 3 over bytes: what a call wrote are the bytes of the minimal form, which are read again as its words.
+use Rattle.std.specs.Prelude.{Ok}
+use Rattle.refusal.specs.declared.Reason.TheVariants.{BrokenWord, SmallOutput}
 use Rattle.scan.proofs.Basics.{ℕ, ◌+◌, ◌*◌, ◌/◌, ◌-◌, ◌≤◌, ◌<◌, arith, ◌≡◌, refl, sym, ap, ◌∙◌, ◌↔◌, List, [], ◌∷◌, ◌++◌, length, get_or}
 use lib.ListN.{get_or-append}
 use lib.Seq.{ext_get_or, get_or-take, take-append_seam}
@@ -6,7 +8,6 @@ use Rattle.scan.proofs.Tests.{by_less}
 use Rattle.automaton.specs.Automaton.{SameLists}
 use Rattle.table.specs.Table.{key_at, value_at}
 use Rattle.refusal.specs.Checks.{once}
-use Rattle.refusal.specs.declared.Verdict.TheVariants.{Accepted}
 use Rattle.refusal.proofs.Judges.{Judges, pass-append}
 use Rattle.sequential.specs.Petri.{petri_net}
 use Rattle.sequential.specs.Words.{entry_count, entry_key, entry_value, arc_keys, key_limit}
@@ -33,7 +34,7 @@ use Rattle.firmware.proofs.Judged.{bytes-law, every-bytes, zero-passes, passes-z
 
 -- ---- the words of what is accepted are below 2 to the power of 32
 
-module _ (net sheet : List ℕ) (h : schedule_reply net sheet ≡ Accepted) where
+module _ (net sheet : List ℕ) (h : schedule_reply net sheet ≡ Ok tt) where
   abbrev readable : Readable net sheet
   readable = accepted-readable net sheet h
 
@@ -65,23 +66,23 @@ room-bytes result out = (λ l. (room-one result (all_words out)).0 (omega (arith
 
 module _ (net sheet : List ℕ) where
   pub form-judged : (out : List ℕ) → Judges (words_verdict (form_bytes net sheet) (all_words out ∷ []))
-      (once (Whole (length net) (length sheet) 0) 31 ∷ (decoded_checks net sheet ++ (once (length (minimal_form (all_words net) (all_words sheet)) ≤ length out / 4) 22 ∷ [])))
+      (once (Whole (length net) (length sheet) 0) BrokenWord ∷ (decoded_checks net sheet ++ (once (length (minimal_form (all_words net) (all_words sheet)) ≤ length out / 4) SmallOutput ∷ [])))
   form-judged out =
       words-judged (form_bytes net sheet) (all_words out ∷ []) (bytes-law (length net) (length sheet) 0 (form-law (all_words net) (all_words sheet))).judged
       (λ p. room-bytes (minimal_form (all_words net) (all_words sheet)) out)
 
-  pub check-judged : Judges (words_verdict (check_bytes net sheet) (all_words [] ∷ [])) (once (Whole (length net) (length sheet) 0) 31 ∷ decoded_checks net sheet)
+  pub check-judged : Judges (words_verdict (check_bytes net sheet) (all_words [] ∷ [])) (once (Whole (length net) (length sheet) 0) BrokenWord ∷ decoded_checks net sheet)
   check-judged =
       words-judged-none (check_bytes net sheet) (all_words [] ∷ []) (bytes-law (length net) (length sheet) 0 (check-law (all_words net) (all_words sheet))).judged refl
 
 -- ---- a check that returned 0
 
-pub accepted-passes : (net sheet : List ℕ) → BytesAccepted net sheet → Whole (length net) (length sheet) 0 × (schedule_reply (all_words net) (all_words sheet) ≡ Accepted)
+pub accepted-passes : (net sheet : List ℕ) → BytesAccepted net sheet → Whole (length net) (length sheet) 0 × (schedule_reply (all_words net) (all_words sheet) ≡ Ok tt)
 accepted-passes net sheet a =
     let (l, (s, (w, d))) = zero-passes (length net) (length sheet) 0 [] (check-law (all_words net) (all_words sheet)) (check-judged net sheet) refl _ _ _ _ _ a.done in
     (w, (schedule-judged (all_words net) (all_words sheet)).accepts.1 d)
 
-always : (net sheet : List ℕ) → Whole (length net) (length sheet) 0 → schedule_reply (all_words net) (all_words sheet) ≡ Accepted → AlwaysAccepted net sheet
+always : (net sheet : List ℕ) → Whole (length net) (length sheet) 0 → schedule_reply (all_words net) (all_words sheet) ≡ Ok tt → AlwaysAccepted net sheet
 always net sheet w h s p r s' p' ls lp d =
     passes-zero (length net) (length sheet) 0 [] (check-law (all_words net) (all_words sheet)) (check-judged net sheet) refl _ _ _ _ _ _ d lp
     (ls, (w, (schedule-judged (all_words net) (all_words sheet)).accepts.0 h))
@@ -92,10 +93,10 @@ module _ (net sheet : List ℕ) (c : BytesForm net sheet) where
   abbrev form : List ℕ
   form = minimal_form (all_words net) (all_words sheet)
 
-  passed : Whole (length net) (length sheet) 0 × (schedule_reply (all_words net) (all_words sheet) ≡ Accepted)
+  passed : Whole (length net) (length sheet) 0 × (schedule_reply (all_words net) (all_words sheet) ≡ Ok tt)
   passed =
       let (l, (s, (w, rest))) = zero-passes (length net) (length sheet) 0 c.out (form-law (all_words net) (all_words sheet)) (form-judged net sheet c.out) refl _ _ _ _ _ c.done in
-      (w, (schedule-judged (all_words net) (all_words sheet)).accepts.1 ((pass-append (decoded_checks net sheet) (once (length form ≤ length c.out / 4) 22 ∷ [])).0 rest).0)
+      (w, (schedule-judged (all_words net) (all_words sheet)).accepts.1 ((pass-append (decoded_checks net sheet) (once (length form ≤ length c.out / 4) SmallOutput ∷ [])).0 rest).0)
 
   left : (c.out' ≡ bytes_over 4 form c.out) × (c.reply' ≡ bytes_over 8 (0 ∷ 0 ∷ 0 ∷ length form ∷ 0 ∷ 0 ∷ []) c.reply)
   left = zero-written (length net) (length sheet) 0 c.out (form-law (all_words net) (all_words sheet)) (form-judged net sheet c.out) refl _ _ _ _ _ c.done
@@ -160,7 +161,7 @@ form-there net sheet out scratch reply a ls lp lo =
       ls,
       (
         w,
-        (pass-append (decoded_checks net sheet) (once (length (minimal_form (all_words net) (all_words sheet)) ≤ length out / 4) 22 ∷ [])).1
+        (pass-append (decoded_checks net sheet) (once (length (minimal_form (all_words net) (all_words sheet)) ≤ length out / 4) SmallOutput ∷ [])).1
             ((schedule-judged (all_words net) (all_words sheet)).accepts.0 h, (room, tt)),
       ),
     ) in

@@ -1,13 +1,13 @@
 -- A call over bytes follows its checks: 21, 31, those of the decoded words, and 22 last. Shown of any core.
+use Rattle.std.specs.Prelude.{Err, Ok}
+use Rattle.refusal.specs.declared.Reason.TheVariants.{BrokenWord}
 use Rattle.scan.proofs.Basics.{ℕ, ◌%◌, ◌≤◌, ◌<◌, arith, ◌≡◌, refl, sym, ap, ◌∙◌, ◌⊎◌, inl, inr, ⊎_elim, ◌↔◌, true, false, ◌||◌, eqb, List, [], ◌∷◌, length}
 use Rattle.scan.proofs.Tests.{by_less, eqb-true, eq-eqb, decides_not, or-none-left, or-none-right}
 use Rattle.scan.specs.Scan.{when}
-use Rattle.refusal.specs.Refusal.{refusal, number_of}
+use Rattle.refusal.specs.Refusal.{refusal, number_of, Verdict, refusal_number}
 use Rattle.refusal.specs.Checks.{Check, once, AllPass, FirstFails}
 use Rattle.refusal.specs.declared.Position.TheVariants.{Nothing}
 use Rattle.refusal.specs.declared.Refusal.{Refusal}
-use Rattle.refusal.specs.declared.Verdict.{Verdict}
-use Rattle.refusal.specs.declared.Verdict.TheVariants.{Accepted, Refused}
 use Rattle.refusal.proofs.Checks.{says-when, Tells}
 use Rattle.refusal.proofs.Judges.{Judges, judges-found, judges-then, without, without-spared, spared-never}
 use Rattle.lending.specs.Call.{Core, CallDone, buffer, words_verdict, outs_after, scratch_at_return}
@@ -34,23 +34,23 @@ module _ (net sheet firings : ℕ) where
       part : (n : ℕ) → (is_broken n ≡ false) ↔ (n % 4 ≡ 0)
       part n = decides_not (eqb (n % 4) 0) (eqb-true _ _) (eq-eqb _ _)
 
-  broken-tells : Tells (when (is_broken net || (is_broken sheet || is_broken firings)) (refusal 31 Nothing)) (once (Whole net sheet firings) 31 ∷ [])
+  broken-tells : Tells (when (is_broken net || (is_broken sheet || is_broken firings)) (refusal BrokenWord Nothing)) (once (Whole net sheet firings) BrokenWord ∷ [])
   broken-tells =
-      let s = says-when (is_broken net || (is_broken sheet || is_broken firings)) (refusal 31 Nothing) whole↔ in
+      let s = says-when (is_broken net || (is_broken sheet || is_broken firings)) (refusal BrokenWord Nothing) whole↔ in
       record {
         passes = (λ e. (s.passes.0 e, tt), λ (p, u). s.passes.1 p);
         fails = λ r. (λ e. inl ((s.fails r).0 e), ⊎_elim (λ f. (s.fails r).1 f) (λ (p, b). absurd b));
       }
 
-  pub broken-judged : Judges (broken_fault net sheet firings) (once (Whole net sheet firings) 31 ∷ [])
+  pub broken-judged : Judges (broken_fault net sheet firings) (once (Whole net sheet firings) BrokenWord ∷ [])
   unfolding broken_fault
   broken-judged = judges-found _ _ broken-tells
 
   -- a core that asks 31 first is lawful where the word call's is
   pub bytes-law : {Answer : Type 0} {core : Core Answer} {six : Answer → List ℕ} {own : List ℕ} {words : List Check} → Lawful core six own words
-      → Lawful (over_bytes (broken_fault net sheet firings) core) six own (once (Whole net sheet firings) 31 ∷ words)
+      → Lawful (over_bytes (broken_fault net sheet firings) core) six own (once (Whole net sheet firings) BrokenWord ∷ words)
   bytes-law {words = words} law = record {
-    judged = judges-then (broken_fault net sheet firings) _ (once (Whole net sheet firings) 31 ∷ []) words broken-judged (λ p. law.judged);
+    judged = judges-then (broken_fault net sheet firings) _ (once (Whole net sheet firings) BrokenWord ∷ []) words broken-judged (λ p. law.judged);
     proper = law.proper;
     plain-accepted = law.plain-accepted;
     own-length = law.own-length;
@@ -60,7 +60,7 @@ module _ (net sheet firings : ℕ) where
 -- ---- a call done
 
 module _ (net sheet firings : ℕ) (out : List ℕ) {Answer : Type 0} {core : Core Answer} {six : Answer → List ℕ} {own : List ℕ} {words rest : List Check}
-    (law : Lawful core six own words) (j : Judges (words_verdict (over_bytes (broken_fault net sheet firings) core) (all_words out ∷ [])) (once (Whole net sheet firings) 31 ∷ rest))
+    (law : Lawful core six own words) (j : Judges (words_verdict (over_bytes (broken_fault net sheet firings) core) (all_words out ∷ [])) (once (Whole net sheet firings) BrokenWord ∷ rest))
     (none31 : without 31 rest ≡ true) where
   abbrev over : Core Answer
   over = over_bytes (broken_fault net sheet firings) core
@@ -90,25 +90,25 @@ module _ (net sheet firings : ℕ) (out : List ℕ) {Answer : Type 0} {core : Co
     )
 
     -- the refusals of number 21, and those of number 31
-    by-21 : (x : Refusal) → bytes_verdict over out (length s) ≡ Refused x → (x.number ≡ 21) ↔ (length s < scratch_bytes)
+    by-21 : (x : Refusal) → bytes_verdict over out (length s) ≡ Err x → (refusal_number x ≡ 21) ↔ (length s < scratch_bytes)
     unfolding bytes_verdict
     by-21 x e = (refusal-number (bytes-law net sheet firings law) scratch_bytes (all_words out ∷ []) s x e).1
 
-    by-31 : (x : Refusal) → FirstFails (bytes_checks s (Whole net sheet firings) rest) x → x.number ≡ 31 → (scratch_bytes ≤ length s) × (Whole net sheet firings → ⊥)
+    by-31 : (x : Refusal) → FirstFails (bytes_checks s (Whole net sheet firings) rest) x → refusal_number x ≡ 31 → (scratch_bytes ≤ length s) × (Whole net sheet firings → ⊥)
     by-31 x f e =
-        ⊎_elim (λ (n, q). let k : x.number ≡ 21 = ap (λ (y : Refusal). y.number) q in absurd (omega arith))
+        ⊎_elim (λ (n, q). let k : refusal_number x ≡ 21 = ap refusal_number q in absurd (omega arith))
         (λ (l, g). ⊎_elim (λ (n, q). (l, n)) (λ (w, h). absurd (spared-never 31 rest x (without-spared 31 rest none31) h e)) g) f
 
     small : (r ≡ 21) ↔ ((length p < reply_bytes) ⊎ (length s < scratch_bytes))
     small = by_less (length p) 48 (λ l. (λ e. inl l, λ h. (d.small l).returned)) (λ l. go l (bytes_verdict over out (length s)) refl)
       where
         go : reply_bytes ≤ length p → (v : Verdict) → bytes_verdict over out (length s) ≡ v → (r ≡ 21) ↔ ((length p < reply_bytes) ⊎ (length s < scratch_bytes))
-        go l Accepted e =
-            let z = value l Accepted e in
+        go l (Ok tt) e =
+            let z = value l (Ok tt) e in
             let m = ((judged s).accepts.0 e).0 in
             (λ q. absurd (omega arith), ⊎_elim (λ h. absurd (omega arith)) (λ h. absurd (omega arith)))
-        go l (Refused x) e =
-            let z = value l (Refused x) e in
+        go l (Err x) e =
+            let z = value l (Err x) e in
             let (f, g) = by-21 x e in
             (λ q. inr (f (omega arith)), ⊎_elim (λ h. absurd (omega arith)) (λ h. z ∙ g h))
 
@@ -118,22 +118,22 @@ module _ (net sheet firings : ℕ) (out : List ℕ) {Answer : Type 0} {core : Co
       where
         go : reply_bytes ≤ length p → (v : Verdict) → bytes_verdict over out (length s) ≡ v
             → (r ≡ 31) ↔ ((reply_bytes ≤ length p) × (scratch_bytes ≤ length s) × (Whole net sheet firings → ⊥))
-        go l Accepted e =
-            let z = value l Accepted e in
+        go l (Ok tt) e =
+            let z = value l (Ok tt) e in
             let all = (judged s).accepts.0 e in
             (λ q. absurd (omega arith), λ (h, m, n). absurd (n all.1.0))
-        go l (Refused x) e =
-            let z = value l (Refused x) e in (
+        go l (Err x) e =
+            let z = value l (Err x) e in (
               λ q. let (a, b) = by-31 x (((judged s).refuses x).0 e) (sym z ∙ q) in (l, a, b),
-              λ (h, m, n). let k = ((judged s).refuses (refusal 31 Nothing)).1 (inr (m, inl (n, refl))) in z ∙ ap number_of (sym e ∙ k),
+              λ (h, m, n). let k = ((judged s).refuses (refusal BrokenWord Nothing)).1 (inr (m, inl (n, refl))) in z ∙ ap number_of (sym e ∙ k),
             )
 
     keeps : (r ≡ 0 → ⊥) → out' ≡ out
     keeps n = by_less (length p) 48 (λ l. (d.small l).written) (λ l. go l (bytes_verdict over out (length s)) refl)
       where
         go : reply_bytes ≤ length p → (v : Verdict) → bytes_verdict over out (length s) ≡ v → out' ≡ out
-        go l Accepted e = absurd (n (value l Accepted e))
-        go l (Refused x) e = (d.enough l).written ∙ rw e
+        go l (Ok tt) e = absurd (n (value l (Ok tt) e))
+        go l (Err x) e = (d.enough l).written ∙ rw e
 
     -- the scratch of the call over words that does as much
     scratch : reply_bytes ≤ length p → ScratchLeft scratch_bytes r s s'

@@ -4,7 +4,6 @@ pub mod Early
 pub mod Cut
 pub mod Results
 -- the single firing
-pub mod Numbers
 pub mod Firing
 -- what is promised: by checks, demand 3, the firing both ways
 pub mod Judged

@@ -1,11 +1,10 @@
 -- A call over bytes does as the word call on the decoded words, whatever the buffers held that it writes. Shown of any core.
+use Rattle.std.specs.Prelude.{Err, Ok}
 use Rattle.scan.proofs.Basics.{ℕ, ◌≤◌, arith, ◌≡◌, refl, sym, ap, ◌∙◌, List, [], ◌∷◌, length, take}
 use Rattle.scan.proofs.Tests.{by_less}
-use Rattle.refusal.specs.Refusal.{number_of}
+use Rattle.refusal.specs.Refusal.{number_of, Verdict, refusal_number}
 use Rattle.refusal.specs.Checks.{Check}
 use Rattle.refusal.specs.declared.Refusal.{Refusal}
-use Rattle.refusal.specs.declared.Verdict.{Verdict}
-use Rattle.refusal.specs.declared.Verdict.TheVariants.{Accepted, Refused}
 use Rattle.refusal.specs.Limits.{scratch_limit}
 use Rattle.lending.specs.Call.{Core, buffer, output_fault, words_verdict, call_verdict, answer_of}
 use Rattle.lending.specs.Demands.{number}
@@ -60,10 +59,10 @@ module _ {Answer : Type 0} {core : Core Answer} {six : Answer → List ℕ} {own
       zero z = sym ((d.enough lp).returned ∙ ap (λ (a : Answer). number (six a)) same) ∙ z
 
       written : (v : Verdict) → words_verdict core (all_words out ∷ []) ≡ v → r ≡ 0 → out' ≡ bytes_over 4 (take (length (buffer core.results 0)) (buffer outs' 0)) out
-      written Accepted e z =
+      written (Ok tt) e z =
           let f = (d.enough lp).written ∙ ap (λ (v : Verdict). out_after v (buffer core.results 0) out) (words-verdict core net sheet firings out (length s) w ls ∙ e) in
           f ∙ rw ((done-zero law c (zero z)).written 0, written-front (buffer core.results 0) (buffer (all_words out ∷ []) 0)) refl
-      written (Refused x) e z =
+      written (Err x) e z =
           let n = (refusal-number law scratch_limit (all_words out ∷ []) scratch x (enough ∙ e)).0 in
           let q = answer-number law (words_verdict core (all_words out ∷ [])) ∙ ap number_of e in
           let k = ap (λ (a : Answer). number (six a)) (c.reply ∙ ap (answer_of core) enough) in
@@ -78,7 +77,7 @@ module _ {Answer : Type 0} {core : Core Answer} {six : Answer → List ℕ} {own
       let fits = output-alike over_words.results (all_words o₁) (all_words o₂) (omega (arith, words_count o₁, words_count o₂)) in
       rw (es, fits)
 
-  proper-refusal : (out s : List ℕ) (x : Refusal) → bytes_verdict over_words out (length s) ≡ Refused x → 1 ≤ x.number
+  proper-refusal : (out s : List ℕ) (x : Refusal) → bytes_verdict over_words out (length s) ≡ Err x → 1 ≤ refusal_number x
   unfolding bytes_verdict
   proper-refusal out s x e = (refusal-number (bytes-law net sheet firings law) scratch_bytes (all_words out ∷ []) s x e).0
 
@@ -88,8 +87,8 @@ module _ {Answer : Type 0} {core : Core Answer} {six : Answer → List ℕ} {own
       by_less (length p) 48 (λ l. let q = (d.small l).returned in absurd (omega arith)) (λ l. go l (bytes_verdict over_words out (length s)) refl)
     where
       go : reply_bytes ≤ length p → (v : Verdict) → bytes_verdict over_words out (length s) ≡ v → out' ≡ bytes_over 4 (buffer core.results 0) out
-      go l Accepted e = (d.enough l).written ∙ rw e
-      go l (Refused x) e =
+      go l (Ok tt) e = (d.enough l).written ∙ rw e
+      go l (Err x) e =
           let n = proper-refusal out s x e in
           let q = (d.enough l).returned ∙ answer-number (bytes-law net sheet firings law) (bytes_verdict over_words out (length s)) ∙ ap number_of e in
           absurd (omega arith)

@@ -1,13 +1,12 @@
 -- What every call over bytes does (§15.1): it asks 21 and 31, then does what the word call does with the decoded words; what it returns and leaves in the buffers.
 -- What a call makes of its words is given by the `Core` of the word call; this file holds for any `Core`.
-use Rattle.std.specs.Prelude.{ℕ, ◌*◌, ◌%◌, ◌≤◌, ◌<◌, ◌≡◌, List, [], ◌∷◌, Bool, not, ◌||◌, length, eqb}
+use Rattle.refusal.specs.declared.Reason.TheVariants.{BrokenWord}
+use Rattle.std.specs.Prelude.{ℕ, ◌*◌, ◌%◌, ◌≤◌, ◌<◌, ◌≡◌, List, [], ◌∷◌, Bool, not, ◌||◌, length, eqb, Err, Ok}
 use Rattle.scan.specs.Scan.{when}
-use Rattle.refusal.specs.Refusal.{refusal}
+use Rattle.refusal.specs.Refusal.{refusal, Verdict}
 use Rattle.refusal.specs.Limits.{scratch_limit}
 use Rattle.refusal.specs.Verdict.{verdict_of, and_then}
 use Rattle.refusal.specs.declared.Position.TheVariants.{Nothing}
-use Rattle.refusal.specs.declared.Verdict.{Verdict}
-use Rattle.refusal.specs.declared.Verdict.TheVariants.{Accepted, Refused}
 use Rattle.lending.specs.Call.{Core, scratch_at_return, buffer, call_verdict, answer_of}
 use Rattle.lending.specs.Demands.{number}
 use Rattle.octets.specs.Words.{all_words}
@@ -31,7 +30,7 @@ is_broken bytes = not (eqb (bytes % 4) 0)
 
 -- given the lengths of net, schedule and record, 0 for a call without a record
 unfoldable pub broken_fault : ℕ → ℕ → ℕ → Verdict
-broken_fault net sheet firings = verdict_of (when (is_broken net || (is_broken sheet || is_broken firings)) (refusal 31 Nothing))
+broken_fault net sheet firings = verdict_of (when (is_broken net || (is_broken sheet || is_broken firings)) (refusal BrokenWord Nothing))
 
 module _ {Answer : Type 0} where
   -- 31 comes before all checks of the words: §7.65
@@ -49,8 +48,8 @@ module _ {Answer : Type 0} where
 
 -- the result's words as bytes, with what lies past them unchanged; a refusal writes nothing: §15.5
 abbrev pub out_after : Verdict → List ℕ → List ℕ → List ℕ
-out_after Accepted result out = bytes_over 4 result out
-out_after (Refused r) result out = out
+out_after (Ok tt) result out = bytes_over 4 result out
+out_after (Err r) result out = out
 
 -- ---- the postcondition, by equations (§13.5): the call's core, its answer as six numbers, what it is lent, what it returns, and what the buffers hold then
 

@@ -1,18 +1,14 @@
 -- The calls over bytes: what each makes of its bytes, and its postcondition.
-use Rattle.std.specs.Prelude.{ℕ, ◌+◌, ◌≡◌, List, [], length}
+use Rattle.refusal.specs.Refusal.{refusal_number}
+use Rattle.std.specs.Prelude.{ℕ, ◌+◌, ◌≡◌, List, [], length, Err, Ok}
 use Rattle.graph.specs.Rows.{marking_row}
-use Rattle.judge.specs.Answer.{plain_check}
-use Rattle.judge.specs.declared.CheckAnswer.{CheckAnswer}
+use Rattle.judge.specs.Answer.{plain_check, CheckAnswer}
 use Rattle.lending.specs.Call.{Core, scratch_at_return}
 use Rattle.schedule.specs.Walker.{walker}
 use Rattle.schedule.specs.Calls.{check_core, run_core, fire_core}
-use Rattle.schedule.specs.Plain.{plain_run}
+use Rattle.schedule.specs.Plain.{plain_run, RunAnswer, FireAnswer}
 use Rattle.schedule.specs.declared.Walker.{Walker}
-use Rattle.schedule.specs.declared.RunAnswer.{RunAnswer}
-use Rattle.schedule.specs.declared.FireAnswer.{FireAnswer}
-use Rattle.schedule.specs.declared.FireAnswer.TheVariants.{Done, Stopped}
-use Rattle.minimal.specs.Form.{form_core, plain_form}
-use Rattle.minimal.specs.declared.FormAnswer.{FormAnswer}
+use Rattle.minimal.specs.Form.{form_core, plain_form, FormAnswer}
 use Rattle.octets.specs.Words.{all_words}
 use Rattle.firmware.specs.Bytes.{scratch_bytes, broken_fault, over_bytes, bytes_answer, BytesDone}
 
@@ -54,8 +50,8 @@ fire_bytes net sheet n t = over_bytes (broken_fault (length net) (length sheet) 
 
 -- the next node, or 2,147,483,648 plus the refusal's number
 abbrev pub one_number : FireAnswer × Walker → ℕ
-one_number (Done e, w) = w.node
-one_number (Stopped r, w) = 2147483648 + r.number
+one_number (Ok e, w) = w.node
+one_number (Err r, w) = 2147483648 + refusal_number r
 
 pub record BytesFired (net sheet : List ℕ) (n t : ℕ) (scratch : List ℕ) (r : ℕ) (scratch' : List ℕ) : Type 0 where
   pub returned : r ≡ one_number (bytes_answer (fire_bytes net sheet n t) [] (length scratch))

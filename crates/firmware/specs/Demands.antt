@@ -1,4 +1,6 @@
 -- What is promised of the calls over bytes (§15.8), as statements over their postconditions. proofs/Demands has a term for the record at the end.
+use Rattle.refusal.specs.declared.Reason.TheVariants.{BrokenWord, NoSuchNode, NotOffered, SmallOutput}
+use Rattle.refusal.specs.Refusal.{refusal_number}
 use Rattle.std.specs.Prelude.{ℕ, ◌+◌, ◌*◌, ◌/◌, ◌%◌, ◌≤◌, ◌<◌, ◌≡◌, ◌⊎◌, ◌↔◌, List, [], ◌∷◌, ◌++◌, length, get_or, take, drop, replicate}
 use Rattle.std.proofs.Math.Option.{some}
 use Rattle.automaton.specs.Automaton.{Automaton, SameLists}
@@ -15,8 +17,7 @@ use Rattle.lending.specs.Call.{Core, CallDone, buffer}
 use Rattle.lending.specs.Demands.{number, call_checks, ByChecks, ScratchLeft}
 use Rattle.schedule.specs.Walker.{run_checks}
 use Rattle.schedule.specs.Calls.{check_core, run_core, FireDone}
-use Rattle.schedule.specs.Plain.{plain_run}
-use Rattle.schedule.specs.declared.FireAnswer.{FireAnswer}
+use Rattle.schedule.specs.Plain.{plain_run, FireAnswer}
 use Rattle.schedule.specs.declared.Walker.{Walker}
 use Rattle.minimal.specs.Form.{form_core, plain_form}
 use Rattle.octets.specs.Words.{all_words}
@@ -32,7 +33,7 @@ Whole net sheet firings = (net % 4 ≡ 0) × (sheet % 4 ≡ 0) × (firings % 4 �
 
 -- scratch, then whole words, then the word call's checks of the decoded words
 abbrev pub bytes_checks : List ℕ → Type 0 → List Check → List Check
-bytes_checks scratch Unbroken words = call_checks scratch_bytes scratch (once Unbroken 31 ∷ words)
+bytes_checks scratch Unbroken words = call_checks scratch_bytes scratch (once Unbroken BrokenWord ∷ words)
 
 -- the checks of net and schedule, decoded
 abbrev pub decoded_checks : List ℕ → List ℕ → List Check
@@ -82,14 +83,14 @@ Unread bytes six = (o₁ o₂ s₁ s₂ p₁ p₂ o₁' o₂' s₁' s₂' p₁' 
 abbrev pub firing_checks : List ℕ → List ℕ → ℕ → ℕ → List ℕ → List Check
 firing_checks net sheet n t scratch =
     bytes_checks scratch (Whole (length net) (length sheet) 0) (decoded_checks net sheet
-    ++ (once (n < node_count (all_words sheet)) 18 ∷ once (Offers (petri_net (all_words net)) (graph (petri_net (all_words net)) (all_words sheet)) n t) 20 ∷ []))
+    ++ (once (n < node_count (all_words sheet)) NoSuchNode ∷ once (Offers (petri_net (all_words net)) (graph (petri_net (all_words net)) (all_words sheet)) n t) NotOffered ∷ []))
 
 -- a number below 2,147,483,648 is the target of the arc; a number from there on tells the first check that fails
 pub record FiresByNumber (net sheet : List ℕ) (n t : ℕ) (scratch : List ℕ) (r : ℕ) : Type 0 where
   pub fires : (r < 2147483648) ↔ AllPass (firing_checks net sheet n t scratch)
   pub leads : r < 2147483648 → (graph (petri_net (all_words net)) (all_words sheet)).arc n t ≡ some r
-  pub named : 2147483648 ≤ r → (x : Refusal) × FirstFails (firing_checks net sheet n t scratch) x × (r ≡ 2147483648 + x.number)
-  pub this : (x : Refusal) → FirstFails (firing_checks net sheet n t scratch) x → r ≡ 2147483648 + x.number
+  pub named : 2147483648 ≤ r → (x : Refusal) × FirstFails (firing_checks net sheet n t scratch) x × (r ≡ 2147483648 + refusal_number x)
+  pub this : (x : Refusal) → FirstFails (firing_checks net sheet n t scratch) x → r ≡ 2147483648 + refusal_number x
   -- when the answer is 21 or 31; it is never 19
   pub small : (r ≡ 2147483669) ↔ (length scratch < scratch_bytes)
   pub broken : (r ≡ 2147483679) ↔ ((scratch_bytes ≤ length scratch) × (Whole (length net) (length sheet) 0 → ⊥))
@@ -161,11 +162,11 @@ pub record BytesDemand : Type 0 where
       (Whole (length net) (length sheet) 0) [] (BytesDone (check_bytes net sheet) plain_check [])
   pub run : (net sheet firings out : List ℕ) → EveryBytesCall
       (λ s. bytes_checks s (Whole (length net) (length sheet) (length firings))
-      ((decoded_checks net sheet ++ run_checks (petri_net (all_words net)) (all_words sheet) (all_words firings)) ++ (once ((petri_net (all_words net)).places ≤ length out / 4) 22 ∷ [])))
+      ((decoded_checks net sheet ++ run_checks (petri_net (all_words net)) (all_words sheet) (all_words firings)) ++ (once ((petri_net (all_words net)).places ≤ length out / 4) SmallOutput ∷ [])))
       (Whole (length net) (length sheet) (length firings)) out (BytesRan net sheet firings out)
   -- demand 3 says how many words it needs
   pub short_form : (net sheet : List ℕ) → (needed : ℕ) × ((out : List ℕ) → EveryBytesCall
-      (λ s. bytes_checks s (Whole (length net) (length sheet) 0) (decoded_checks net sheet ++ (once (needed ≤ length out / 4) 22 ∷ [])))
+      (λ s. bytes_checks s (Whole (length net) (length sheet) 0) (decoded_checks net sheet ++ (once (needed ≤ length out / 4) SmallOutput ∷ [])))
       (Whole (length net) (length sheet) 0) out (BytesFormed net sheet out))
   -- each call does what the word call does
   pub check_as_words : (net sheet : List ℕ) → AsWords (check_bytes net sheet) (check_core (all_words net) (all_words sheet)) plain_check (Whole (length net) (length sheet) 0)

@@ -1,45 +1,28 @@
 // The checks of the lengths that are lent, and what is left in scratch and reply.
 ghost use Rattle.std.specs.Prelude.{◌≡◌, ◌≤◌, length};
-ghost use Rattle.refusal.specs.Refusal.{number_of};
+ghost use Rattle.refusal.specs.Refusal.{plain_answer};
 ghost use Rattle.lending.specs.Call.{scratch_at_return};
+ghost use Rattle.lending.specs.Demands.{number};
 ghost use Rattle.octets.specs.Bytes.{bytes_over};
 ghost use Rattle.firmware.specs.Bytes.{scratch_bytes, reply_bytes};
 ghost use Rattle.firmware.specs.Parts.{early_verdict};
 
-use refusal::{Position, Refusal, Verdict};
+use refusal::{Numbers, Position, Reason, Refusal, Verdict};
 
 // Four bytes to the word: §15.4.
 const SCRATCH_BYTES: usize = 32768;
 
-const BROKEN_WORD: u32 = 31; // §7.31, broken word
-
-// A refused firing returns this plus the number of its refusal: §15.6.
-pub(crate) const FIRING_REFUSED: u32 = 2147483648;
-
-// An answer as six plain numbers. `number` is the first of them as 32 bits, which the call returns.
-#[derive(Clone, Copy)]
-pub(crate) struct Six {
-    pub number: u32,
-    pub plain: [u64; 6],
-}
-
 // Refusal 21, then 31 for any of the inputs: §7.65.
 pub(crate) fn early_fault(lent: usize, net: usize, sheet: usize, firings: usize) -> Verdict
-    ensures { (result ≡ early_verdict lent net sheet firings) × (number_of result ≤ 31) }
+    ensures { result ≡ early_verdict lent net sheet firings }
 {
     if lent < SCRATCH_BYTES {
-        return refusal::refuse(Refusal::SMALL_SCRATCH, Position::Nothing);
+        return refusal::refuse(Reason::SmallScratch, Position::Nothing);
     }
-    if net % 4 != 0 {
-        return refusal::refuse(BROKEN_WORD, Position::Nothing);
+    if net % 4 != 0 || sheet % 4 != 0 || firings % 4 != 0 {
+        return refusal::refuse(Reason::BrokenWord, Position::Nothing);
     }
-    if sheet % 4 != 0 {
-        return refusal::refuse(BROKEN_WORD, Position::Nothing);
-    }
-    if firings % 4 != 0 {
-        return refusal::refuse(BROKEN_WORD, Position::Nothing);
-    }
-    Verdict::Accepted
+    Ok(())
 }
 
 // Zeroes scratch if there is enough of it: §15.4.
@@ -49,20 +32,23 @@ pub(crate) fn clear(scratch: &mut [u8])
     if scratch.len() < SCRATCH_BYTES {
         return;
     }
-    let mut i = 0;
-    while i < SCRATCH_BYTES {
-        scratch[i] = 0;
-        i += 1;
-    }
+    scratch[..SCRATCH_BYTES].fill(0);
 }
 
-// Clears scratch, writes the reply, and answers the number that the call returns.
-pub(crate) fn finish(six: Six, scratch: &mut [u8], reply: &mut [u8]) -> u32
+// Clears scratch, writes the answer's plain numbers to the reply, and answers the first of them as 32 bits, which the call returns.
+pub(crate) fn finish<A: Numbers>(
+    answer: Result<A, Refusal>,
+    scratch: &mut [u8],
+    reply: &mut [u8],
+) -> u32
     requires { reply_bytes ≤ length reply.old }
-    ensures { (result ≡ six.number) × (scratch.new ≡ scratch_at_return scratch_bytes scratch.old) × (reply.new ≡ bytes_over 8 six.plain reply.old) }
+    ensures { (result ≡ number (plain_answer A.numbers answer)) × (scratch.new ≡ scratch_at_return scratch_bytes scratch.old) × (reply.new ≡ bytes_over 8 (plain_answer A.numbers answer) reply.old) }
 {
-    let plain = six.plain;
+    let number = match &answer {
+        Ok(_) => 0,
+        Err(r) => r.reason.number(),
+    };
     clear(scratch);
-    octets::write_six(plain, reply);
-    six.number
+    octets::write_six(refusal::plain(answer), reply);
+    number
 }

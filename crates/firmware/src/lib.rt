@@ -12,46 +12,28 @@ mod lent;
 mod words;
 
 ghost use Rattle.std.specs.Prelude.{◌≡◌, []};
-ghost use Rattle.judge.specs.Answer.{plain_check};
-ghost use Rattle.schedule.specs.Plain.{plain_run};
-ghost use Rattle.minimal.specs.Form.{plain_form};
-ghost use Rattle.firmware.specs.Bytes.{bytes_answer};
-ghost use Rattle.firmware.specs.Calls.{check_bytes, BytesChecked, run_bytes, BytesRan, form_bytes, BytesFormed, one_number, fire_bytes, BytesFired};
-ghost use Rattle.firmware.specs.Parts.{Tells, Served};
+ghost use Rattle.firmware.specs.Calls.{check_bytes, BytesChecked, run_bytes, BytesRan, form_bytes, BytesFormed, BytesFired};
+ghost use Rattle.firmware.specs.Parts.{Served, next_of_bytes};
 
-use self::lent::Six;
 use judge::CheckAnswer;
 use minimal::FormAnswer;
-use refusal::{Refusal, Verdict};
+use refusal::{Reason, Refusal};
 use schedule::RunAnswer;
 
 // Six numbers of eight bytes: §15.3.
 const REPLY_BYTES: usize = 48;
 
+// A refused firing returns this plus the number of its refusal: §15.6.
+const FIRING_REFUSED: u32 = 2147483648;
+
 // ---- the schedule check
 
-fn six_of_check(answer: CheckAnswer) -> Six
-    ensures { Tells plain_check answer result }
-{
-    let plain = answer.plain();
-    match answer {
-        CheckAnswer::Passed(_) => Six { number: 0, plain },
-        CheckAnswer::Failed(r) => Six {
-            number: r.number,
-            plain,
-        },
-    }
-}
-
 // Refusals 21 and 31, or the answer to the words.
-fn check_six(net: &[u8], sheet: &[u8], lent: usize) -> Six
-    ensures { Served (check_bytes net.now sheet.now) plain_check lent [] result [] }
+fn check(net: &[u8], sheet: &[u8], lent: usize) -> CheckAnswer
+    ensures { Served (check_bytes net.now sheet.now) lent [] result [] }
 {
-    let found = lent::early_fault(lent, net.len(), sheet.len(), 0);
-    if let Verdict::Refused(r) = found {
-        return six_of_check(CheckAnswer::Failed(r));
-    }
-    six_of_check(decoded::check(net, sheet))
+    lent::early_fault(lent, net.len(), sheet.len(), 0)?;
+    decoded::check(net, sheet)
 }
 
 // Its own numbers: nodes, arcs, await nodes.
@@ -59,35 +41,19 @@ pub fn wulthrein_check(net: &[u8], sheet: &[u8], scratch: &mut [u8], reply: &mut
     ensures { BytesChecked net.now sheet.now scratch.old reply.old result scratch.new reply.new }
 {
     if reply.len() < REPLY_BYTES {
-        return Refusal::SMALL_SCRATCH;
+        return Reason::SmallScratch.number();
     }
-    let six = check_six(net, sheet, scratch.len());
-    lent::finish(six, scratch, reply)
+    let answer = check(net, sheet, scratch.len());
+    lent::finish(answer, scratch, reply)
 }
 
 // ---- the run
 
-fn six_of_run(answer: RunAnswer) -> Six
-    ensures { Tells plain_run answer result }
+fn run(net: &[u8], sheet: &[u8], firings: &[u8], out: &mut [u8], lent: usize) -> RunAnswer
+    ensures { Served (run_bytes net.now sheet.now firings.now) lent out.old result out.new }
 {
-    let plain = answer.plain();
-    match answer {
-        RunAnswer::Done(_) => Six { number: 0, plain },
-        RunAnswer::Stopped(r) => Six {
-            number: r.number,
-            plain,
-        },
-    }
-}
-
-fn run_six(net: &[u8], sheet: &[u8], firings: &[u8], out: &mut [u8], lent: usize) -> Six
-    ensures { Served (run_bytes net.now sheet.now firings.now) plain_run lent out.old result out.new }
-{
-    let found = lent::early_fault(lent, net.len(), sheet.len(), firings.len());
-    if let Verdict::Refused(r) = found {
-        return six_of_run(RunAnswer::Stopped(r));
-    }
-    six_of_run(decoded::run(net, sheet, firings, out))
+    lent::early_fault(lent, net.len(), sheet.len(), firings.len())?;
+    decoded::run(net, sheet, firings, out)
 }
 
 // Its own numbers: firings, the node at the end, 1 more than the last entry; writes the counts at the end.
@@ -102,35 +68,19 @@ pub fn wulthrein_run(
     ensures { BytesRan net.now sheet.now firings.now out.old scratch.old reply.old result out.new scratch.new reply.new }
 {
     if reply.len() < REPLY_BYTES {
-        return Refusal::SMALL_SCRATCH;
+        return Reason::SmallScratch.number();
     }
-    let six = run_six(net, sheet, firings, out, scratch.len());
-    lent::finish(six, scratch, reply)
+    let answer = run(net, sheet, firings, out, scratch.len());
+    lent::finish(answer, scratch, reply)
 }
 
 // ---- the minimal form
 
-fn six_of_form(answer: FormAnswer) -> Six
-    ensures { Tells plain_form answer result }
+fn form(net: &[u8], sheet: &[u8], out: &mut [u8], lent: usize) -> FormAnswer
+    ensures { Served (form_bytes net.now sheet.now) lent out.old result out.new }
 {
-    let plain = answer.plain();
-    match answer {
-        FormAnswer::Written(_) => Six { number: 0, plain },
-        FormAnswer::Refused(r) => Six {
-            number: r.number,
-            plain,
-        },
-    }
-}
-
-fn form_six(net: &[u8], sheet: &[u8], out: &mut [u8], lent: usize) -> Six
-    ensures { Served (form_bytes net.now sheet.now) plain_form lent out.old result out.new }
-{
-    let found = lent::early_fault(lent, net.len(), sheet.len(), 0);
-    if let Verdict::Refused(r) = found {
-        return six_of_form(FormAnswer::Refused(r));
-    }
-    six_of_form(decoded::form(net, sheet, out))
+    lent::early_fault(lent, net.len(), sheet.len(), 0)?;
+    decoded::form(net, sheet, out)
 }
 
 // Its own number: the length of the form in words; it writes that many.
@@ -144,22 +94,19 @@ pub fn wulthrein_short_form(
     ensures { BytesFormed net.now sheet.now out.old scratch.old reply.old result out.new scratch.new reply.new }
 {
     if reply.len() < REPLY_BYTES {
-        return Refusal::SMALL_SCRATCH;
+        return Reason::SmallScratch.number();
     }
-    let six = form_six(net, sheet, out, scratch.len());
-    lent::finish(six, scratch, reply)
+    let answer = form(net, sheet, out, scratch.len());
+    lent::finish(answer, scratch, reply)
 }
 
 // ---- the single firing: no reply, one number (§15.6)
 
-// Refusals 21 and 31, or the number that the word call gives.
-fn fire_number(net: &[u8], sheet: &[u8], node: u32, t: u32, lent: usize) -> u32
-    ensures { result ≡ one_number (bytes_answer (fire_bytes net.now sheet.now node t) [] lent) }
+// Refusals 21 and 31, or what the word call answers: the next node.
+fn fire(net: &[u8], sheet: &[u8], node: u32, t: u32, lent: usize) -> Result<u32, Refusal>
+    ensures { result ≡ next_of_bytes net.now sheet.now node t lent }
 {
-    let found = lent::early_fault(lent, net.len(), sheet.len(), 0);
-    if let Verdict::Refused(r) = found {
-        return lent::FIRING_REFUSED + r.number;
-    }
+    lent::early_fault(lent, net.len(), sheet.len(), 0)?;
     decoded::fire(net, sheet, node, t)
 }
 
@@ -173,7 +120,10 @@ pub fn wulthrein_fire(
 ) -> u32
     ensures { BytesFired net.now sheet.now node transition scratch.old result scratch.new }
 {
-    let number = fire_number(net, sheet, node, transition, scratch.len());
+    let answer = fire(net, sheet, node, transition, scratch.len());
     lent::clear(scratch);
-    number
+    match answer {
+        Ok(next) => next,
+        Err(r) => FIRING_REFUSED + r.reason.number(),
+    }
 }

@@ -1,10 +1,10 @@
 -- When a node has rows, on any words: if the sizes are in range and it is a node. On readable words every node has.
+use Rattle.std.specs.Prelude.{Ok}
 use Rattle.scan.proofs.Basics.{ℕ, ◌≤◌, ◌<◌, ◌≡◌, sym, ap, ◌∙◌, Bool, true, not, ltb, leb, List}
 use Rattle.scan.proofs.Tests.{ltb-true, lt-ltb, leb-true, le-leb, not-true, and_left, and_right}
 use Rattle.scan.specs.Scan.{found}
 use Rattle.scan.proofs.First.{found_none}
 use Rattle.refusal.specs.Verdict.{verdict_of}
-use Rattle.refusal.specs.declared.Verdict.TheVariants.{Accepted}
 use Rattle.refusal.proofs.Verdicts.{answer-none}
 use Rattle.net.specs.Net.{place_count, transition_count}
 use Rattle.sequential.specs.Words.{node_count}
@@ -35,7 +35,7 @@ module _ (net sheet : List ℕ) (n : ℕ) where
   pub row-known : {b : Bool} → b ≡ has_row net sheet n → b ≡ true → HasRow net sheet n
   row-known e h = has_row_out (sym e ∙ h)
 
-  pub row-by-node : place_count net ≤ 32 → transition_count net ≤ 32 → verdict_of (shape_fault sheet) ≡ Accepted → has_row net sheet n ≡ ltb n (node_count sheet)
+  pub row-by-node : place_count net ≤ 32 → transition_count net ≤ 32 → verdict_of (shape_fault sheet) ≡ Ok tt → has_row net sheet n ≡ ltb n (node_count sheet)
   unfolding has_row found
   row-by-node a b h = rw (le-leb (place_count net) 32 a, le-leb (transition_count net) 32 b, answer-none (shape_fault sheet) h)
 

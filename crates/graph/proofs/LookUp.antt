@@ -1,11 +1,11 @@
 -- On readable words the look-up of an arc answers the arc's entry; and at which index the words have an entry's value.
+use Rattle.std.specs.Prelude.{None, Some}
 use Rattle.scan.proofs.Basics.{ℕ, ◌+◌, ◌≤◌, ◌<◌, arith, ◌≡◌, refl, sym, ◌∙◌, false, ltb, Option, none, some, List, length, get_or}
 use native.Mathlib.Decide.{dec_lt}
 use lib.ListN.{get_or-eq_default}
 use Rattle.scan.proofs.Tests.{lt-ltb, le-ltb, by_test, not-true→false}
 use Rattle.table.specs.Table.{value_at}
 use Rattle.table.specs.Bisection.{found_of}
-use Rattle.table.specs.declared.Found.TheVariants.{At, Nothing}
 use Rattle.table.proofs.Bisection.{look_up_lem}
 use Rattle.net.specs.Net.{transition_count}
 use Rattle.sequential.specs.Petri.{petri_net}
@@ -45,10 +45,10 @@ module _ (net sheet : List ℕ) (r : ArcsReadable net sheet) (n t : ℕ) where
       ]
 
   -- so what is found is the arc's entry, and where nothing is found it has none
-  pub arc-found : (i : ℕ) → arc_look_up net sheet n t ≡ At i → arc_entry (petri_net net) sheet n t ≡ some i
+  pub arc-found : (i : ℕ) → arc_look_up net sheet n t ≡ Some i → arc_entry (petri_net net) sheet n t ≡ some i
   arc-found i h = found-same _ (some i) (sym look-up-right ∙ h)
 
-  pub arc-missing : arc_look_up net sheet n t ≡ Nothing → arc_entry (petri_net net) sheet n t ≡ none
+  pub arc-missing : arc_look_up net sheet n t ≡ None → arc_entry (petri_net net) sheet n t ≡ none
   arc-missing h = found-same _ none (sym look-up-right ∙ h)
 
 -- past the words an entry's value is 0

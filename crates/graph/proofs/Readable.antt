@@ -1,9 +1,9 @@
 -- What is known of words that are readable, or whose arcs are.
+use Rattle.std.specs.Prelude.{Ok}
 use Rattle.scan.proofs.Basics.{ℕ, ◌+◌, ◌≤◌, arith, ◌≡◌, refl, ap, ◌∙◌, Bool, true, false, List}
 use native.Mathlib.Nat.{mul-le-mul}
 use Rattle.scan.specs.Scan.{or_else, first}
 use Rattle.refusal.specs.Verdict.{verdict_of, and_then}
-use Rattle.refusal.specs.declared.Verdict.TheVariants.{Accepted}
 use Rattle.refusal.proofs.Verdicts.{then_next, then-accepted, answer-none}
 use Rattle.net.specs.Net.{place_count, transition_count}
 use Rattle.net.specs.Check.{net_reply}
@@ -30,7 +30,7 @@ reply-by false net sheet = refl
 -- ---- what is readable
 
 module _ {net sheet : List ℕ} where
-  pub sizes-known : net_reply net ≡ Accepted → ShapePasses sheet → Sizes net sheet
+  pub sizes-known : net_reply net ≡ Ok tt → ShapePasses sheet → Sizes net sheet
   sizes-known a s =
       let n = sizes net a in
       let wide : transition_count net + place_count net ≤ 64 = omega arith in
@@ -47,22 +47,22 @@ module _ {net sheet : List ℕ} where
         few_keys = mul-le-mul s.few_nodes wide;
       }
 
-  pub arcs-readable : net_reply net ≡ Accepted → ArcsHold (petri_net net) sheet → ArcsReadable net sheet
+  pub arcs-readable : net_reply net ≡ Ok tt → ArcsHold (petri_net net) sheet → ArcsReadable net sheet
   arcs-readable a w = record { accepted = a; sizes = sizes-known a w.shape; holds = w }
 
-  pub readable : net_reply net ≡ Accepted → WordsHold (petri_net net) sheet → Readable net sheet
+  pub readable : net_reply net ≡ Ok tt → WordsHold (petri_net net) sheet → Readable net sheet
   readable a w = record { arcs = arcs-readable a w.arcs; values = w.values }
 
 module _ (net sheet : List ℕ) where
-  pub reply-arcs : arcs_reply net sheet ≡ Accepted → ArcsReadable net sheet
+  pub reply-arcs : arcs_reply net sheet ≡ Ok tt → ArcsReadable net sheet
   unfolding arcs_reply
   reply-arcs h = let (a, b) = then-accepted _ _ h in arcs-readable a (arcs-out (petri_net net) sheet (answer-none _ b))
 
-  pub arcs-accepted : ArcsReadable net sheet → arcs_reply net sheet ≡ Accepted
+  pub arcs-accepted : ArcsReadable net sheet → arcs_reply net sheet ≡ Ok tt
   unfolding arcs_reply
   arcs-accepted r = then_next _ _ r.accepted ∙ ap verdict_of (arcs-in (petri_net net) sheet r.holds)
 
-  pub reply-readable : words_reply net sheet ≡ Accepted → Readable net sheet
+  pub reply-readable : words_reply net sheet ≡ Ok tt → Readable net sheet
   unfolding words_reply
   reply-readable h = let (a, b) = then-accepted _ _ h in readable a (words-out (petri_net net) sheet (answer-none _ b))
 

@@ -1,11 +1,10 @@
 -- Refusals 1 to 9 and 26, of the words of the net and of the schedule. Readable words are those that none of these refuses; readable arcs may have any counts.
-use Rattle.std.specs.Prelude.{◌≡◌, List, Bool, cond, ℕ, ◌+◌, ◌*◌, ◌≤◌, ◌<◌, length}
+use Rattle.refusal.specs.Refusal.{Verdict}
+use Rattle.std.specs.Prelude.{◌≡◌, List, Bool, cond, ℕ, ◌+◌, ◌*◌, ◌≤◌, ◌<◌, length, Ok}
 use Rattle.std.proofs.Math.Option.{Option}
 use Rattle.refusal.specs.Limits.{most_places, most_transitions, most_nodes, most_entries}
 use Rattle.refusal.specs.Verdict.{verdict_of, and_then}
 use Rattle.refusal.specs.declared.Refusal.{Refusal}
-use Rattle.refusal.specs.declared.Verdict.{Verdict}
-use Rattle.refusal.specs.declared.Verdict.TheVariants.{Accepted}
 use Rattle.net.specs.Net.{place_count, transition_count}
 use Rattle.net.specs.Check.{net_reply}
 use Rattle.sequential.specs.Petri.{PetriNet, petri_net}
@@ -55,7 +54,7 @@ pub record Sizes (net sheet : List ℕ) : Type 0 where
 
 -- 1 to 8 and 26 refuse nothing, and 9 refuses no arc
 pub record ArcsReadable (net sheet : List ℕ) : Type 0 where
-  pub accepted : net_reply net ≡ Accepted
+  pub accepted : net_reply net ≡ Ok tt
   pub sizes : Sizes net sheet
   pub holds : ArcsHold (petri_net net) sheet
 

@@ -1,11 +1,12 @@
 -- The promises of every call, each proved for any call: with no output buffer, one or two, and for one that hands back a value.
+use Rattle.std.specs.Prelude.{Err, Ok}
+use Rattle.refusal.specs.declared.Reason.TheVariants.{SmallOutput}
+use Rattle.refusal.specs.Refusal.{Verdict}
 use Rattle.scan.proofs.Basics.{ℕ, ◌≤◌, ◌≡◌, refl, sym, ap, ◌∙◌, ◌↔◌, List, [], ◌∷◌, ◌++◌, length, take}
 use mathlib.Core.Logic.Iff
 use Rattle.scan.specs.Scan.{tabulate}
 use Rattle.refusal.specs.Checks.{Check, once, AllPass}
 use Rattle.refusal.specs.declared.Refusal.{Refusal}
-use Rattle.refusal.specs.declared.Verdict.{Verdict}
-use Rattle.refusal.specs.declared.Verdict.TheVariants.{Accepted, Refused}
 use Rattle.refusal.proofs.Judges.{Judges}
 use Rattle.lending.specs.Call.{Core, CallDone, buffer, scratch_fault, output_fault, words_verdict, call_verdict, answer_of, outs_after, written_over, scratch_at_return}
 use Rattle.lending.specs.Demands.{call_checks, EveryCall, Alike, BuffersUnread, SameFromAnyLimit}
@@ -50,35 +51,35 @@ module _ {Answer : Type 0} {core : Core Answer} {plain : Answer → List ℕ} {o
   every-call-none {limit} q = every_call limit (λ u. []) tt words (words-judged-none core [] law.judged q) (λ l m e. refl) (λ v. (tt, keeps v))
     where
       keeps : (v : Verdict) → outs_after v core.results [] ≡ []
-      keeps Accepted = refl
-      keeps (Refused r) = refl
+      keeps (Ok tt) = refl
+      keeps (Err r) = refl
 
   pub every-call-one : {limit : ℕ} {result out : List ℕ} {Fits : Type 0} → core.results ≡ result ∷ [] → (AllPass words → Fits ↔ (length result ≤ length out))
-      → EveryCall limit plain (λ s. call_checks limit s (words ++ (once Fits 22 ∷ []))) out (λ s a out' s'. CallDone limit core (out ∷ []) s a (out' ∷ []) s')
+      → EveryCall limit plain (λ s. call_checks limit s (words ++ (once Fits SmallOutput ∷ []))) out (λ s a out' s'. CallDone limit core (out ∷ []) s a (out' ∷ []) s')
   unfolding tabulate
   every-call-one {limit} {result} {out} {Fits} q fits =
-      every_call limit (λ (x : List ℕ). x ∷ []) out (words ++ (once Fits 22 ∷ []))
+      every_call limit (λ (x : List ℕ). x ∷ []) out (words ++ (once Fits SmallOutput ∷ []))
       (words-judged core (out ∷ []) law.judged (λ p. rw q (Iff.trans (fits p) (room-one result out)))) (λ l m e. cc) keeps
     where
       keeps : (v : Verdict) → (left : List ℕ) × (outs_after v core.results (out ∷ []) ≡ left ∷ [])
-      keeps Accepted = (_, refl)
-      keeps (Refused r) = (_, refl)
+      keeps (Ok tt) = (_, refl)
+      keeps (Err r) = (_, refl)
 
   pub every-call-two : {limit : ℕ} {result₁ result₂ out₁ out₂ : List ℕ} {Fits : Type 0} → core.results ≡ result₁ ∷ result₂ ∷ []
       → (AllPass words → Fits ↔ ((length result₁ ≤ length out₁) × (length result₂ ≤ length out₂)))
-      → EveryCall {Left = List ℕ × List ℕ} limit plain (λ s. call_checks limit s (words ++ (once Fits 22 ∷ []))) (out₁, out₂)
+      → EveryCall {Left = List ℕ × List ℕ} limit plain (λ s. call_checks limit s (words ++ (once Fits SmallOutput ∷ []))) (out₁, out₂)
       (λ s a outs' s'. CallDone limit core (out₁ ∷ out₂ ∷ []) s a (outs'.0 ∷ outs'.1 ∷ []) s')
   unfolding tabulate
   every-call-two {limit} {result₁} {result₂} {out₁} {out₂} {Fits} q fits =
-      every_call limit (λ (x : List ℕ × List ℕ). x.0 ∷ x.1 ∷ []) (out₁, out₂) (words ++ (once Fits 22 ∷ []))
+      every_call limit (λ (x : List ℕ × List ℕ). x.0 ∷ x.1 ∷ []) (out₁, out₂) (words ++ (once Fits SmallOutput ∷ []))
       (words-judged core (out₁ ∷ out₂ ∷ []) law.judged (λ p. rw q (Iff.trans (fits p) (room-two result₁ result₂ out₁ out₂)))) same keeps
     where
       same : (l m : List ℕ × List ℕ) → ◌≡◌ {A = List (List ℕ)} (l.0 ∷ l.1 ∷ []) (m.0 ∷ m.1 ∷ []) → l ≡ m
       same (a, b) (c, d) e = let p : a ≡ c = cc in let q : b ≡ d = cc in rw (p, q)
 
       keeps : (v : Verdict) → (left : List ℕ × List ℕ) × (outs_after v core.results (out₁ ∷ out₂ ∷ []) ≡ left.0 ∷ left.1 ∷ [])
-      keeps Accepted = ((_, _), refl)
-      keeps (Refused r) = ((_, _), refl)
+      keeps (Ok tt) = ((_, _), refl)
+      keeps (Err r) = ((_, _), refl)
 
 -- a call that hands back a value beside its answer, and for a refusal the one that it was given
 pub every-call-value : {Answer Value : Type 0} {core : Core (Answer × Value)} {plain : Answer → List ℕ} {own : List ℕ} {words : List Check} {limit : ℕ} {before : Value}

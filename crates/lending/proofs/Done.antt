@@ -1,4 +1,5 @@
 -- What a call that is done says of its answer, its output buffers and its scratch, whatever its words are.
+use Rattle.std.specs.Prelude.{Err, Ok}
 use Rattle.scan.proofs.Basics.{ℕ, zero, suc, ◌+◌, ◌-◌, ◌≤◌, ◌<◌, arith, ◌≡◌, refl, sym, ap, ◌∙◌, ◌↔◌, true, ltb, List, [], ◌∷◌, length, get_or, take, length-append}
 use mathlib.Core.Logic.Iff
 use lib.ListN.{length-drop, get_or-eq_default}
@@ -7,13 +8,11 @@ use Rattle.scan.proofs.Tests.{ltb-true, ltb-false, by_test}
 use Rattle.scan.specs.Scan.{tabulate}
 use Rattle.scan.proofs.Front.{cleared-whole}
 use Rattle.scan.proofs.Tabulate.{tabulate-length, tabulate-at}
-use Rattle.refusal.specs.Refusal.{plain_refusal, plain_verdict, number_of, plain_position}
+use Rattle.refusal.specs.Refusal.{plain_refusal, plain_verdict, number_of, plain_position, Verdict, refusal_number}
 use Rattle.refusal.specs.Checks.{Check}
 use Rattle.refusal.specs.declared.Position.{Position}
 use Rattle.refusal.specs.declared.Position.TheVariants.{Nothing, Entry, Place, Node, Record}
 use Rattle.refusal.specs.declared.Refusal.{Refusal}
-use Rattle.refusal.specs.declared.Verdict.{Verdict}
-use Rattle.refusal.specs.declared.Verdict.TheVariants.{Accepted, Refused}
 use Rattle.refusal.proofs.Verdicts.{then-accepted, accepted-refused}
 use Rattle.refusal.proofs.Judges.{Judges, properly, fails-number}
 use Rattle.lending.specs.Call.{Core, CallDone, buffer, scratch_fault, output_fault, words_verdict, call_verdict, answer_of, outs_after, written_over, written_at}
@@ -29,19 +28,19 @@ number-zero [] e = refl
 number-zero (x ∷ plain) e = cc
 
 -- from a verdict that follows them, and what the numbers are for it
-told-by : (v : Verdict) (checks : List Check) (plain : List ℕ) → Judges v checks → (v ≡ Accepted → take 3 plain ≡ 0 ∷ 0 ∷ 0 ∷ [])
-    → ((r : Refusal) → v ≡ Refused r → (plain ≡ plain_refusal r) × (1 ≤ r.number)) → ByChecks checks plain
-told-by Accepted checks plain j z t = record {
+told-by : (v : Verdict) (checks : List Check) (plain : List ℕ) → Judges v checks → (v ≡ Ok tt → take 3 plain ≡ 0 ∷ 0 ∷ 0 ∷ [])
+    → ((r : Refusal) → v ≡ Err r → (plain ≡ plain_refusal r) × (1 ≤ refusal_number r)) → ByChecks checks plain
+told-by (Ok tt) checks plain j z t = record {
   zero = (λ e. j.accepts.0 refl, λ p. number-zero plain (z refl));
   nothing = λ e. z refl;
   named = λ n. absurd (n (number-zero plain (z refl)));
-  this = λ r f. accepted-refused Accepted r refl ((j.refuses r).1 f);
+  this = λ r f. accepted-refused (Ok tt) r refl ((j.refuses r).1 f);
 }
-told-by (Refused r) checks plain j z t =
+told-by (Err r) checks plain j z t =
     let (q, l) = t r refl in
-    let e : number plain ≡ r.number = ap number q in
+    let e : number plain ≡ refusal_number r = ap number q in
     record {
-      zero = (λ w. absurd (omega arith), λ p. accepted-refused (Refused r) r (j.accepts.1 p) refl);
+      zero = (λ w. absurd (omega arith), λ p. accepted-refused (Err r) r (j.accepts.1 p) refl);
       nothing = λ w. absurd (omega arith);
       named = λ n. (r, (j.refuses r).0 refl, q);
       this = λ s f. let same : r ≡ s = cc ((j.refuses s).1 f) in q ∙ ap plain_refusal same;
@@ -72,7 +71,7 @@ past_three : (a b c : ℕ) (l : List ℕ) (i : ℕ) → own (a ∷ b ∷ c ∷ l
 past_three a b c l i = get_or-append-add (a ∷ b ∷ c ∷ []) l i 0
 
 told-own : (r : Refusal) (i : ℕ) → own (plain_refusal r) i ≡ 0
-told-own r i = let (kind, index, e) = position-told r.at in rw e (past_three r.number kind index (0 ∷ 0 ∷ 0 ∷ []) i ∙ zeros-at i)
+told-own r i = let (kind, index, e) = position-told r.at in rw e (past_three (refusal_number r) kind index (0 ∷ 0 ∷ 0 ∷ []) i ∙ zeros-at i)
 
 told-length : (r : Refusal) → length (plain_refusal r) ≡ 6
 told-length r = let (kind, index, e) = position-told r.at in rw e refl
@@ -97,7 +96,7 @@ no_words [] h = refl
 no_words (x ∷ l) h = absurd (omega arith)
 
 -- each buffer of an accepted call, also one that is not there
-written-buffer : (results outs : List (List ℕ)) → Room results outs → (i : ℕ) → buffer (outs_after Accepted results outs) i ≡ written_over (buffer results i) (buffer outs i)
+written-buffer : (results outs : List (List ℕ)) → Room results outs → (i : ℕ) → buffer (outs_after (Ok tt) results outs) i ≡ written_over (buffer results i) (buffer outs i)
 unfolding written_at
 written-buffer results outs h i =
     let after = tabulate (written_at results outs) (length outs) in
@@ -112,7 +111,7 @@ written-buffer results outs h i =
 
 -- what an answer with number 0 says
 pub record Answered {Answer : Type 0} (core : Core Answer) (outs : List (List ℕ)) (answer : Answer) (outs' : List (List ℕ)) : Type 0 where
-  pub passed : core.verdict ≡ Accepted
+  pub passed : core.verdict ≡ Ok tt
   pub reply : answer ≡ core.accepted
   pub room : Room core.results outs
   pub written : (i : ℕ) → buffer outs' i ≡ written_over (buffer core.results i) (buffer outs i)
@@ -142,20 +141,20 @@ module _ {Answer : Type 0} {core : Core Answer} {plain : Answer → List ℕ} {o
       → ((number (plain answer) ≡ 0 → ⊥) → Kept core outs answer outs' → C) → C
   cases {C} f g = go verdict refl
     where
-      passed : verdict ≡ Accepted → (core.verdict ≡ Accepted) × (output_fault core.results outs ≡ Accepted)
+      passed : verdict ≡ Ok tt → (core.verdict ≡ Ok tt) × (output_fault core.results outs ≡ Ok tt)
       passed e = unfold call_verdict words_verdict in then-accepted core.verdict _ (then-accepted (scratch_fault limit (length scratch)) _ e).1
 
-      room : verdict ≡ Accepted → Room core.results outs
+      room : verdict ≡ Ok tt → Room core.results outs
       room e = ((output-judged core.results outs _ Iff.rfl).accepts.0 (passed e).1).0
 
       go : (v : Verdict) → verdict ≡ v → C
-      go Accepted e = f (done-number ∙ ap number_of e) (record {
+      go (Ok tt) e = f (done-number ∙ ap number_of e) (record {
         passed = (passed e).0;
         reply = d.reply ∙ ap (answer_of core) e;
         room = room e;
         written = λ i. ap (λ (x : List (List ℕ)). buffer x i) (d.written ∙ ap (λ (v : Verdict). outs_after v core.results outs) e) ∙ written-buffer core.results outs (room e) i;
       })
-      go (Refused r) e = g (λ z. let n = (refusal-number law limit outs scratch r e).0 in let q = done-number ∙ ap number_of e in omega arith) (record {
+      go (Err r) e = g (λ z. let n = (refusal-number law limit outs scratch r e).0 in let q = done-number ∙ ap number_of e in omega arith) (record {
         by = r;
         reply = d.reply ∙ ap (answer_of core) e;
         written = d.written ∙ ap (λ (v : Verdict). outs_after v core.results outs) e;
@@ -188,8 +187,8 @@ module _ {Answer : Type 0} {core : Core Answer} {plain : Answer → List ℕ} {o
   small-number = (λ e. go verdict refl (sym done-number ∙ e), λ l. done-number ∙ ap number_of (call-small core outs limit (length scratch) l))
     where
       go : (v : Verdict) → verdict ≡ v → number_of v ≡ 21 → length scratch < limit
-      go Accepted e z = absurd (omega arith)
-      go (Refused r) e z = (refusal-number law limit outs scratch r e).1.0 z
+      go (Ok tt) e z = absurd (omega arith)
+      go (Err r) e z = (refusal-number law limit outs scratch r e).1.0 z
 
   pub scratch-left : ScratchLeft limit (number (plain answer)) scratch scratch'
   scratch-left = record {

@@ -1,4 +1,6 @@
 -- Whether enough is lent: what refusals 21 and 22 say about scratch and output buffers, and when two buffers give the same answer.
+use Rattle.std.specs.Prelude.{Err, Ok}
+use Rattle.refusal.specs.declared.Reason.TheVariants.{SmallOutput, SmallScratch}
 use Rattle.scan.proofs.Basics.{ℕ, zero, suc, ◌≤◌, ◌<◌, arith, ◌≡◌, refl, sym, ap, ◌↔◌, Bool, cond, ltb, List, [], ◌∷◌, length, drop}
 use Rattle.scan.proofs.Tests.{ltb-true, ltb-false, lt-ltb, le-ltb, by_test}
 use Rattle.scan.specs.Scan.{when}
@@ -7,7 +9,6 @@ use Rattle.scan.proofs.First.{when-none, when-some}
 use Rattle.refusal.specs.Refusal.{refusal}
 use Rattle.refusal.specs.declared.Position.TheVariants.{Nothing}
 use Rattle.refusal.specs.declared.Refusal.{Refusal}
-use Rattle.refusal.specs.declared.Verdict.TheVariants.{Accepted, Refused}
 use Rattle.refusal.proofs.Verdicts.{answer-none, answer-some}
 use Rattle.lending.specs.Call.{scratch_fault, scratch_at_return, room_fault, buffer, output_fault}
 use Rattle.lending.specs.Demands.{Alike}
@@ -15,19 +16,19 @@ use Rattle.lending.specs.Demands.{Alike}
 -- ---- 21
 
 module _ (limit lent : ℕ) where
-  pub scratch-small : lent < limit → scratch_fault limit lent ≡ Refused (refusal 21 Nothing)
+  pub scratch-small : lent < limit → scratch_fault limit lent ≡ Err (refusal SmallScratch Nothing)
   unfolding scratch_fault when
   scratch-small l = rw (lt-ltb lent limit l)
 
-  pub scratch-enough : limit ≤ lent → scratch_fault limit lent ≡ Accepted
+  pub scratch-enough : limit ≤ lent → scratch_fault limit lent ≡ Ok tt
   unfolding scratch_fault when
   scratch-enough l = rw (le-ltb lent limit l)
 
-  pub scratch_holds : scratch_fault limit lent ≡ Accepted → limit ≤ lent
+  pub scratch_holds : scratch_fault limit lent ≡ Ok tt → limit ≤ lent
   unfolding scratch_fault
   scratch_holds e = ltb-false lent limit (when-none _ _ (answer-none _ e))
 
-  pub scratch-lacks : (r : Refusal) → scratch_fault limit lent ≡ Refused r → lent < limit
+  pub scratch-lacks : (r : Refusal) → scratch_fault limit lent ≡ Err r → lent < limit
   unfolding scratch_fault
   scratch-lacks r e = ltb-true lent limit (when-some _ _ r (answer-some _ r e)).0
 
@@ -43,19 +44,19 @@ module _ (limit : ℕ) (scratch : List ℕ) where
 -- ---- 22
 
 module _ (lent needed : ℕ) where
-  pub room_small : lent < needed → room_fault lent needed ≡ Refused (refusal 22 Nothing)
+  pub room_small : lent < needed → room_fault lent needed ≡ Err (refusal SmallOutput Nothing)
   unfolding room_fault when
   room_small l = rw (lt-ltb lent needed l)
 
-  pub room-enough : needed ≤ lent → room_fault lent needed ≡ Accepted
+  pub room-enough : needed ≤ lent → room_fault lent needed ≡ Ok tt
   unfolding room_fault when
   room-enough l = rw (le-ltb lent needed l)
 
-  pub room-holds : room_fault lent needed ≡ Accepted → needed ≤ lent
+  pub room-holds : room_fault lent needed ≡ Ok tt → needed ≤ lent
   unfolding room_fault
   room-holds e = ltb-false lent needed (when-none _ _ (answer-none _ e))
 
-  pub room-lacks : (r : Refusal) → room_fault lent needed ≡ Refused r → (lent < needed) × (r ≡ refusal 22 Nothing)
+  pub room-lacks : (r : Refusal) → room_fault lent needed ≡ Err r → (lent < needed) × (r ≡ refusal SmallOutput Nothing)
   unfolding room_fault
   room-lacks r e = let (t, q) = when-some _ _ r (answer-some _ r e) in (ltb-true lent needed t, sym q)
 
@@ -70,13 +71,13 @@ next-buffer : (outs : List (List ℕ)) (i : ℕ) → buffer (drop 1 outs) i ≡ 
 next-buffer [] i = refl
 next-buffer (out ∷ outs) i = refl
 
-pub output-room : (results outs : List (List ℕ)) → Room results outs → output_fault results outs ≡ Accepted
+pub output-room : (results outs : List (List ℕ)) → Room results outs → output_fault results outs ≡ Ok tt
 unfolding output_fault
 output-room [] outs h = refl
 output-room (result ∷ results) outs h =
     rw (room-enough (length (buffer outs 0)) (length result) (h 0)) (output-room results (drop 1 outs) (λ i. rw (next-buffer outs i) (h (suc i))))
 
-pub output-short : (results outs : List (List ℕ)) (i : ℕ) → Short results outs i → output_fault results outs ≡ Refused (refusal 22 Nothing)
+pub output-short : (results outs : List (List ℕ)) (i : ℕ) → Short results outs i → output_fault results outs ≡ Err (refusal SmallOutput Nothing)
 unfolding output_fault
 output-short [] outs i l = absurd (omega arith)
 output-short (result ∷ results) outs zero l = rw (room_small (length (buffer outs 0)) (length result) l)

@@ -6,3 +6,4 @@ pub mod Judged
 pub mod Done
 pub mod Demands
 pub mod Reading
+pub mod Named

@@ -1,14 +1,13 @@
 -- What a call does with what it is lent (§9.1): it needs enough scratch and clears it, and it writes its output buffers or leaves them alone.
 -- Calls differ in what they make of their words. The rest is the same for all of them and is said here, for any limit of scratch.
-use Rattle.std.specs.Prelude.{ℕ, ◌≡◌, List, [], ◌∷◌, ◌++◌, cond, length, get_or, drop, ltb}
+use Rattle.refusal.specs.declared.Reason.TheVariants.{SmallOutput, SmallScratch}
+use Rattle.std.specs.Prelude.{ℕ, ◌≡◌, List, [], ◌∷◌, ◌++◌, cond, length, get_or, drop, ltb, Err, Ok}
 use Rattle.scan.specs.Scan.{when, tabulate}
 use Rattle.scan.specs.Front.{cleared}
-use Rattle.refusal.specs.Refusal.{refusal}
+use Rattle.refusal.specs.Refusal.{refusal, Verdict}
 use Rattle.refusal.specs.Verdict.{verdict_of, and_then}
 use Rattle.refusal.specs.declared.Position.TheVariants.{Nothing}
 use Rattle.refusal.specs.declared.Refusal.{Refusal}
-use Rattle.refusal.specs.declared.Verdict.{Verdict}
-use Rattle.refusal.specs.declared.Verdict.TheVariants.{Accepted, Refused}
 
 -- ---- what a call makes of its words, whatever it is lent
 
@@ -25,11 +24,11 @@ pub record Core (Answer : Type 0) : Type 0 where
 
 -- fewer words of scratch are lent than the limit
 unfoldable pub scratch_fault : ℕ → ℕ → Verdict
-scratch_fault limit lent = verdict_of (when (ltb lent limit) (refusal 21 Nothing))
+scratch_fault limit lent = verdict_of (when (ltb lent limit) (refusal SmallScratch Nothing))
 
 -- an output buffer has fewer words than the result
 unfoldable pub room_fault : ℕ → ℕ → Verdict
-room_fault lent needed = verdict_of (when (ltb lent needed) (refusal 22 Nothing))
+room_fault lent needed = verdict_of (when (ltb lent needed) (refusal SmallOutput Nothing))
 
 -- a buffer by its number; one that is not there is empty
 abbrev pub buffer : List (List ℕ) → ℕ → List ℕ
@@ -37,7 +36,7 @@ buffer buffers i = get_or buffers i []
 
 -- some output buffer is too short: §9.6
 unfoldable pub output_fault : List (List ℕ) → List (List ℕ) → Verdict
-output_fault [] outs = Accepted
+output_fault [] outs = Ok tt
 output_fault (result ∷ results) outs = and_then (room_fault (length (buffer outs 0)) (length result)) (output_fault results (drop 1 outs))
 
 -- ---- what is answered
@@ -52,8 +51,8 @@ module _ {Answer : Type 0} where
   call_verdict limit core outs lent = and_then (scratch_fault limit lent) (words_verdict core outs)
 
   abbrev pub answer_of : Core Answer → Verdict → Answer
-  answer_of core Accepted = core.accepted
-  answer_of core (Refused r) = core.refused r
+  answer_of core (Ok tt) = core.accepted
+  answer_of core (Err r) = core.refused r
 
 -- ---- what is left in the buffers
 
@@ -66,8 +65,8 @@ written_at results outs i = written_over (buffer results i) (buffer outs i)
 
 -- a refused call writes to no output buffer (§9.5), not even to one that is long enough (§9.6)
 abbrev pub outs_after : Verdict → List (List ℕ) → List (List ℕ) → List (List ℕ)
-outs_after Accepted results outs = tabulate (written_at results outs) (length outs)
-outs_after (Refused r) results outs = outs
+outs_after (Ok tt) results outs = tabulate (written_at results outs) (length outs)
+outs_after (Err r) results outs = outs
 
 -- scratch is cleared up to the limit whatever the answer is (§9.3), unless it is short of the limit: then no word of it is touched (§9.2)
 unfoldable pub scratch_at_return : ℕ → List ℕ → List ℕ

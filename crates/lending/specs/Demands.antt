@@ -1,4 +1,5 @@
 -- What is promised of every call, as statements: what it answers, what it leaves, and what it does not depend on. proofs/Demands has the terms.
+use Rattle.refusal.specs.declared.Reason.TheVariants.{SmallScratch}
 use Rattle.std.specs.Prelude.{ℕ, ◌+◌, ◌≤◌, ◌<◌, ◌≡◌, ◌↔◌, List, [], ◌∷◌, ◌++◌, length, get_or, take, drop, replicate}
 use Rattle.refusal.specs.Refusal.{plain_refusal}
 use Rattle.refusal.specs.Checks.{Check, once, AllPass, FirstFails}
@@ -16,7 +17,7 @@ own plain i = get_or plain (3 + i) 0
 
 -- all that a call checks: scratch first (§7.54), then the rest, which are its words and, last, whether the result fits
 abbrev pub call_checks : ℕ → List ℕ → List Check → List Check
-call_checks limit scratch rest = once (limit ≤ length scratch) 21 ∷ rest
+call_checks limit scratch rest = once (limit ≤ length scratch) SmallScratch ∷ rest
 
 -- an answer: its number is 0 exactly if all checks pass; else it names the first check that fails (§7.54), and the numbers of the call's own are 0 (§8.3)
 pub record ByChecks (checks : List Check) (plain : List ℕ) : Type 0 where

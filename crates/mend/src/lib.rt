@@ -10,36 +10,27 @@ mod writer;
 
 ghost use Rattle.mended.specs.Call.{MendWritten, MendWithinDone, MendDone};
 
-use mended::{Lengths, MendAnswer};
-use refusal::{Limits, Verdict};
+use encoding::Lengths;
+use mended::MendAnswer;
+use refusal::Limits;
 
 // Mending without scratch.
 pub fn mend_into(net: &[u32], sheet: &[u32], out: &mut [u32], list: &mut [u32]) -> MendAnswer
     ensures { MendWritten net.now sheet.now out.old list.old result out.new list.new }
 {
-    let measure = measure::measured(net, sheet);
-    let found = measure.verdict;
-    if let Verdict::Refused(r) = found {
-        return MendAnswer::Refused(r);
-    }
+    let measure = measure::measured(net, sheet)?;
     let entries = measure.entries;
     let changes = measure.changes;
     let lengths = Lengths {
         sheet: 2 + 2 * entries,
         list: 1 + 2 * changes,
     };
-    let found = lending::output_fault(out.len(), lengths.sheet);
-    if let Verdict::Refused(r) = found {
-        return MendAnswer::Refused(r);
-    }
-    let found = lending::output_fault(list.len(), lengths.list);
-    if let Verdict::Refused(r) = found {
-        return MendAnswer::Refused(r);
-    }
+    lending::output_fault(out.len(), lengths.sheet)?;
+    lending::output_fault(list.len(), lengths.list)?;
     let parent = measure.parent;
     writer::write_sheet(net, sheet, parent, entries, out);
     writer::write_list(net, sheet, parent, changes, list);
-    MendAnswer::Written(lengths)
+    Ok(lengths)
 }
 
 // Mending under a limit of scratch.
@@ -53,10 +44,7 @@ pub fn mend_within(
 ) -> MendAnswer
     ensures { MendWithinDone limit net.now sheet.now out.old list.old scratch.old result out.new list.new scratch.new }
 {
-    let found = lending::scratch_fault(limit, scratch.len());
-    if let Verdict::Refused(r) = found {
-        return MendAnswer::Refused(r);
-    }
+    lending::scratch_fault(limit, scratch.len())?;
     let answer = mend_into(net, sheet, out, list);
     scan::clear_front(scratch, limit);
     answer

@@ -1,16 +1,17 @@
 // What mending works out before it writes: the checks in their order, and how many entries and how many changes there will be.
-ghost use Rattle.std.specs.Prelude.{◌≡◌};
+ghost use Rattle.std.specs.Prelude.{◌≡◌, Err};
 ghost use Rattle.refusal.specs.Refusal.{refusal};
 ghost use Rattle.refusal.specs.declared.Position.TheVariants.{Nothing};
+ghost use Rattle.refusal.specs.declared.Reason.TheVariants.{NoCountsFit};
 ghost use Rattle.mend.specs.Measure.{arcs_verdict, Measured};
 
 use super::writer::Part;
 use super::{places, search, writer};
-use refusal::{Limits, Position, Refusal, Verdict};
+use refusal::{Limits, Position, Reason, Refusal, Verdict};
 
+// The arcs that found the nodes, and the lengths of what will be written.
 #[derive(Clone, Copy)]
 pub(crate) struct Measure {
-    pub verdict: Verdict,
     pub parent: [u16; 128],
     pub entries: usize,
     pub changes: usize,
@@ -20,44 +21,25 @@ pub(crate) struct Measure {
 fn checked(net: &[u32], sheet: &[u32]) -> Verdict
     ensures { result ≡ arcs_verdict net.now sheet.now }
 {
-    let found = graph::check_arcs(net, sheet);
-    if let Verdict::Refused(_) = found {
-        return found;
-    }
-    let nodes = choice::nodes(net, sheet);
-    let found = nodes.verdict;
-    if let Verdict::Refused(_) = found {
-        return found;
-    }
-    let awaits = nodes.awaits;
+    graph::check_arcs(net, sheet)?;
+    let awaits = choice::nodes(net, sheet)?;
     reach::paths(net, sheet, awaits)
 }
 
-fn refused(verdict: Verdict) -> Measure
-    ensures { result.verdict ≡ verdict }
-{
-    Measure {
-        verdict,
-        parent: [0u16; 128],
-        entries: 0,
-        changes: 0,
-    }
-}
-
 // Refusal 25.
-fn no_counts() -> Measure
-    ensures { result.verdict ≡ Verdict.Refused (refusal 25 Nothing) }
+fn no_counts() -> Result<Measure, Refusal>
+    ensures { result ≡ Err (refusal NoCountsFit Nothing) }
 {
-    refused(refusal::refuse(Refusal::NO_COUNTS_FIT, Position::Nothing))
+    Err(Refusal {
+        reason: Reason::NoCountsFit,
+        at: Position::Nothing,
+    })
 }
 
-pub(crate) fn measured(net: &[u32], sheet: &[u32]) -> Measure
-    ensures { Measured net.now sheet.now result.verdict result.parent result.entries result.changes }
+pub(crate) fn measured(net: &[u32], sheet: &[u32]) -> Result<Measure, Refusal>
+    ensures { Measured net.now sheet.now result }
 {
-    let found = checked(net, sheet);
-    if let Verdict::Refused(_) = found {
-        return refused(found);
-    }
+    checked(net, sheet)?;
     let nodes = search::search(net, sheet);
     if !places::all_fit(net, sheet, nodes) {
         return no_counts();
@@ -69,10 +51,9 @@ pub(crate) fn measured(net: &[u32], sheet: &[u32]) -> Measure
         return no_counts();
     }
     let changes = writer::counted(net, sheet, parent, Part::Changes);
-    Measure {
-        verdict: Verdict::Accepted,
+    Ok(Measure {
         parent,
         entries,
         changes,
-    }
+    })
 }

@@ -27,10 +27,8 @@ fn copy(sheet: &[u32], from: usize, n: usize, out: &mut [u32], at: usize) -> usi
     ensures { Appended out.old at (tabulate (copied sheet.now from) n) result out.new }
 {
     let mut next = at;
-    let mut i = 0;
-    while i < n {
+    for i in 0..n {
         next = encoding::put(sheet[from + i], out, next);
-        i += 1;
     }
     next
 }
@@ -51,10 +49,8 @@ fn changed_cells(row: [u32; 32], given: [u32; 32]) -> [u32; 32]
     ensures { result ≡ tabulate (changed_cell row given) most_places }
 {
     let mut cells = [0u32; 32];
-    let mut p = 0;
-    while p < 32 {
+    for p in 0..32 {
         cells[p] = changed_cell(row[p], given[p]);
-        p += 1;
     }
     cells
 }
@@ -95,15 +91,13 @@ pub(crate) fn counted(net: &[u32], sheet: &[u32], parent: [u16; 128], part: Part
     let mut counts = net::start_row(net);
     let mut known = 0;
     let mut entries = 0;
-    let mut n = 0;
-    while n < nodes {
+    for n in 0..nodes {
         let here = rows::row_of(net, sheet, parent, n, known, counts);
         let row = part_row(net, sheet, part, n as u32, here);
         let cells = row.cells;
         entries += encoding::filled(cells);
         counts = here;
         known = n;
-        n += 1;
     }
     entries
 }
@@ -125,14 +119,12 @@ fn write_part(
     let mut counts = net::start_row(net);
     let mut known = 0;
     let mut next = at;
-    let mut n = 0;
-    while n < nodes {
+    for n in 0..nodes {
         let here = rows::row_of(net, sheet, parent, n, known, counts);
         let row = part_row(net, sheet, part, n as u32, here);
         next = encoding::append(row, section, out, next);
         counts = here;
         known = n;
-        n += 1;
     }
     next
 }

@@ -1,8 +1,8 @@
 -- Mending as an instance of what holds of every call: the checks of its words, what is known of words that pass, and how long its results are.
+use Rattle.std.specs.Prelude.{Ok}
 use Rattle.scan.proofs.Basics.{ℕ, ◌+◌, ◌*◌, ◌≤◌, ◌<◌, arith, ◌≡◌, refl, true, List, [], ◌∷◌, ◌++◌, length}
 use native.Mathlib.Nat.{mul-le-mul}
 use Rattle.refusal.specs.Limits.{most_entries}
-use Rattle.refusal.specs.declared.Verdict.TheVariants.{Accepted}
 use Rattle.refusal.proofs.Judges.{pass-append}
 use Rattle.net.specs.Checks.{net_checks}
 use Rattle.net.specs.Check.{net_reply}
@@ -36,7 +36,7 @@ mend-law net sheet = record {
 -- ---- what passed
 
 pub record Passed (net sheet : List ℕ) : Type 0 where
-  pub net_accepted : net_reply net ≡ Accepted
+  pub net_accepted : net_reply net ≡ Ok tt
   pub some_transition : 0 < (petri_net net).transitions
   pub some_place : 0 < (petri_net net).places
   pub words : ArcsHold (petri_net net) sheet
@@ -44,7 +44,7 @@ pub record Passed (net sheet : List ℕ) : Type 0 where
   pub fit : counts_fit (petri_net net) (graph (petri_net net) sheet) ≡ true
 
 module _ (net sheet : List ℕ) where
-  pub passed : mend_verdict net sheet ≡ Accepted → Passed net sheet
+  pub passed : mend_verdict net sheet ≡ Ok tt → Passed net sheet
   passed h =
       let N = petri_net net in
       let (n, m) = (pass-append (net_checks net) (mend_checks N sheet)).0 ((mend-judged net sheet).accepts.0 h) in

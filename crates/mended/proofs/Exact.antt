@@ -1,4 +1,5 @@
 -- Counts fit exactly if some schedule has these arcs, and then the mended words are the only such schedule; so the tests decide the checks.
+use Rattle.refusal.specs.declared.Reason.TheVariants.{NoCountsFit}
 use Rattle.scan.proofs.Basics.{ℕ, ◌<◌, arith, ◌≡◌, refl, sym, ap, subst, ◌∙◌, ◌↔◌, true, not, List, ◌++◌}
 use Rattle.scan.specs.Scan.{or_else, when, first}
 use Rattle.scan.proofs.Tests.{decides_not}
@@ -164,6 +165,6 @@ mend-judged net sheet =
 
 pub arcs-fault : (N : PetriNet) (sheet : List ℕ) → arcs_fault N sheet
     ≡ or_else (first (node_fault N sheet) (node_count sheet)) (or_else (root_fault N sheet) (or_else (first (reach_fault N sheet) (node_count sheet))
-    (or_else (first (return_fault N sheet) (node_count sheet)) (when (not (counts_fit N (graph N sheet))) (refusal 25 Nothing)))))
+    (or_else (first (return_fault N sheet) (node_count sheet)) (when (not (counts_fit N (graph N sheet))) (refusal NoCountsFit Nothing)))))
 unfolding arcs_fault finding found_by node_fault root_fault reach_fault return_fault line_finds
 arcs-fault N sheet = rw (first_one)

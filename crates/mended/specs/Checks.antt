@@ -1,4 +1,5 @@
 -- The checks of mending in their order (§7.62), each with its clause and its number.
+use Rattle.refusal.specs.declared.Reason.TheVariants.{NoArc, NoCountsFit, NoPathToAwait, NotOneChoiceSet, NotReached, RootNotAwait}
 use Rattle.std.specs.Prelude.{ℕ, List, [], ◌∷◌, ◌++◌}
 use Rattle.automaton.specs.Reach.{Reachable}
 use Rattle.refusal.specs.Checks.{◌else◌, Check, once, each}
@@ -13,11 +14,11 @@ module _ (N : PetriNet) (sheet : List ℕ) where
   -- §7.11 to §7.13, §7.16, §7.17 and §7.25: these checks look at arcs only
   abbrev pub arc_checks : List Check
   arc_checks =
-      each (node_count sheet) Node ((λ n. (t : ℕ) × Offers N (graph N sheet) n t) else 11 ∷ OneChoiceSet N (graph N sheet) else 12 ∷ [])
-      ∷ each 1 Node (Await N (graph N sheet) else 13 ∷ [])
-      ∷ each (node_count sheet) Node (Reachable (graph N sheet) else 16 ∷ [])
-      ∷ each (node_count sheet) Node (ToAwait N (graph N sheet) else 17 ∷ [])
-      ∷ once (CountsExist N sheet) 25
+      each (node_count sheet) Node ((λ n. (t : ℕ) × Offers N (graph N sheet) n t) else NoArc ∷ OneChoiceSet N (graph N sheet) else NotOneChoiceSet ∷ [])
+      ∷ each 1 Node (Await N (graph N sheet) else RootNotAwait ∷ [])
+      ∷ each (node_count sheet) Node (Reachable (graph N sheet) else NotReached ∷ [])
+      ∷ each (node_count sheet) Node (ToAwait N (graph N sheet) else NoPathToAwait ∷ [])
+      ∷ once (CountsExist N sheet) NoCountsFit
       ∷ []
 
   -- first the checks of the words, with §7.9 asked of arcs only, then those

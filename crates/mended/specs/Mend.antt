@@ -1,4 +1,5 @@
 -- Mending as a computation: for each clause of `mend_checks` a test that it fails, what these tests find, and the mended schedule (§10.14).
+use Rattle.refusal.specs.Refusal.{Verdict}
 use Rattle.std.specs.Prelude.{ℕ, ◌-◌, List, [], ◌∷◌, not}
 use Rattle.std.proofs.Math.Option.{Option}
 use Rattle.scan.specs.Scan.{or_else}
@@ -6,7 +7,6 @@ use Rattle.automaton.specs.Reach.{reached_in, leads_in}
 use Rattle.refusal.specs.Verdict.{verdict_of, and_then}
 use Rattle.refusal.specs.Finding.{Tests, asked, finding}
 use Rattle.refusal.specs.declared.Refusal.{Refusal}
-use Rattle.refusal.specs.declared.Verdict.{Verdict}
 use Rattle.net.specs.Check.{net_reply}
 use Rattle.sequential.specs.Petri.{PetriNet, petri_net}
 use Rattle.sequential.specs.Words.{node_count, graph}

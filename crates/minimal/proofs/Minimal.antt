@@ -1,5 +1,6 @@
 -- The minimal form of an accepted sheet: its graph is the minimal automaton, it is accepted, and two forms are equal exactly if the roots allow the same lists.
 -- ---- a schedule that a sheet can say
+use Rattle.std.specs.Prelude.{Ok}
 use Rattle.scan.proofs.Basics.{ℕ, ◌+◌, ◌*◌, ◌≤◌, ◌<◌, arith, ◌≡◌, refl, sym, ap, subst, ◌∙◌, ◌↔◌, List, length}
 use Rattle.automaton.specs.Automaton.{Automaton, Closed, SameLists}
 use Rattle.automaton.specs.BreadthFirst.{BreadthFirst}
@@ -13,7 +14,6 @@ use Rattle.sequential.specs.Petri.{PetriNet, petri_net, fire}
 use Rattle.sequential.specs.Words.{node_count, entry_count, graph}
 use Rattle.sequential.specs.Schedule.{IsSchedule}
 use Rattle.sequential.specs.Known.{WordsHold, Accepts}
-use Rattle.refusal.specs.declared.Verdict.TheVariants as verdict
 use Rattle.sequential.specs.Check.{schedule_reply}
 use Rattle.sequential.proofs.Accepted.{accepted-exactly, accepts, some_transition}
 use Rattle.encoding.specs.Encoding.{held, encode, Encodable}
@@ -48,7 +48,7 @@ module _ (N : PetriNet) (A : Automaton) (E : Encodable N A) (s : IsSchedule N A)
 -- ---- an accepted sheet
 
 abbrev pub Accepted : List ℕ → List ℕ → Type 0
-Accepted net sheet = schedule_reply net sheet ≡ verdict.Accepted
+Accepted net sheet = schedule_reply net sheet ≡ Ok tt
 
 module _ (net sheet : List ℕ) (h : Accepted net sheet) where
   abbrev N : PetriNet

@@ -1,19 +1,22 @@
 -- The call that writes the minimal form (§10.9): what it makes of its words, its postcondition, and its answer as plain numbers.
-use Rattle.std.specs.Prelude.{ℕ, List, [], ◌∷◌, length}
-use Rattle.refusal.specs.Refusal.{plain_refusal}
+use Rattle.std.specs.Prelude.{ℕ, List, [], ◌∷◌, length, Result, Err, Ok}
+use Rattle.refusal.specs.Refusal.{plain_answer}
+use Rattle.refusal.specs.declared.Refusal.{Refusal}
 use Rattle.sequential.specs.Check.{schedule_reply}
 use Rattle.graph.specs.Readable.{words_reply}
 use Rattle.lending.specs.Call.{Core, WordsDone, CallDone}
 use Rattle.refusal.specs.Limits.{scratch_limit}
 use Rattle.minimal.specs.Minimal.{minimal_form}
-use Rattle.minimal.specs.declared.FormAnswer.{FormAnswer}
-use Rattle.minimal.specs.declared.FormAnswer.TheVariants.{Written, Refused}
+
+-- the length in words of what is written, or a refusal
+abbrev pub FormAnswer : Type 0
+FormAnswer = Result ℕ Refusal
 
 abbrev pub form_core : List ℕ → List ℕ → Core FormAnswer
 form_core net sheet = record {
   verdict = schedule_reply net sheet;
-  accepted = Written (length (minimal_form net sheet));
-  refused = Refused;
+  accepted = Ok (length (minimal_form net sheet));
+  refused = Err;
   results = minimal_form net sheet ∷ [];
 }
 
@@ -21,8 +24,8 @@ form_core net sheet = record {
 abbrev pub read_core : List ℕ → List ℕ → Core FormAnswer
 read_core net sheet = record {
   verdict = words_reply net sheet;
-  accepted = Written (length (minimal_form net sheet));
-  refused = Refused;
+  accepted = Ok (length (minimal_form net sheet));
+  refused = Err;
   results = minimal_form net sheet ∷ [];
 }
 
@@ -42,5 +45,4 @@ FormDone = FormWithinDone scratch_limit
 
 -- number, kind, position, the length (§8.1), which is 0 if refused (§8.3)
 abbrev pub plain_form : FormAnswer → List ℕ
-plain_form (Written n) = 0 ∷ 0 ∷ 0 ∷ n ∷ 0 ∷ 0 ∷ []
-plain_form (Refused r) = plain_refusal r
+plain_form answer = plain_answer (λ n. n ∷ 0 ∷ 0 ∷ []) answer

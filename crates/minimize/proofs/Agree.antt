@@ -118,9 +118,6 @@ module _ {sheet classes : List ℕ} {counts : Bool} {width a b i j : ℕ} where
         here : h ≡ true
         here = beq-right g h true e d
 
-        pub walk-values : Valued sheet classes counts x × Valued sheet classes counts y
-        walk-values = (w.rows.left.valued t x l (sym p ∙ d), w.rows.right.valued t y l (sym q ∙ here))
-
         -- and the values do not agree
         pub walk-apart : values_agree classes counts (entry_value sheet x) (entry_value sheet y) ≡ false → false ≡ all (keys_agree sheet (values_agree classes counts) a b) width
         walk-apart z = apart (agree-here ∙ rw (d, here) z)

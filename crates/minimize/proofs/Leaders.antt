@@ -1,7 +1,6 @@
 -- Tables of leaders: a loop that looks for a leader, a round that passes over nodes which do not lead, and the last round.
 use Rattle.scan.proofs.Basics.{ℕ, suc, ◌+◌, ◌-◌, ◌≤◌, ◌<◌, add-one, arith, ◌≡◌, refl, sym, ap, ◌∙◌, Bool, true, false, Option, List, length, get_or, set}
-use native.Mathlib.Decide.{le_ind}
-use Rattle.scan.proofs.Tests.{by_less, by_equal, eqb-true, eq-eqb, ne_eqb, true-false, not-true→false, and_left, and_right, and_both}
+use Rattle.scan.proofs.Tests.{eqb-true, eq-eqb, ne_eqb, true-false, not-true→false, and_left, and_right, and_both}
 use Rattle.scan.specs.Scan.{all, any, least, found}
 use Rattle.scan.proofs.Every.{all_in, all-out, any_none, any-before, any-more}
 use Rattle.scan.proofs.Least.{least-le, least-hit, least-ext}
@@ -29,10 +28,6 @@ pub leader-from : (A : Automaton) (counts : Bool) (class : ℕ → ℕ) (n : ℕ
     → any (in_class (split A counts class) n) (class n) ≡ false
 unfolding in_class split same_class
 leader-from A counts class n h = any_none _ (class n) (λ m l. rw (ne_eqb (class m) (class n) (h m l)))
-
--- nodes that are passed over
-pub skips-more : (P : ℕ → Type 0) (k i : ℕ) → ((j : ℕ) → k ≤ j → j < i → P j → ⊥) → (P i → ⊥) → (j : ℕ) → k ≤ j → j < i + 1 → P j → ⊥
-skips-more P k i h d j l m p = by_less j i (λ q. h j l q p) (λ q. let e : j ≡ i = omega arith in d (rw e at p))
 
 -- ---- a table that a loop fills
 
@@ -69,7 +64,7 @@ module _ (A : Automaton) (counts : Bool) (class : ℕ → ℕ) where
       (rows-trans counts n m p (and_right (same_class class n m) _ e) (and_right (same_class class m p) _ f))
 
   -- a node that does not lead its new class leads no other
-  leader-not-own : (n m : ℕ) → any (in_class (split A counts class) n) m ≡ false → (leader_by (split A counts class) m ≡ m → ⊥)
+  pub leader-not-own : (n m : ℕ) → any (in_class (split A counts class) n) m ≡ false → (leader_by (split A counts class) m ≡ m → ⊥)
       → any (in_class (split A counts class) n) (m + 1) ≡ false
   unfolding leader_by
   leader-not-own n m h d =
@@ -79,21 +74,13 @@ module _ (A : Automaton) (counts : Bool) (class : ℕ → ℕ) where
       true-false _ (split-trans _ m n g e) (unfold in_class in (any-before (in_class (split A counts class) n) m h _ l))))
 
   -- what the code tests, one after the other
-  split-other-class : (n m : ℕ) → (class n ≡ class m → ⊥) → split A counts class n m ≡ false
+  pub split-other-class : (n m : ℕ) → (class n ≡ class m → ⊥) → split A counts class n m ≡ false
   unfolding split same_class
   split-other-class n m d = rw (ne_eqb (class n) (class m) d)
 
   pub split-by-rows : (n m : ℕ) → class n ≡ class m → split A counts class n m ≡ rows_alike A counts class n m
   unfolding split same_class
   split-by-rows n m e = rw (eq-eqb (class n) (class m) e)
-
-  -- nodes of other classes, and those that do not lead their new class
-  pub leader-skip : (n k r : ℕ) → any (in_class (split A counts class) n) k ≡ false → k ≤ r
-      → ((j : ℕ) → k ≤ j → j < r → class j ≡ class n → leader_by (split A counts class) j ≡ j → ⊥) → any (in_class (split A counts class) n) r ≡ false
-  leader-skip n k r e l h =
-      le_ind (λ (i : ℕ). i ≤ r → any (in_class (split A counts class) n) i ≡ false) (λ _. e)
-      (λ i g f t. let z = f (omega arith) in rw (← add-one i) (by_equal (class i) (class n) (λ q. leader-not-own n i z (h i g (omega arith) q))
-      (λ d. leader-not (split A counts class) n i z (split-other-class i n d)))) r l (omega arith)
 
 -- what is read is low
 pub node_low : {net sheet starts classes : List ℕ} {counts level : Bool} → Round net sheet starts classes counts level → {n : ℕ} → n < node_count sheet → n < 128

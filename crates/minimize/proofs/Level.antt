@@ -15,10 +15,10 @@ use Rattle.graph.specs.Readable.{Readable}
 use Rattle.graph.proofs.Readable.{words}
 use Rattle.graph.proofs.Bounds.{start-bound}
 use Rattle.breadth_first.specs.Along.{class_in}
-use Rattle.minimize.specs.Agree.{has_key, values_agree, keys_agree, Valued, row_key, row_width, first_entry, SameOffers, StartsOf, targets_agree, LevelRows, TwoRows}
+use Rattle.minimize.specs.Agree.{has_key, values_agree, keys_agree, Valued, row_key, row_width, first_entry, SameOffers, targets_agree, LevelRows, TwoRows}
 use Rattle.minimize.specs.Leaders.{rows_alike}
 use Rattle.minimize.proofs.Agree.{value-at-bound, bound-hit, bound-miss}
-use Rattle.minimize.proofs.NodeRows.{first-arc, row-valued, arc_value, start-low, walked}
+use Rattle.minimize.proofs.NodeRows.{first-arc, row-valued, arc_value, walked}
 
 found-cond : (h : Bool) (v : ℕ) → found (cond h (some v) none) ≡ h
 unfolding found
@@ -154,27 +154,14 @@ module _ {net sheet : List ℕ} (readable : Readable net sheet) where
 
 -- ---- as the code reads them
 
-pub starts-low : {net sheet starts : List ℕ} {counts : Bool} → StartsOf net sheet counts starts → (n : ℕ) → n < node_count sheet → get_or starts n 0 ≤ 4096
-starts-low {counts = counts} S n l = rw (S.start n l) (start-low S.readable counts n)
-
-module _ {net sheet starts classes : List ℕ} {counts level : Bool} {n m : ℕ} (T : TwoRows net sheet starts classes counts level n m) where
-  pub left-low : get_or starts n 0 ≤ 4096
-  left-low = starts-low T.of n T.left
-
-  pub right-low : get_or starts m 0 ≤ 4096
-  right-low = starts-low T.of m T.right
-
 module _ {net sheet starts classes : List ℕ} {counts level : Bool} {n m : ℕ} (T : TwoRows net sheet starts classes counts level n m) (e : level ≡ true) where
   arcs-at : (k : ℕ) → k < node_count sheet → get_or starts k 0 ≡ first_entry net sheet false k
   arcs-at k l = T.of.start k l ∙ ap (λ (b : Bool). first_entry net sheet b k) (T.even e).arcs
 
-  pub end-inside : n + 1 < 128
-  end-inside = omega (arith, (T.even e).inner, T.of.readable.arcs.sizes.few_nodes)
-
-  pub end_low : (get_or starts n 0 ≤ get_or starts (n + 1) 0) × (get_or starts (n + 1) 0 ≤ 4096)
+  pub end_low : get_or starts n 0 ≤ get_or starts (n + 1) 0
   end_low =
       let d = T.even e in
-      (rw (arcs-at n T.left, arcs-at (n + 1) d.inner) (level-low T.of.readable classes T.left T.right d.offers d.inner), starts-low T.of (n + 1) d.inner)
+      rw (arcs-at n T.left, arcs-at (n + 1) d.inner) (level-low T.of.readable classes T.left T.right d.offers d.inner)
 
   pub even-rows : LevelRows sheet classes (get_or starts (n + 1) 0 - get_or starts n 0) (get_or starts n 0) (get_or starts m 0)
   even-rows =

@@ -36,17 +36,6 @@ pub record RoundAt (net sheet classes next : List ℕ) (counts : Bool) (n : ℕ)
   pub node : n < node_count sheet
   pub led : LeadersBy (split (graph (petri_net net) sheet) counts (class_in classes)) n next
 
--- node j is in class `class`, and is the least node of its new class
-abbrev pub LeastIn : List ℕ → List ℕ → ℕ → ℕ → Type 0
-LeastIn classes next class j = (class_in classes j ≡ class) × (class_in next j ≡ j)
-
--- r is the first such node from k on, or n
-pub record NextLeast (classes next : List ℕ) (class k n r : ℕ) : Type 0 where
-  pub low : k ≤ r
-  pub high : r ≤ n
-  pub is : r < n → class_in classes r ≡ class
-  pub skips : (j : ℕ) → k ≤ j → j < r → LeastIn classes next class j → ⊥
-
 -- node n has the same class in both tables
 unfoldable pub same_entry : List ℕ → List ℕ → ℕ → Bool
 same_entry a b n = eqb (class_in a n) (class_in b n)

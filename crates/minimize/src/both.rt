@@ -1,12 +1,10 @@
 // The minimal forms of two schedules of one net, each in a buffer of its own. Both are measured before either is written: §9.6.
-ghost use Rattle.std.specs.Prelude.{◌≡◌};
-ghost use Rattle.refusal.specs.declared.Verdict.TheVariants.{Accepted};
+ghost use Rattle.std.specs.Prelude.{◌≡◌, Ok};
 ghost use Rattle.graph.specs.Readable.{words_reply};
 ghost use Rattle.minimize.specs.Both.{Measured, FormsOf};
 
 use super::numbering::Numbers;
 use super::{FormLengths, FormsAnswer, classes, numbering, writer};
-use refusal::Verdict;
 
 // The nodes of a form, and how many entries it has.
 #[derive(Clone, Copy)]
@@ -16,7 +14,7 @@ pub(crate) struct Measure {
 }
 
 fn measured(net: &[u32], sheet: &[u32]) -> Measure
-    requires { words_reply net.now sheet.now ≡ Accepted }
+    requires { words_reply net.now sheet.now ≡ Ok tt }
     ensures { Measured net.now sheet.now result }
 {
     let classes = classes::classes(net, sheet);
@@ -33,8 +31,8 @@ pub(crate) fn written(
     one: &mut [u32],
     two: &mut [u32],
 ) -> FormsAnswer
-    requires first_value { words_reply net.now first.now ≡ Accepted }
-    requires second_value { words_reply net.now second.now ≡ Accepted }
+    requires first_value { words_reply net.now first.now ≡ Ok tt }
+    requires second_value { words_reply net.now second.now ≡ Ok tt }
     ensures { FormsOf net.now first.now second.now one.old two.old result one.new two.new }
 {
     let former = measured(net, first);
@@ -43,15 +41,9 @@ pub(crate) fn written(
         first: 2 + 2 * former.entries,
         second: 2 + 2 * latter.entries,
     };
-    let found = lending::output_fault(one.len(), lengths.first);
-    if let Verdict::Refused(r) = found {
-        return FormsAnswer::Refused(r);
-    }
-    let found = lending::output_fault(two.len(), lengths.second);
-    if let Verdict::Refused(r) = found {
-        return FormsAnswer::Refused(r);
-    }
+    lending::output_fault(one.len(), lengths.first)?;
+    lending::output_fault(two.len(), lengths.second)?;
     writer::write_form(net, first, former.new, former.entries, one);
     writer::write_form(net, second, latter.new, latter.entries, two);
-    FormsAnswer::Written(lengths)
+    Ok(lengths)
 }

@@ -9,9 +9,10 @@ ghost use Rattle.graph.specs.Readable.{Readable};
 ghost use Rattle.breadth_first.specs.Along.{class_in};
 ghost use Rattle.minimize.specs.Tables.{Classes};
 ghost use Rattle.minimize.specs.Agree.{has_key, values_agree, keys_agree, Valued, Rows, row_key, row_width, StartsOf, targets_agree, LevelRows, TwoRows};
-ghost use Rattle.minimize.specs.Leaders.{LeadersBy, rows_alike, split, Round, RoundAt, NextLeast, same_entry};
+ghost use Rattle.minimize.specs.Leaders.{LeadersBy, rows_alike, split, Round, RoundAt, same_entry};
 
 // Whether there is an entry i, and its key is `key`.
+#[tactic(auto, unfolding(crate::specs::Agree::has_key, table::specs::Table::key_at))]
 fn has_key(sheet: &[u32], i: usize, key: u32) -> bool
     requires { length sheet.now ≡ 2 + 2 * entry_count sheet.now }
     ensures { result ≡ has_key sheet.now i key }
@@ -54,13 +55,11 @@ fn rows_agree(
 {
     let mut x = i;
     let mut y = j;
-    let mut t = 0;
-    while t < width {
+    for t in 0..width {
         let there = has_key(sheet, x, a + t);
         if there != has_key(sheet, y, b + t) {
             return false;
         }
-        t += 1;
         if there {
             if !values_agree(sheet, classes, counts, x, y) {
                 return false;
@@ -77,17 +76,16 @@ fn targets_agree(sheet: &[u32], classes: &[u8], size: usize, i: usize, j: usize)
     requires { LevelRows sheet.now classes.now size i j }
     ensures { result ≡ all (targets_agree sheet.now classes.now i j) size }
 {
-    let mut s = 0;
-    while s < size {
+    for s in 0..size {
         if !values_agree(sheet, classes, false, i + s, j + s) {
             return false;
         }
-        s += 1;
     }
     true
 }
 
 // The first key of node n's row, of its counts or of its arcs.
+#[tactic(auto, unfolding(crate::specs::Agree::row_key))]
 pub(crate) fn first_key(net: &[u32], sheet: &[u32], counts: bool, n: u32) -> u32
     requires { Readable net.now sheet.now }
     ensures { result ≡ row_key net.now sheet.now counts n }
@@ -99,6 +97,7 @@ pub(crate) fn first_key(net: &[u32], sheet: &[u32], counts: bool, n: u32) -> u32
 }
 
 // How many keys a row of counts or of arcs has.
+#[tactic(auto, unfolding(crate::specs::Agree::row_width))]
 pub(crate) fn row_width(net: &[u32], counts: bool) -> u32
     ensures { result ≡ row_width net.now counts }
 {
@@ -116,11 +115,9 @@ fn starts_of(net: &[u32], sheet: &[u32], counts: bool) -> [u16; 128]
     let nodes = sheet[0];
     let entries = sheet[1] as usize;
     let mut starts = [0u16; 128];
-    let mut n = 0;
-    while n < nodes {
+    for n in 0..nodes {
         let key = first_key(net, sheet, counts, n);
         starts[n as usize] = table::lower_bound(sheet, 2, entries, key) as u16;
-        n += 1;
     }
     starts
 }
@@ -151,25 +148,7 @@ fn nodes_agree(
     rows_agree(sheet, classes, counts, width, a, b, i, j)
 }
 
-// The first node from k on and below n that is in class `class` and is the least of its new class; n if there is none.
-fn next_least(classes: &[u8; 128], next: &[u8; 128], class: u8, k: u32, n: u32) -> u32
-    requires { (k ≤ n) × (n ≤ 128) }
-    ensures { NextLeast classes.now next.now class k n result }
-{
-    let mut i = k;
-    while i < n {
-        let m = i;
-        i += 1;
-        if classes[m as usize] == class {
-            if next[m as usize] == m as u8 {
-                return m;
-            }
-        }
-    }
-    n
-}
-
-// The least node of n's class whose row agrees with n's. It is enough to try the least node of the old class and the least nodes of the new classes.
+// The least node of n's class whose row agrees with n's. It is enough to try the least nodes of the new classes, of which the first is that of the old class.
 fn leader(
     net: &[u32],
     sheet: &[u32],
@@ -185,12 +164,12 @@ fn leader(
     ensures { result ≡ leader_by (split (graph (petri_net net.now) sheet.now) counts (class_in classes.now)) n }
 {
     let class = classes[n as usize];
-    let mut m = class as u32;
-    while m < n {
-        if nodes_agree(net, sheet, starts, classes, counts, level, m, n) {
-            return m;
+    for m in class as u32..n {
+        if classes[m as usize] == class && next[m as usize] == m as u8 {
+            if nodes_agree(net, sheet, starts, classes, counts, level, m, n) {
+                return m;
+            }
         }
-        m = next_least(classes, next, class, m + 1, n);
     }
     n
 }
@@ -209,11 +188,9 @@ fn round(
 {
     let nodes = sheet[0];
     let mut next = [0u8; 128];
-    let mut n = 0;
-    while n < nodes {
+    for n in 0..nodes {
         let found = leader(net, sheet, starts, classes, &next, counts, level, n);
         next[n as usize] = found as u8;
-        n += 1;
     }
     next
 }
@@ -224,13 +201,8 @@ fn same_tables(a: &[u8; 128], b: &[u8; 128], nodes: usize) -> bool
     ensures { result ≡ all (same_entry a.now b.now) nodes }
 {
     let mut same = true;
-    let mut i = 0;
-    while i < nodes {
-        let n = i;
-        i += 1;
-        if a[n] != b[n] {
-            same = false;
-        }
+    for n in 0..nodes {
+        same &= a[n] == b[n];
     }
     same
 }
@@ -246,14 +218,12 @@ pub(crate) fn classes(net: &[u32], sheet: &[u32]) -> [u8; 128]
     let one = [0u8; 128];
     let first = round(net, sheet, &counts, &one, true, false);
     let mut classes = round(net, sheet, &arcs, &first, false, false);
-    let mut rounds = 1;
-    while rounds < nodes {
+    for _round in 1..nodes {
         let next = round(net, sheet, &arcs, &classes, false, true);
         if same_tables(&classes, &next, nodes) {
             return classes;
         }
         classes = next;
-        rounds += 1;
     }
     classes
 }

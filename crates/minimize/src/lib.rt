@@ -6,14 +6,13 @@ mod classes;
 mod numbering;
 mod writer;
 
-ghost use Rattle.std.specs.Prelude.{◌≡◌};
-ghost use Rattle.refusal.specs.declared.Verdict.TheVariants.{Accepted};
+ghost use Rattle.std.specs.Prelude.{◌≡◌, Ok};
 ghost use Rattle.graph.specs.Readable.{words_reply};
 ghost use Rattle.minimal.specs.Form.{FormOf, FormWritten, FormWithinDone, FormDone};
 ghost use Rattle.minimize.specs.Both.{FormsOf};
 
 use minimal::FormAnswer;
-use refusal::{Refusal, Verdict};
+use refusal::Refusal;
 use schedule::Walker;
 
 // The lengths in words of two forms.
@@ -24,15 +23,11 @@ pub struct FormLengths {
 }
 
 // The answer for two forms: the lengths of what was written, or a refusal.
-#[derive(Clone, Copy)]
-pub enum FormsAnswer {
-    Written(FormLengths),
-    Refused(Refusal),
-}
+pub type FormsAnswer = Result<FormLengths, Refusal>;
 
 // The minimal form of words that 1 to 9 and 26 let pass.
 fn written(net: &[u32], sheet: &[u32], out: &mut [u32]) -> FormAnswer
-    requires { words_reply net.now sheet.now ≡ Accepted }
+    requires { words_reply net.now sheet.now ≡ Ok tt }
     ensures { FormOf net.now sheet.now out.old result out.new }
 {
     let classes = classes::classes(net, sheet);
@@ -44,10 +39,7 @@ fn written(net: &[u32], sheet: &[u32], out: &mut [u32]) -> FormAnswer
 pub fn form_of(net: &[u32], sheet: &[u32], out: &mut [u32]) -> FormAnswer
     ensures { FormOf net.now sheet.now out.old result out.new }
 {
-    let found = graph::check(net, sheet);
-    if let Verdict::Refused(r) = found {
-        return FormAnswer::Refused(r);
-    }
+    graph::check(net, sheet)?;
     written(net, sheet, out)
 }
 
@@ -61,14 +53,8 @@ pub fn forms_of(
 ) -> FormsAnswer
     ensures { FormsOf net.now first.now second.now one.old two.old result one.new two.new }
 {
-    let found = graph::check(net, first);
-    if let Verdict::Refused(r) = found {
-        return FormsAnswer::Refused(r);
-    }
-    let found = graph::check(net, second);
-    if let Verdict::Refused(r) = found {
-        return FormsAnswer::Refused(r);
-    }
+    graph::check(net, first)?;
+    graph::check(net, second)?;
     both::written(net, first, second, one, two)
 }
 
@@ -76,10 +62,7 @@ pub fn forms_of(
 pub fn form_into(net: &[u32], sheet: &[u32], out: &mut [u32]) -> FormAnswer
     ensures { FormWritten net.now sheet.now out.old result out.new }
 {
-    let found = judge::verdict(net, sheet);
-    if let Verdict::Refused(r) = found {
-        return FormAnswer::Refused(r);
-    }
+    judge::verdict(net, sheet)?;
     form_of(net, sheet, out)
 }
 
@@ -93,10 +76,7 @@ pub fn minimal_form_within(
 ) -> FormAnswer
     ensures { FormWithinDone limit net.now sheet.now out.old scratch.old result out.new scratch.new }
 {
-    let found = lending::scratch_fault(limit, scratch.len());
-    if let Verdict::Refused(r) = found {
-        return FormAnswer::Refused(r);
-    }
+    lending::scratch_fault(limit, scratch.len())?;
     let answer = form_into(net, sheet, out);
     scan::clear_front(scratch, limit);
     answer

@@ -1,4 +1,6 @@
 -- On a net that passes 1 to 4 the weight that bisection finds is the weight at the key, for one weight and for a whole row; the same for capacities.
+use Rattle.std.specs.Prelude.{Err, Ok, Some}
+use Rattle.refusal.specs.Refusal.{Verdict}
 use Rattle.scan.proofs.Basics.{ℕ, zero, suc, ◌+◌, ◌*◌, ◌≤◌, arith, ◌≡◌, refl, sym, ap, ◌∙◌, Bool, true, false, cond, ◌&&◌, ltb, Option, none, some, option_map, option_get_or, List, replicate}
 use lib.ListN.{get_or-replicate}
 use Rattle.scan.proofs.Tests.{ne_eqb}
@@ -13,24 +15,21 @@ use Rattle.table.proofs.Row.{value-row-is}
 use Rattle.refusal.specs.Limits.{most_count}
 use Rattle.refusal.specs.Verdict.{verdict_of}
 use Rattle.refusal.specs.declared.Refusal.{Refusal}
-use Rattle.refusal.specs.declared.Verdict.{Verdict}
-use Rattle.refusal.specs.declared.Verdict.TheVariants.{Accepted, Refused}
 use Rattle.refusal.proofs.Verdicts.{answer-none, answer-some}
 use Rattle.net.specs.Net.{place_count, transition_count, weight_count, weight_at, taken, put, start, capacity, entry_weight}
 use Rattle.net.specs.Check.{within, shape_fault}
 use Rattle.net.specs.Accessors.{capacity_told, capacity_of_word, word_allows, weight_found, weight_reply, shaped, row_reply, row_weights, weight_or_zero, row_or_zeros}
 use Rattle.net.specs.Accessors.{taken_reply, put_reply, start_reply, capacity_reply, taken_row_reply, put_row_reply, start_row_reply, capacity_row_reply}
 use Rattle.net.specs.Demands.{AccessorsRight}
-use Rattle.net.specs.declared.PlaceCapacity.TheVariants.{AtMost}
 use Rattle.net.proofs.Shape.{shape-in}
 use Rattle.net.specs.Known.{EntriesPass}
 use Rattle.net.proofs.Entries.{entries-rise, entries_fit}
 
-pub shaped-true : (net : List ℕ) {v : Verdict} → v ≡ verdict_of (shape_fault net) → v ≡ Accepted → shaped net ≡ true
+pub shaped-true : (net : List ℕ) {v : Verdict} → v ≡ verdict_of (shape_fault net) → v ≡ Ok tt → shaped net ≡ true
 unfolding shaped found
 shaped-true net e h = rw (answer-none (shape_fault net) (sym e ∙ h))
 
-pub shaped-false : (net : List ℕ) {v : Verdict} {r : Refusal} → v ≡ verdict_of (shape_fault net) → v ≡ Refused r → shaped net ≡ false
+pub shaped-false : (net : List ℕ) {v : Verdict} {r : Refusal} → v ≡ verdict_of (shape_fault net) → v ≡ Err r → shaped net ≡ false
 unfolding shaped found
 shaped-false net {r = r} e h = rw (answer-some (shape_fault net) r (sym e ∙ h))
 
@@ -40,7 +39,7 @@ found-weight net (some i) = refl
 
 -- ---- words of the row of capacities, of which none is 0
 
-pub word_some : (n : ℕ) → (n ≡ 0 → ⊥) → AtMost n ≡ capacity_of_word n
+pub word_some : (n : ℕ) → (n ≡ 0 → ⊥) → Some n ≡ capacity_of_word n
 word_some zero h = absurd (h refl)
 word_some (suc n) h = refl
 

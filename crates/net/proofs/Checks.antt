@@ -1,4 +1,5 @@
 -- The net's tests decide its clauses; so a net is accepted exactly if all pass, and else refused by the one that fails first.
+use Rattle.refusal.specs.declared.Reason.TheVariants.{NoSource}
 use Rattle.scan.proofs.Basics.{ℕ, ◌≡◌, refl, sym, ap, ◌∙◌, ◌↔◌, true, false, not, Option, none, some, List}
 use Rattle.scan.proofs.Tests.{ltb-false, le-ltb, leb-true, le-leb, eqb-true, eq-eqb, decides_not}
 use Rattle.scan.specs.Scan.{or_else, when, first}
@@ -46,7 +47,8 @@ module _ (net : List ℕ) where
 
   -- the functions' parts, one after the other
   pub net-fault : finding (net_checks net) (net_tests net)
-      ≡ or_else (shape_fault net) (or_else (first (entry_fault net) (weight_count net)) (or_else (first (overfull_fault net) (place_count net)) (when (not (has_source net)) (refusal 5 Nothing))))
+      ≡ or_else (shape_fault net)
+      (or_else (first (entry_fault net) (weight_count net)) (or_else (first (overfull_fault net) (place_count net)) (when (not (has_source net)) (refusal NoSource Nothing))))
   unfolding finding found_by line_finds found_at shape_fault entry_fault overfull_fault
   net-fault = sym (or_else-assoc _ _ _ ∙ ap (or_else _) (or_else-assoc _ _ _))
 

@@ -1,4 +1,6 @@
 -- A net with too many words is answered as its first words are: the longest net has 4,227.
+use Rattle.std.specs.Prelude.{Err}
+use Rattle.refusal.specs.declared.Reason.TheVariants.{NetLength, NetSize}
 use Rattle.scan.proofs.Basics.{ℕ, ◌+◌, ◌*◌, ◌≤◌, ◌<◌, arith, ◌≡◌, sym, ap, ◌∙◌, true, false, cond, ltb, leb, eqb, some, List, length, take}
 use lib.Seq.{get_or-take, take_all, length-take-le}
 use Rattle.scan.proofs.Tests.{le-ltb, leb-true, leb-false, ne_eqb, by_test}
@@ -11,13 +13,12 @@ use Rattle.net.specs.Check.{sizes_pass, shape_fault, net_reply}
 use Rattle.refusal.specs.Verdict.{verdict_of}
 use Rattle.refusal.specs.declared.Position.TheVariants.{Nothing}
 use Rattle.refusal.specs.declared.Refusal.{Refusal}
-use Rattle.refusal.specs.declared.Verdict.TheVariants.{Refused}
 use Rattle.net.proofs.Shape.{sizes-out, limit-high}
 use Rattle.net.proofs.Checks.{net-fault}
 
 -- what more words than fit are refused by: sizes, or else the length
 unfoldable pub overlong_fault : ℕ → ℕ → ℕ → Refusal
-overlong_fault p t k = cond (sizes_pass p t k) (refusal 1 Nothing) (refusal 2 Nothing)
+overlong_fault p t k = cond (sizes_pass p t k) (refusal NetLength Nothing) (refusal NetSize Nothing)
 
 module _ (net : List ℕ) (l : 4228 ≤ length net) where
   not-whole : sizes_pass (place_count net) (transition_count net) (weight_count net) ≡ true → eqb (length net) (3 + 2 * weight_count net) ≡ false
@@ -32,7 +33,7 @@ module _ (net : List ℕ) (l : 4228 ≤ length net) where
       let a : ltb (length net) 3 ≡ false = le-ltb (length net) 3 (omega arith) in
       by_test (sizes_pass (place_count net) (transition_count net) (weight_count net)) (λ h. rw (a, h, not-whole h)) (λ h. rw (a, h))
 
-  pub overlong : net_reply net ≡ Refused (overlong_fault (place_count net) (transition_count net) (weight_count net))
+  pub overlong : net_reply net ≡ Err (overlong_fault (place_count net) (transition_count net) (weight_count net))
   unfolding net_reply
   overlong = ap verdict_of (net-fault net ∙ or_else-hit _ _ _ shape-overlong)
 

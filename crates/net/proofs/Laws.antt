@@ -1,5 +1,6 @@
 -- What the crates above use about a net: its sizes, the range of its weights and capacities, and that what is no transition or place has none.
 -- They rely on these laws and on the accessors' contracts, and open no definition of the net.
+use Rattle.std.specs.Prelude.{Ok}
 use Rattle.scan.proofs.Basics.{ℕ, ◌+◌, ◌*◌, ◌≤◌, arith, ◌≡◌, Bool, true, false, cond, ◌&&◌, ltb, none, some, List}
 use native.Mathlib.Decide.{dec_lt}
 use mathlib.Core.Bool.{and-false}
@@ -10,7 +11,6 @@ use Rattle.refusal.specs.Limits.{most_count}
 use Rattle.net.specs.Net.{place_count, transition_count, weight_count, weight_key, taken, put, start, capacity, Within}
 use Rattle.net.specs.Check.{net_reply}
 use Rattle.net.specs.Checks.{NetSizesPass, IsNet, HasSource}
-use Rattle.refusal.specs.declared.Verdict.TheVariants.{Accepted}
 use Rattle.net.specs.Demands.{AccessorsRight, NoCapacityKeys}
 use Rattle.net.proofs.Accessors.{capacity-range, accessors-right}
 use Rattle.net.specs.Known.{EntriesPass}
@@ -57,7 +57,7 @@ guarded : (b : Bool) (w : ℕ) → w ≤ most_count → cond b w 0 ≤ most_coun
 guarded true w h = h
 guarded false w h = omega arith
 
-module _ (net : List ℕ) (accepted : net_reply net ≡ Accepted) where
+module _ (net : List ℕ) (accepted : net_reply net ≡ Ok tt) where
   pub is_net : IsNet net
   is_net = (net-judged net).accepts.0 accepted
 

@@ -1,4 +1,5 @@
 -- 26 on a net that passes 1 to 4: what the rows of starts and of capacities say of a place.
+use Rattle.refusal.specs.declared.Reason.TheVariants.{StartOverCapacity}
 use Rattle.scan.proofs.Basics.{ℕ, ◌+◌, ◌-◌, ◌*◌, ◌≤◌, ◌<◌, arith, ◌≡◌, refl, sym, ap, ◌∙◌, true, not, leb, none, option_get_or, List, length, get_or, replicate}
 use lib.ListN.{get_or-replicate}
 use Rattle.scan.specs.Scan.{first, when}
@@ -18,7 +19,7 @@ use Rattle.net.proofs.Accessors.{word-allows, capacity-range, accessors-right}
 
 module _ {net : List ℕ} (e : EntriesPass net) {starts capacities : List ℕ} (s : starts ≡ row_or_zeros net true (2 * transition_count net))
     (c : capacities ≡ row_or_zeros net true (2 * transition_count net + 1)) where
-  pub overfull-told : (p : ℕ) → p < place_count net → overfull_fault net p ≡ when (not (word_allows (get_or capacities p 0) (get_or starts p 0))) (refusal 26 (Place p))
+  pub overfull-told : (p : ℕ) → p < place_count net → overfull_fault net p ≡ when (not (word_allows (get_or capacities p 0) (get_or starts p 0))) (refusal StartOverCapacity (Place p))
   unfolding overfull_fault line_finds found_at start_row_reply capacity_row_reply
   overfull-told p l =
       let k = e.shape.sizes.few_places in

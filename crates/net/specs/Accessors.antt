@@ -1,32 +1,27 @@
 -- What the net's accessors answer on any words: the weight that bisection finds, and the row that one walk from there finds; 0 if 1 or 2 refuses the net.
 -- On an accepted net these are the weights of §2.5 to §2.8 and the capacities of §2.10 (Demands, `AccessorsRight`): §10.2.
-use Rattle.std.specs.Prelude.{ℕ, zero, suc, ◌+◌, ◌*◌, List, Bool, true, cond, not, ◌&&◌, ◌||◌, replicate, ltb, leb, eqb}
+use Rattle.std.specs.Prelude as prelude
+use Rattle.std.specs.Prelude.{ℕ, zero, suc, ◌+◌, ◌*◌, List, Bool, true, cond, not, ◌&&◌, ◌||◌, replicate, ltb, leb, eqb, None, Some}
 use Rattle.std.proofs.Math.Option.{Option, none, some}
 use Rattle.scan.specs.Scan.{found}
-use Rattle.table.specs.Bisection.{look_up}
+use Rattle.table.specs.Bisection.{look_up, Found}
 use Rattle.table.specs.Row.{value_row}
-use Rattle.table.specs.declared.Found.{Found}
-use Rattle.table.specs.declared.Found.TheVariants.{At, Nothing}
 use Rattle.refusal.specs.Limits.{most_places}
 use Rattle.net.specs.Net.{place_count, transition_count, weight_count, entry_weight}
 use Rattle.net.specs.Check.{shape_fault}
-use Rattle.net.specs.declared.PlaceCapacity.{PlaceCapacity}
-use Rattle.net.specs.declared.PlaceCapacity.TheVariants.{Unlimited, AtMost}
 
--- a capacity as an answer; no capacity is a case of its own
+-- a capacity as an answer; no capacity is a case of its own. As a plain number it is 1 more, or 0 (`plain_index`, §8.4)
+abbrev pub PlaceCapacity : Type 0
+PlaceCapacity = prelude.Option ℕ
+
 abbrev pub capacity_told : Option ℕ → PlaceCapacity
-capacity_told none = Unlimited
-capacity_told (some c) = AtMost c
-
--- a capacity as a plain number: 1 more than it is, or 0 if there is none (§8.4)
-abbrev pub plain_capacity : PlaceCapacity → ℕ
-plain_capacity Unlimited = 0
-plain_capacity (AtMost c) = c + 1
+capacity_told none = None
+capacity_told (some c) = Some c
 
 -- the capacity that a word of a row gives: 0 is none, since no capacity is 0
 abbrev pub capacity_of_word : ℕ → PlaceCapacity
-capacity_of_word zero = Unlimited
-capacity_of_word (suc c) = AtMost (suc c)
+capacity_of_word zero = None
+capacity_of_word (suc c) = Some (suc c)
 
 -- a count is within the capacity that such a word gives
 unfoldable pub word_allows : ℕ → ℕ → Bool
@@ -37,8 +32,8 @@ module _ (net : List ℕ) where
   shaped = not (found (shape_fault net))
 
   abbrev pub weight_found : Found → ℕ
-  weight_found (At i) = entry_weight net i
-  weight_found Nothing = 0
+  weight_found (Some i) = entry_weight net i
+  weight_found None = 0
 
   unfoldable pub weight_reply : ℕ → ℕ
   weight_reply key = weight_found (look_up net 3 (weight_count net) key)

@@ -1,4 +1,5 @@
 -- The check of a net as a computation: for each clause of `net_checks` a test that it fails, and what these tests find.
+use Rattle.refusal.specs.Refusal.{Verdict}
 use Rattle.std.specs.Prelude.{ℕ, ◌+◌, ◌*◌, ◌≡◌, List, [], ◌∷◌, Bool, true, not, ◌&&◌, ◌||◌, length, take, ltb, leb, eqb}
 use Rattle.std.proofs.Math.Option.{Option, none, some}
 use Rattle.table.specs.Keys.{key_fails}
@@ -6,7 +7,6 @@ use Rattle.refusal.specs.Limits.{most_places, most_transitions, most_count}
 use Rattle.refusal.specs.Verdict.{verdict_of}
 use Rattle.refusal.specs.Finding.{Tests, asked, line_finds, finding}
 use Rattle.refusal.specs.declared.Refusal.{Refusal}
-use Rattle.refusal.specs.declared.Verdict.{Verdict}
 use Rattle.net.specs.Net.{key_count, place_count, transition_count, weight_count, entry_weight, net_key_limit, start, capacity, has_source}
 use Rattle.net.specs.Checks.{net_checks}
 

@@ -1,4 +1,5 @@
 -- The checks of a net in their order, each with its clause and its number.
+use Rattle.refusal.specs.declared.Reason.TheVariants.{NetLength, NetOrder, NetSize, NetWeight, NoSource, StartOverCapacity}
 use Rattle.std.specs.Prelude.{ℕ, ◌+◌, ◌*◌, ◌≤◌, ◌<◌, ◌≡◌, List, [], ◌∷◌, length}
 use Rattle.table.specs.Table.{KeyPasses}
 use Rattle.refusal.specs.Limits.{most_places, most_transitions, most_count}
@@ -26,12 +27,12 @@ HasSource net = (t : ℕ) × (t < transition_count net) × ((p : ℕ) → p < pl
 -- in the order of §7.55; a number is that of its clause, §7.1 to §7.5 and §7.26, and positions are those of §7.53
 abbrev pub net_checks : List ℕ → List Check
 net_checks net =
-    once (3 ≤ length net) 1
-    ∷ once (NetSizesPass net) 2
-    ∷ once (length net ≡ 3 + 2 * weight_count net) 1
-    ∷ each (weight_count net) Entry (KeyPasses net 3 (net_key_limit net) else 3 ∷ WeightPasses net else 4 ∷ [])
-    ∷ each (place_count net) Place ((λ p. Within (capacity net p) (start net p)) else 26 ∷ [])
-    ∷ once (HasSource net) 5
+    once (3 ≤ length net) NetLength
+    ∷ once (NetSizesPass net) NetSize
+    ∷ once (length net ≡ 3 + 2 * weight_count net) NetLength
+    ∷ each (weight_count net) Entry (KeyPasses net 3 (net_key_limit net) else NetOrder ∷ WeightPasses net else NetWeight ∷ [])
+    ∷ each (place_count net) Place ((λ p. Within (capacity net p) (start net p)) else StartOverCapacity ∷ [])
+    ∷ once (HasSource net) NoSource
     ∷ []
 
 -- the words are right: §2.1 to §2.4, §2.9, §2.11

@@ -4,42 +4,39 @@ ghost use Rattle.std.proofs.Math.Option.{none};
 ghost use Rattle.scan.specs.Scan.{first};
 ghost use Rattle.refusal.specs.Verdict.{verdict_of};
 ghost use Rattle.net.specs.Net.{place_count};
-ghost use Rattle.net.specs.Known.{Known, EntriesPass};
+ghost use Rattle.net.specs.Known.{EntriesPass};
 ghost use Rattle.net.specs.Check.{overfull_fault};
 
+use super::shaped::Shaped;
 use super::weights;
-use refusal::{Position, Refusal, Verdict};
+use refusal::{Position, Reason, Verdict};
 
 // Whether no key lies in the row of capacities, which is the last.
-fn unlimited(net: &[u32]) -> bool
-    requires known { Known net.now }
-    requires entries_pass { EntriesPass net.now }
-    ensures { result ≡ true → first (overfull_fault net.now) (place_count net.now) ≡ none }
+fn unlimited(net: Shaped<'_>) -> bool
+    requires { EntriesPass net.words.now }
+    ensures { result ≡ true → first (overfull_fault net.entry.words.now) (place_count net.entry.words.now) ≡ none }
 {
-    let entries = net[2] as usize;
-    let key = (2 * net[1] + 1) * net[0];
-    entries <= table::lower_bound(net, 3, entries, key)
+    let entries = net.words[2] as usize;
+    let key = (2 * net.words[1] + 1) * net.words[0];
+    entries <= table::lower_bound(net.words, 3, entries, key)
 }
 
 // Most nets have no capacities: then no row is read.
-pub(crate) fn overfull_fault(net: &[u32]) -> Verdict
-    requires known { Known net.now }
-    requires entries_pass { EntriesPass net.now }
-    ensures { result ≡ verdict_of (first (overfull_fault net.now) (place_count net.now)) }
+pub(crate) fn overfull_fault(net: Shaped<'_>) -> Verdict
+    requires { EntriesPass net.words.now }
+    ensures { result ≡ verdict_of (first (overfull_fault net.entry.words.now) (place_count net.entry.words.now)) }
 {
     if unlimited(net) {
-        return Verdict::Accepted;
+        return Ok(());
     }
-    let places = net[0] as usize;
-    let transitions = net[1] as usize;
-    let starts = weights::row_or_zeros(net, true, 2 * transitions);
-    let capacities = weights::row_or_zeros(net, true, 2 * transitions + 1);
-    let mut p = 0;
-    while p < places {
+    let places = net.words[0] as usize;
+    let transitions = net.words[1] as usize;
+    let starts = weights::row_or_zeros(net.words, true, 2 * transitions);
+    let capacities = weights::row_or_zeros(net.words, true, 2 * transitions + 1);
+    for p in 0..places {
         if !super::allows(capacities[p], starts[p]) {
-            return refusal::refuse(Refusal::START_OVER_CAPACITY, Position::Place(p));
+            return refusal::refuse(Reason::StartOverCapacity, Position::Place(p));
         }
-        p += 1;
     }
-    Verdict::Accepted
+    Ok(())
 }

@@ -1,26 +1,23 @@
 // The weight at a place of a row of keys, and the weights of a row at once.
 ghost use Rattle.std.specs.Prelude.{true, ◌≡◌, ◌+◌, ◌*◌, ◌≤◌};
 ghost use Rattle.net.specs.Net.{transition_count};
-ghost use Rattle.net.specs.Known.{Known};
 ghost use Rattle.net.specs.Accessors.{row_reply, row_weights, weight_or_zero, row_or_zeros};
 
-use super::word_check;
-use refusal::Verdict;
+use super::shaped::Shaped;
 
 // The weight that bisection finds at place p of a row of keys, or 0 (§2.8).
-fn weight_in_row(net: &[u32], row: usize, p: u32) -> u32
-    requires known { Known net.now }
-    requires row_bound { row ≤ 65 }
-    ensures { result ≡ row_reply net.now row p }
+fn weight_in_row(net: Shaped<'_>, row: usize, p: u32) -> u32
+    requires { row ≤ 65 }
+    ensures { result ≡ row_reply net.entry.words.now row p }
 {
-    let places = net[0];
+    let places = net.words[0];
     if places <= p {
         return 0;
     }
-    let entries = net[2] as usize;
-    match table::find(net, 3, entries, row as u32 * places + p) {
-        table::Found::At(i) => net[3 + entries + i],
-        table::Found::Nothing => 0,
+    let entries = net.words[2] as usize;
+    match table::find(net.words, 3, entries, row as u32 * places + p) {
+        Some(i) => net.words[3 + entries + i],
+        None => 0,
     }
 }
 
@@ -32,23 +29,22 @@ pub(crate) fn weight_or_zero(net: &[u32], known: bool, row: usize, p: u32) -> u3
     if !known {
         return 0;
     }
-    if let Verdict::Refused(_) = word_check::shape_fault(net) {
-        return 0;
+    match Shaped::read(net) {
+        Ok(net) => weight_in_row(net, row, p),
+        Err(_) => 0,
     }
-    weight_in_row(net, row, p)
 }
 
 // The weights of a row of keys, place by place, 0 from P on.
-fn weights_in_row(net: &[u32], row: usize) -> [u32; 32]
-    requires known { Known net.now }
-    requires row_bound { row ≤ 65 }
-    ensures { result ≡ row_weights net.now row }
+fn weights_in_row(net: Shaped<'_>, row: usize) -> [u32; 32]
+    requires { row ≤ 65 }
+    ensures { result ≡ row_weights net.entry.words.now row }
 {
-    let places = net[0];
+    let places = net.words[0];
     table::value_row(
-        net,
+        net.words,
         3,
-        net[2] as usize,
+        net.words[2] as usize,
         row as u32 * places,
         places as usize,
     )
@@ -62,8 +58,8 @@ pub(crate) fn row_or_zeros(net: &[u32], known: bool, row: usize) -> [u32; 32]
     if !known {
         return [0; 32];
     }
-    if let Verdict::Refused(_) = word_check::shape_fault(net) {
-        return [0; 32];
+    match Shaped::read(net) {
+        Ok(net) => weights_in_row(net, row),
+        Err(_) => [0; 32],
     }
-    weights_in_row(net, row)
 }

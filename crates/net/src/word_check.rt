@@ -2,13 +2,14 @@
 ghost use Rattle.std.specs.Prelude.{◌≡◌, ◌≤◌};
 ghost use Rattle.scan.specs.Scan.{first};
 ghost use Rattle.net.specs.Net.{key_count, weight_count};
-ghost use Rattle.net.specs.Known.{Known, EntryAt};
+ghost use Rattle.net.specs.Known.{EntryAt};
 ghost use Rattle.net.specs.Check.{sizes_pass, shape_fault, weight_fails, entry_fault};
 ghost use Rattle.refusal.specs.Limits.{most_places, most_transitions};
 ghost use Rattle.refusal.specs.Verdict.{verdict_of};
 
+use super::shaped::Shaped;
 use super::word_pass;
-use refusal::{Limits, Position, Refusal, Verdict};
+use refusal::{Limits, Position, Reason, Verdict};
 
 // How many different keys there can be. K is at most this number (§2.2), and every key is below it (§2.3).
 fn key_count(places: u32, transitions: u32) -> u32
@@ -43,16 +44,16 @@ pub(crate) fn shape_fault(net: &[u32]) -> Verdict
     ensures { result ≡ verdict_of (shape_fault net.now) }
 {
     if net.len() < 3 {
-        return refusal::refuse(Refusal::NET_LENGTH, Position::Nothing);
+        return refusal::refuse(Reason::NetLength, Position::Nothing);
     }
     let entries = net[2];
     if !sizes_pass(net[0], net[1], entries) {
-        return refusal::refuse(Refusal::NET_SIZE, Position::Nothing);
+        return refusal::refuse(Reason::NetSize, Position::Nothing);
     }
     if net.len() != 3 + 2 * (entries as usize) {
-        return refusal::refuse(Refusal::NET_LENGTH, Position::Nothing);
+        return refusal::refuse(Reason::NetLength, Position::Nothing);
     }
-    Verdict::Accepted
+    Ok(())
 }
 
 // Whether a weight breaks §2.4.
@@ -71,31 +72,25 @@ fn entry_fault(net: &[u32], entries: usize, limit: u32, i: usize) -> Verdict
     ensures { result ≡ verdict_of (entry_fault net.now i) }
 {
     if table::key_fails(net, 3, limit, i) {
-        return refusal::refuse(Refusal::NET_ORDER, Position::Entry(i));
+        return refusal::refuse(Reason::NetOrder, Position::Entry(i));
     }
     if weight_fails(net[3 + entries + i]) {
-        return refusal::refuse(Refusal::NET_WEIGHT, Position::Entry(i));
+        return refusal::refuse(Reason::NetWeight, Position::Entry(i));
     }
-    Verdict::Accepted
+    Ok(())
 }
 
 // Refusals 3 and 4: one quick test of all entries, and only if that fails entry by entry.
-pub(crate) fn entries_fault(net: &[u32]) -> Verdict
-    requires { Known net.now }
-    ensures { result ≡ verdict_of (first (entry_fault net.now) (weight_count net.now)) }
+pub(crate) fn entries_fault(net: Shaped<'_>) -> Verdict
+    ensures { result ≡ verdict_of (first (entry_fault net.entry.words.now) (weight_count net.entry.words.now)) }
 {
-    let limit = key_count(net[0], net[1]);
+    let limit = key_count(net.words[0], net.words[1]);
     if word_pass::entries_pass(net, limit) {
-        return Verdict::Accepted;
+        return Ok(());
     }
-    let entries = net[2] as usize;
-    let mut i = 0;
-    while i < entries {
-        let found = entry_fault(net, entries, limit, i);
-        if let Verdict::Refused(_) = found {
-            return found;
-        }
-        i += 1;
+    let entries = net.words[2] as usize;
+    for i in 0..entries {
+        entry_fault(net.words, entries, limit, i)?;
     }
-    Verdict::Accepted
+    Ok(())
 }

@@ -1,26 +1,55 @@
 -- Numbers written as bytes, and read from them again.
-use Rattle.scan.proofs.Basics.{ℕ, zero, suc, ◌+◌, ◌*◌, ◌/◌, ◌%◌, ◌≤◌, ◌<◌, arith, ◌≡◌, refl, sym, ap, ◌∙◌, List, length, get_or, set}
-use Prim.Native.Nat.{◌^◌, min}
+use Rattle.scan.proofs.Basics.{ℕ, zero, suc, ◌+◌, ◌*◌, ◌/◌, ◌%◌, ◌≤◌, ◌<◌, arith, ◌≡◌, refl, sym, ap, ◌∙◌, List, [], ◌∷◌, ◌++◌, length, get_or, take, drop, add-one}
+use Prim.Native.Nat.{◌^◌}
 use native.Mathlib.Nat.{div-div-eq-div-mul, div-one, div-eq_of_lt, mod-eq_of_lt, mul-add-div, mul-add-mod_self_left, add-zero, mul-suc, mul-le-mul_left}
 use native.Mathlib.Omega.{pow_step}
-use lib.Pow.{pow-add}
-use lib.Seq.{ext_get_or, take_all, set_out}
-use Rattle.scan.proofs.Tests.{by_less}
+use Rattle.std.proofs.Common.{drop-drop, append-nil, append_assoc}
+use lib.ListN.{take-append-drop}
+use lib.Seq.{ext_get_or, sets-eq, length-take-le}
+use borrow.Rule.Slice.PartMut.{put_mid}
+use Rattle.std.specs.Int.{w32, w64, to_le_bytes}
 use Rattle.scan.specs.Scan.{tabulate}
 use Rattle.scan.specs.Placed.{placed}
-use Rattle.scan.proofs.Placed.{placed-front, row-full}
-use Rattle.scan.proofs.Tabulate.{tabulate-length, tabulate-at, take-tabulate}
+use Rattle.scan.proofs.Placed.{placed-front, placed-append, placed_past, placed-length}
+use Rattle.scan.proofs.Tabulate.{tabulate-length, tabulate-at, tabulate-ext}
 use Rattle.octets.specs.Words.{word_from, all_words}
-use Rattle.octets.specs.Writing.{word_put}
 use Rattle.octets.specs.Bytes.{byte_of, byte_at, bytes_of, bytes_over, number_from, number_at}
-use Rattle.octets.proofs.Decoding.{words_count, word-there, front-more}
+use Rattle.octets.proofs.Decoding.{words_count, word-there}
 
--- ---- the loops that write
+-- ---- bytes put at an index
 
--- a shift by so many bytes
-pub shift-bytes : (j : ℕ) → 2 ^ (8 * j) ≡ 256 ^ j
-shift-bytes zero = refl
-shift-bytes (suc j) = let q : 8 * suc j ≡ 8 + 8 * j = omega arith in rw (q, pow-add 2 8 (8 * j), shift-bytes j, pow_step 256 j) refl
+-- where all have room
+pub placed-mid : (k at : ℕ) (out xs : List ℕ) → k ≡ length xs → at + k ≤ length out → put_mid at k out xs ≡ placed out at xs
+unfolding placed
+placed-mid k at out xs e l =
+    rw (e, drop-drop (length xs) at out) (sym (sets-eq xs out at (omega arith) ∙ append_assoc (take at out) xs (drop (at + length xs) out)))
+
+-- or only the first of them
+pub placed-cut : (k at : ℕ) (out xs : List ℕ) → at + k ≡ length out → k < length xs → put_mid at k out (take k xs) ≡ placed out at xs
+placed-cut k at out xs e l =
+    let w : length (take k xs) ≡ k = length-take-le k xs (omega arith) in
+    placed-mid k at out (take k xs) (sym w) (omega arith)
+    ∙ sym (placed_past (drop k xs) (placed out at (take k xs)) (at + length (take k xs)) (rw (placed-length (take k xs) out at) (omega arith)))
+    ∙ placed-append (take k xs) (drop k xs) out at
+    ∙ ap (placed out at) (take-append-drop k xs)
+
+-- ---- the bytes of a number
+
+pub word-bytes : (x : ℕ) → to_le_bytes w32 x ≡ tabulate (byte_of x) 4
+unfolding tabulate byte_of
+word-bytes x = rw (div-one x) refl
+
+pub number-bytes : (x : ℕ) → to_le_bytes w64 x ≡ tabulate (byte_of x) 8
+unfolding tabulate byte_of
+number-bytes x = rw (div-one x) refl
+
+-- a table in two parts
+tabulate-parts : (f : ℕ → ℕ) (n m : ℕ) → tabulate f n ++ tabulate (λ j. f (n + j)) m ≡ tabulate f (n + m)
+unfolding tabulate
+tabulate-parts f n zero = append-nil (tabulate f n) ∙ rw (add-zero n) refl
+tabulate-parts f n (suc m) =
+    let q : n + suc m ≡ suc (n + m) = omega arith in
+    sym (append_assoc (tabulate f n) (tabulate (λ j. f (n + j)) m) (f (n + m) ∷ [])) ∙ rw (q, tabulate-parts f n m) refl
 
 module _ (width : ℕ) (numbers : List ℕ) where
   pub bytes-length : length (bytes_of width numbers) ≡ width * length numbers
@@ -31,50 +60,24 @@ module _ (width : ℕ) (numbers : List ℕ) where
   unfolding bytes_of
   byte-there i l = tabulate-at (byte_at width numbers) 0 (width * length numbers) i l
 
-  -- a loop that met the end of the numbers or of the buffer
-  pub bytes-placed : (out : List ℕ) (i : ℕ) → i ≡ min (width * length numbers) (length out)
-      → placed out 0 (tabulate (byte_at width numbers) i) ≡ placed out 0 (bytes_of width numbers)
-  unfolding bytes_of
-  bytes-placed out i e =
-      by_less (length out) (width * length numbers)
-      (λ l. let q = take-tabulate (byte_at width numbers) i (width * length numbers) (omega arith) in
-      let k = bytes-length in
-      rw (← q) (row-full (bytes_of width numbers) out i (width * length numbers) (omega arith) (omega arith) (omega arith)
-      ∙ ap (placed out 0) (take_all (width * length numbers) (bytes_of width numbers) (omega arith))))
-      (λ l. let q : i ≡ width * length numbers = omega arith in rw q)
+  -- one number more
+  pub number_more : (i : ℕ) (out : List ℕ)
+      → placed (placed out 0 (tabulate (byte_at width numbers) (width * i))) (width * i) (tabulate (byte_of (get_or numbers i 0)) width)
+      ≡ placed out 0 (tabulate (byte_at width numbers) (width * (i + 1)))
+  unfolding byte_at
+  number_more i out =
+      let f = byte_at width numbers in
+      let l : 0 + length (tabulate f (width * i)) ≡ width * i = omega (arith, tabulate-length f (width * i)) in
+      let e : width * i + width ≡ width * (i + 1) = rw add-one (sym (mul-suc width i)) in
+      rw l at (placed-append (tabulate f (width * i)) (tabulate (byte_of (get_or numbers i 0)) width) out 0)
+      ∙ ap (placed out 0) (ap (λ (xs : List ℕ). tabulate f (width * i) ++ xs) (tabulate-ext (byte_of (get_or numbers i 0)) (λ j. f (width * i + j)) width (λ j k.
+      let q : (width * i + j) / width ≡ i = mul-add-div (omega arith) i j ∙ rw (div-eq_of_lt k) (add-zero i) in
+      let r : (width * i + j) % width ≡ j = mul-add-mod_self_left width i j ∙ mod-eq_of_lt k in
+      rw (q, r))) ∙ tabulate-parts f (width * i) width ∙ rw e refl)
 
   pub bytes-over : (out : List ℕ) → width * length numbers ≤ length out → placed out 0 (bytes_of width numbers) ≡ bytes_over width numbers out
   unfolding bytes_over
   bytes-over out l = placed-front (bytes_of width numbers) out (rw bytes-length l) ∙ rw bytes-length
-
--- byte j of word i more
-byte_more : (words out : List ℕ) (i j : ℕ) → j < 4
-    → set (placed out 0 (tabulate (byte_at 4 words) (4 * i + j))) (4 * i + j) (byte_of (get_or words i 0) j) ≡ placed out 0 (tabulate (byte_at 4 words) (4 * i + (j + 1)))
-unfolding byte_at
-byte_more words out i j l =
-    let q : (4 * i + j) / 4 ≡ i = omega arith in
-    let r : (4 * i + j) % 4 ≡ j = omega arith in
-    let e : 4 * i + j + 1 ≡ 4 * i + (j + 1) = omega arith in
-    rw (q, r, e) at (front-more (byte_at 4 words) (4 * i + j) out)
-
--- all four of them
-pub word_more : (words out : List ℕ) (i : ℕ) → word_put (placed out 0 (tabulate (byte_at 4 words) (4 * i))) (4 * i) (get_or words i 0) ≡ placed out 0 (tabulate (byte_at 4 words) (4 * (i + 1)))
-word_more words out i =
-    let x = get_or words i 0 in
-    let e : 4 * i + 4 ≡ 4 * (i + 1) = omega arith in
-    ap (λ (o : List ℕ). set (set (set o (4 * i + 1) (byte_of x 1)) (4 * i + 2) (byte_of x 2)) (4 * i + 3) (byte_of x 3)) (rw (add-zero (4 * i)) at (byte_more words out i 0 (omega arith)))
-    ∙ ap (λ (o : List ℕ). set (set o (4 * i + 2) (byte_of x 2)) (4 * i + 3) (byte_of x 3)) (byte_more words out i 1 (omega arith))
-    ∙ ap (λ (o : List ℕ). set o (4 * i + 3) (byte_of x 3)) (byte_more words out i 2 (omega arith))
-    ∙ byte_more words out i 3 (omega arith)
-    ∙ rw e refl
-
--- past the end nothing is put
-pub word_out : (out : List ℕ) (at x : ℕ) → length out ≤ at → out ≡ word_put out at x
-word_out out at x l =
-    sym (ap (λ (o : List ℕ). set (set (set o (at + 1) (byte_of x 1)) (at + 2) (byte_of x 2)) (at + 3) (byte_of x 3)) (set_out out at (byte_of x 0) l)
-    ∙ ap (λ (o : List ℕ). set (set o (at + 2) (byte_of x 2)) (at + 3) (byte_of x 3)) (set_out out (at + 1) (byte_of x 1) (omega arith))
-    ∙ ap (λ (o : List ℕ). set o (at + 3) (byte_of x 3)) (set_out out (at + 2) (byte_of x 2) (omega arith))
-    ∙ set_out out (at + 3) (byte_of x 3) (omega arith))
 
 -- ---- read again
 

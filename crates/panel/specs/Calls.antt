@@ -1,17 +1,14 @@
 -- The calls for the small panel (§10.20): each is the other call under the panel's limit of scratch.
+use Rattle.replay.specs.Plain.{ReplayAnswer}
+use Rattle.schedule.specs.Plain.{FireAnswer, RunAnswer}
+use Rattle.judge.specs.Answer.{CheckAnswer}
+use Rattle.refusal.specs.Refusal.{Verdict}
 use Rattle.std.specs.Prelude.{ℕ, List}
-use Rattle.refusal.specs.declared.Verdict.{Verdict}
-use Rattle.judge.specs.declared.CheckAnswer.{CheckAnswer}
 use Rattle.schedule.specs.Calls.{CheckWithinDone, BoundsWithinDone, FireWithinDone, RunWithinDone}
 use Rattle.schedule.specs.declared.Walker.{Walker}
-use Rattle.schedule.specs.declared.FireAnswer.{FireAnswer}
-use Rattle.schedule.specs.declared.RunAnswer.{RunAnswer}
 use Rattle.replay.specs.Calls.{ReplayWithinDone}
-use Rattle.replay.specs.declared.ReplayAnswer.{ReplayAnswer}
-use Rattle.minimal.specs.Form.{FormWithinDone}
-use Rattle.minimal.specs.declared.FormAnswer.{FormAnswer}
-use Rattle.mended.specs.Call.{MendWithinDone}
-use Rattle.mended.specs.declared.MendAnswer.{MendAnswer}
+use Rattle.minimal.specs.Form.{FormWithinDone, FormAnswer}
+use Rattle.mended.specs.Call.{MendWithinDone, MendAnswer}
 
 -- how many words of scratch a call of the panel needs: §1.12
 abbrev pub panel_limit : ℕ

@@ -1,11 +1,11 @@
+-- chains over numbers
+pub mod Ranges
 -- numbers with a sign, and room
 pub mod Signed
 pub mod Room
 -- what the tables and the grid tell, cell by cell
 pub mod Told
-pub mod Choosing
-pub mod Fired
-pub mod CellFaults
+pub mod Landing
 -- scans over the arcs, and marks at the nodes
 pub mod Keys
 pub mod MarkLaws

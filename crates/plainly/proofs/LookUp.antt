@@ -1,19 +1,17 @@
 -- The cells of the tables by transition and place, and those of the grid by their keys.
-use Rattle.scan.proofs.Basics.{ℕ, ◌+◌, ◌*◌, ◌-◌, ◌/◌, ◌%◌, ◌≤◌, ◌<◌, arith, ◌≡◌, refl, sym, ◌∙◌, ltb, Option, none, some, option_map, List, get_or}
+use Rattle.std.specs.Prelude.{None, Some}
+use Rattle.scan.proofs.Basics.{ℕ, ◌+◌, ◌*◌, ◌-◌, ◌/◌, ◌%◌, ◌≤◌, ◌<◌, arith, ◌≡◌, refl, sym, ◌∙◌, ◌⊎◌, inl, inr, ltb, Option, none, some, option_map, List, get_or}
 use mathlib.Core.Bool.{and-false}
 use lib.IntN.{pos, ◌-ℤ◌}
 use Rattle.scan.specs.Scan.{found_or}
-use Rattle.scan.proofs.Tests.{lt-ltb, le-ltb, by_less}
+use Rattle.scan.proofs.Tests.{lt-ltb, le-ltb}
 use Rattle.refusal.specs.Limits.{most_count}
-use Rattle.table.specs.Bisection.{look_up, found_of}
-use Rattle.table.specs.declared.Found.{Found}
-use Rattle.table.specs.declared.Found.TheVariants.{At, Nothing}
+use Rattle.table.specs.Bisection.{look_up, found_of, Found}
 use Rattle.table.proofs.Bisection.{look_up_lem}
 use Rattle.table.proofs.Table.{entry-some}
 use Rattle.net.specs.Net.{place_count, transition_count, taken, put}
 use Rattle.sequential.specs.Petri.{PetriNet, petri_net}
-use Rattle.sequential.specs.Words.{node_count, entry_count, entry_key, entry_value, entry_with_key, arc_keys, arc_entry, arc, count_at}
-use Rattle.sequential.proofs.Words.{words-rise, words-fit}
+use Rattle.sequential.specs.Words.{node_count, entry_count, entry_value, entry_with_key, arc_keys, arc_entry, arc, count_at}
 use Rattle.sequential.proofs.Entries.{row-div, row-mod}
 use Rattle.graph.specs.Readable.{Readable}
 use Rattle.plainly.specs.declared.Spread.{Spread}
@@ -30,11 +28,11 @@ module _ {net : List ℕ} {s : Spread} (h : NetSpread net s) (t p : ℕ) (l : t 
 
 -- ---- a value by its key
 
-found_at : (o : Option ℕ) (i : ℕ) → found_of o ≡ At i → o ≡ some i
+found_at : (o : Option ℕ) (i : ℕ) → found_of o ≡ Some i → o ≡ some i
 found_at none i e = cc
 found_at (some j) i e = cc
 
-found-no : (o : Option ℕ) → found_of o ≡ Nothing → o ≡ none
+found-no : (o : Option ℕ) → found_of o ≡ None → o ≡ none
 found-no none e = refl
 found-no (some j) e = cc
 
@@ -43,15 +41,15 @@ module _ (sheet : List ℕ) (z : Keyed sheet) (key : ℕ) {f : Found} (e : f ≡
   unfolding entry_with_key
   entry_of = e ∙ look_up_lem sheet 2 (entry_count sheet) key z.rise z.fit
 
-  pub value-small : (i : ℕ) → f ≡ At i → entry_value sheet i ≤ most_count
+  pub value-small : (i : ℕ) → f ≡ Some i → entry_value sheet i ≤ most_count
   unfolding entry_with_key
   value-small i h = let (l, k) = entry-some sheet 2 (entry_count sheet) key i (found_at _ i (sym entry_of ∙ h)) in z.values i l
 
-  pub value_found : (more i : ℕ) → f ≡ At i → {v : ℕ} → v ≡ entry_value sheet i → v + more ≡ value_of sheet more key
+  pub value_found : (more i : ℕ) → f ≡ Some i → {v : ℕ} → v ≡ entry_value sheet i → v + more ≡ value_of sheet more key
   unfolding value_of value_more
   value_found more i h q = rw (found_at (entry_with_key sheet key) i (sym entry_of ∙ h), q)
 
-  pub value-absent : (more : ℕ) → f ≡ Nothing → 0 ≡ value_of sheet more key
+  pub value-absent : (more : ℕ) → f ≡ None → 0 ≡ value_of sheet more key
   unfolding value_of
   value-absent more h = rw (found-no (entry_with_key sheet key) (sym entry_of ∙ h))
 
@@ -61,22 +59,11 @@ module _ {net sheet : List ℕ} (r : Readable net sheet) where
   abbrev N : PetriNet
   N = petri_net net
 
-  pub keyed : Keyed sheet
-  keyed = record {
-    head = omega (arith, r.arcs.sizes.long);
-    rise = words-rise N sheet r.arcs.holds;
-    fit = words-fit N sheet r.arcs.holds;
-    values = λ i l. by_less (entry_key sheet i) (arc_keys N sheet) (λ k. omega (arith, (r.values i l).target k, r.arcs.sizes.few_nodes)) (λ k. (r.values i l).most k);
-  }
-
   module _ (n t : ℕ) where
-    pub arc-no-node : node_count sheet ≤ n → 0 ≡ arc_code (arc N sheet n t)
+    pub arc-none : ((n < node_count sheet) × (transition_count net ≤ t)) ⊎ (node_count sheet ≤ n) → 0 ≡ arc_code (arc N sheet n t)
     unfolding arc arc_entry
-    arc-no-node l = rw (le-ltb n (node_count sheet) l)
-
-    pub arc-no-transition : transition_count net ≤ t → 0 ≡ arc_code (arc N sheet n t)
-    unfolding arc arc_entry
-    arc-no-transition l = rw (le-ltb t (transition_count net) l, and-false (ltb n (node_count sheet)))
+    arc-none (inr l) = rw (le-ltb n (node_count sheet) l)
+    arc-none (inl (k, l)) = rw (le-ltb t (transition_count net) l, and-false (ltb n (node_count sheet)))
 
     code_of : (o : Option ℕ) → found_or 0 (value_more sheet 1) o ≡ arc_code (option_map (entry_value sheet) o)
     unfolding value_more
@@ -88,13 +75,10 @@ module _ {net sheet : List ℕ} (r : Readable net sheet) where
     arc_value l k = rw (lt-ltb n (node_count sheet) l, lt-ltb t (transition_count net) k) (code_of (entry_with_key sheet (n * transition_count net + t)))
 
   module _ (n p : ℕ) where
-    pub count-no-node : node_count sheet ≤ n → 0 ≡ count_at N sheet n p
+    pub count-none : ((n < node_count sheet) × (place_count net ≤ p)) ⊎ (node_count sheet ≤ n) → 0 ≡ count_at N sheet n p
     unfolding count_at
-    count-no-node l = rw (le-ltb n (node_count sheet) l)
-
-    pub count-no-place : place_count net ≤ p → 0 ≡ count_at N sheet n p
-    unfolding count_at
-    count-no-place l = rw (le-ltb p (place_count net) l, and-false (ltb n (node_count sheet)))
+    count-none (inr l) = rw (le-ltb n (node_count sheet) l)
+    count-none (inl (k, l)) = rw (le-ltb p (place_count net) l, and-false (ltb n (node_count sheet)))
 
     no_more : (o : Option ℕ) → found_or 0 (value_more sheet 0) o ≡ found_or 0 (entry_value sheet) o
     unfolding value_more

@@ -1,27 +1,13 @@
--- The difference of two unsigned numbers that fit the lower half of a width: it fits, and is what the machine gives. A table that is filled in order.
-use Rattle.scan.proofs.Basics.{ℕ, zero, suc, ◌+◌, ◌-◌, ◌≤◌, ◌<◌, arith, ◌≡◌, refl, sym, ap, ◌∙◌, ◌↔◌, true, false, eqb, List, length, get_or, set, ltb, get_or-set_same, get_or-set_other}
-use Prim.Native.Nat.{◌^◌}
-use lib.IntN.{ℤ, pos, negsuc, sub_ℕ, ◌+ℤ◌, ◌-ℤ◌}
+-- The difference of two unsigned numbers, with its sign, and sums with it. A table that is filled in order.
+use Rattle.scan.proofs.Basics.{ℕ, zero, suc, ◌+◌, ◌-◌, ◌≤◌, ◌<◌, arith, ◌≡◌, ap, ◌∙◌, ◌↔◌, List, length, get_or, set, ltb, get_or-set_same, get_or-set_other}
+use lib.IntN.{pos, negsuc, sub_ℕ, ◌+ℤ◌, ◌-ℤ◌}
 use lib.Signed.{mag}
-use mir.Val.{SFits, hbits, to_z, of_z}
-use mir.Syntax.{Width}
-use mir.ValLaws.{to_z_pos, to_z-of_z}
-use Rattle.scan.proofs.Tests.{by_test, by_equal, ltb-true, ltb-false, eqb-true, eq-eqb, true-false}
-use Rattle.plainly.specs.Cells.{is_number}
+use Rattle.scan.proofs.Tests.{by_test, by_equal, ltb-true, ltb-false}
 
 pub difference-small : (a b m : ℕ) → a < m → b < m → mag (pos a -ℤ pos b) < m
 difference-small a zero m l k = omega arith
 difference-small a (suc b) m l k =
     by_test (ltb a (suc b)) (λ e. let h = ltb-true a (suc b) e in rw e (omega arith)) (λ e. let h = ltb-false a (suc b) e in rw e (omega arith))
-
-module _ (w : Width) (a b : ℕ) (l : a < 2 ^ hbits w) (k : b < 2 ^ hbits w) where
-  -- the need of the subtraction
-  pub difference-fits : SFits w (to_z w a -ℤ to_z w b)
-  difference-fits = rw (to_z_pos w a l, to_z_pos w b k) (record { sfits = difference-small a b (2 ^ hbits w) l k })
-
-  -- what it gives
-  pub difference-is : to_z w (of_z w (to_z w a -ℤ to_z w b)) ≡ pos a -ℤ pos b
-  difference-is = to_z-of_z w (to_z w a -ℤ to_z w b) difference-fits ∙ rw (to_z_pos w a l, to_z_pos w b k)
 
 -- one more value of f
 module _ {A : Type 0} where
@@ -33,31 +19,6 @@ module _ {A : Type 0} where
       less : (j ≡ i → ⊥) → j < i
       less q = omega arith
 
--- ---- sums
-
-sum-small : (a : ℕ) (z : ℤ) (m : ℕ) → a + mag z < m → mag (pos a +ℤ z) < m
-sum-small a (pos b) m l = l
-sum-small a (negsuc b) m l =
-    by_test (ltb a (suc b)) (λ e. let h = ltb-true a (suc b) e in rw e (omega arith)) (λ e. let h = ltb-false a (suc b) e in rw e (omega arith))
-
-module _ (w : Width) (a : ℕ) (z : ℤ) (l : a + mag z < 2 ^ hbits w) where
-  pub sum-operands : to_z w a +ℤ to_z w (of_z w z) ≡ pos a +ℤ z
-  sum-operands = rw (to_z_pos w a (omega arith), to_z-of_z w z (record { sfits = omega arith }))
-
-  -- the need of the addition of a signed value
-  pub sum_fits : SFits w (to_z w a +ℤ to_z w (of_z w z))
-  sum_fits = rw sum-operands (record { sfits = sum-small a z (2 ^ hbits w) l })
-
-  -- what a comparison of its bits with an unsigned number tells
-  pub sum-equal : (n : ℕ) → n < 2 ^ hbits w → (eqb (of_z w (to_z w a +ℤ to_z w (of_z w z))) n ≡ true) ↔ (pos a +ℤ z ≡ pos n)
-  sum-equal n k = (
-    λ e. sym (to_z-of_z w (pos a +ℤ z) small) ∙ ap (to_z w) (ap (of_z w) (sym sum-operands) ∙ eqb-true _ n e) ∙ to_z_pos w n k,
-    λ e. eq-eqb _ n (ap (of_z w) (sum-operands ∙ e)),
-  )
-    where
-      small : SFits w (pos a +ℤ z)
-      small = record { sfits = sum-small a z (2 ^ hbits w) l }
-
 -- ---- the signed sum against the sums of what is counted
 
 negative : {n m : ℕ} → negsuc n ≡ pos m → ⊥
@@ -65,10 +26,6 @@ negative e = let z : ◌≡◌ {A = ℕ} 0 1 = cc in omega arith
 
 same : {n m : ℕ} → pos n ≡ pos m → n ≡ m
 same e = cc
-
-pub number_is : (z : ℤ) (n : ℕ) → (is_number z n ≡ true) ↔ (z ≡ pos n)
-number_is (pos m) n = (λ e. ap pos (eqb-true m n e), λ e. eq-eqb m n (same e))
-number_is (negsuc m) n = (λ e. true-false false e refl, λ e. absurd (negative e))
 
 less_by : (c t n : ℕ) → (sub_ℕ c (suc t) ≡ pos n) ↔ (c ≡ n + suc t)
 less_by c t n =

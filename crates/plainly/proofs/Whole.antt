@@ -1,14 +1,15 @@
 -- The net of the tables is the net, the graph of the grid is the graph; so the code answers what the clauses find over the words.
+use Rattle.std.specs.Prelude.{Err, Ok}
+use Rattle.judge.specs.Answer.{CheckAnswer}
+use Rattle.refusal.specs.Refusal.{Verdict}
 use Rattle.scan.proofs.Basics.{ℕ, zero, suc, ◌+◌, ◌*◌, ◌-◌, ◌/◌, ◌%◌, ◌≤◌, ◌<◌, arith, ◌≡◌, refl, sym, ap, ◌∙◌, Bool, ltb, Option, none, some, option_get_or, List, [], get_or}
 use mathlib.Core.Path.{fun_ext}
 use mathlib.Core.Bool.{and-false}
-use lib.IntN.{pos}
+use lib.IntN.{pos, ◌-ℤ◌}
 use Rattle.scan.specs.Scan.{tabulate}
 use Rattle.scan.proofs.Tests.{lt-ltb, le-ltb, by_less}
 use Rattle.scan.proofs.Tabulate.{tabulate-ext}
 use Rattle.refusal.specs.declared.Refusal.{Refusal}
-use Rattle.refusal.specs.declared.Verdict.{Verdict}
-use Rattle.refusal.specs.declared.Verdict.TheVariants.{Accepted, Refused}
 use Rattle.automaton.specs.Automaton.{Automaton}
 use Rattle.net.specs.Net.{transition_count, taken, put, start, capacity}
 use Rattle.net.proofs.Laws.{taken_no_transition, taken_no_place, put_no_transition, put_no_place, start_no_place, capacity_no_place, capacity-some, taken_most, put_most}
@@ -19,14 +20,12 @@ use Rattle.graph.specs.Readable.{words_reply, Readable}
 use Rattle.graph.proofs.Readable.{words, reply-readable}
 use Rattle.lending.specs.Call.{WordsDone}
 use Rattle.lending.proofs.Laws.{refused-words, answered-none}
-use Rattle.judge.specs.declared.CheckAnswer.{CheckAnswer}
-use Rattle.judge.specs.declared.CheckAnswer.TheVariants.{Failed}
 use Rattle.plainly.specs.declared.Spread.{Spread}
 use Rattle.plainly.specs.Tables.{arc_of, capacity_of, PutIs, in_table, taken_by, put_told, start_by, capacity_by, net_of, arc_by, held_by, label_by, graph_of, Fit}
 use Rattle.plainly.specs.Numbers.{arc_code, NetSpread, GridSpread}
 use Rattle.plainly.specs.Clauses.{clauses_fault, clauses_answer}
 use Rattle.plainly.specs.Calls.{slow_verdict, slow_counts, slow_core, slow_answer}
-use Rattle.plainly.proofs.Room.{put-by}
+use Rattle.plainly.proofs.Room.{put-by, puts}
 use Rattle.plainly.proofs.LookUp.{cell-taken, cell-change, cell-arc, cell-count}
 
 same-net : (P T P' T' : ℕ) (f g f' g' : ℕ → ℕ → ℕ) (s s' : ℕ → ℕ) (k k' : ℕ → Option ℕ) (z : ℕ → Bool) → P ≡ P' → T ≡ T' → f ≡ f' → g ≡ g' → s ≡ s' → k ≡ k'
@@ -58,13 +57,8 @@ module _ {net sheet : List ℕ} (r : Readable net sheet) (s : Spread) (h : NetSp
     taken_at : get_or s.taken (t * 32 + p) 0 ≡ taken net t p
     taken_at = cell-taken h t p (omega (arith, few_transitions)) (omega (arith, few_places))
 
-    put-is-at : PutIs (get_or s.taken (t * 32 + p) 0) (get_or s.change (t * 32 + p) (pos 0))
-    put-is-at = record {
-      put = put net t p;
-      most = put_most net r.arcs.accepted t p;
-      taken_most = rw taken_at (taken_most net r.arcs.accepted t p);
-      change_is = cell-change h t p (omega (arith, few_transitions)) (omega (arith, few_places)) ∙ rw taken_at;
-    }
+    change-at : get_or s.change (t * 32 + p) (pos 0) ≡ pos (put net t p) -ℤ pos (get_or s.taken (t * 32 + p) 0)
+    change-at = cell-change h t p (omega (arith, few_transitions)) (omega (arith, few_places)) ∙ rw taken_at
 
   taken-same : (t p : ℕ) → taken_by s t p ≡ taken net t p
   unfolding taken_by in_table
@@ -75,10 +69,10 @@ module _ {net sheet : List ℕ} (r : Readable net sheet) (s : Spread) (h : NetSp
       (λ l. rw (le-ltb t s.transitions l) (sym (taken_no_transition net t p (omega (arith, h.transitions_are)))))
 
   put_same : (t p : ℕ) → put_told s t p ≡ put net t p
-  unfolding put_told in_table put-is-at
+  unfolding put_told in_table
   put_same t p =
       by_less t s.transitions
-      (λ l. by_less p s.places (λ k. rw (lt-ltb t s.transitions l, lt-ltb p s.places k) (put-by (put-is-at t p l k)))
+      (λ l. by_less p s.places (λ k. rw (lt-ltb t s.transitions l, lt-ltb p s.places k) (put-by _ _ (change-at t p l k)))
       (λ k. rw (le-ltb p s.places k, and-false (ltb t s.transitions)) (sym (put_no_place net t p (omega (arith, h.places_are))))))
       (λ l. rw (le-ltb t s.transitions l) (sym (put_no_transition net t p (omega (arith, h.transitions_are)))))
 
@@ -162,24 +156,20 @@ module _ {net sheet : List ℕ} (r : Readable net sheet) (s : Spread) (h : NetSp
     }
       where
         put-any : (i : ℕ) → i < 1024 → PutIs (get_or s.taken i 0) (get_or s.change i (pos 0))
-        put-any i l = record {
-          put = put net (i / 32) (i % 32);
-          most = put_most net r.arcs.accepted (i / 32) (i % 32);
-          taken_most = rw (h.taken_is i l) (taken_most net r.arcs.accepted (i / 32) (i % 32));
-          change_is = h.change_is i l ∙ rw (h.taken_is i l);
-        }
+        put-any i l =
+            puts _ _ (h.change_is i l ∙ rw (h.taken_is i l)) (put_most net r.arcs.accepted (i / 32) (i % 32)) (rw (h.taken_is i l) (taken_most net r.arcs.accepted (i / 32) (i % 32)))
 
 -- ---- what the code answers
 
-pub spread-answer : (net sheet : List ℕ) → words_reply net sheet ≡ Accepted → (s : Spread) → NetSpread net s → s.nodes ≡ node_count sheet → (grid : List ℕ) → GridSpread net sheet grid
+pub spread-answer : (net sheet : List ℕ) → words_reply net sheet ≡ Ok tt → (s : Spread) → NetSpread net s → s.nodes ≡ node_count sheet → (grid : List ℕ) → GridSpread net sheet grid
     → {a : CheckAnswer} → a ≡ clauses_answer (net_of s) (graph_of s grid) → a ≡ clauses_answer (petri_net net) (graph (petri_net net) sheet)
 spread-answer net sheet w s h v grid g e = e ∙ rw (net-is (reply-readable net sheet w) s h v, graph_is (reply-readable net sheet w) s h v grid g)
 
-pub refused-answer : (net sheet : List ℕ) {v : Verdict} (x : Refusal) → v ≡ words_reply net sheet → v ≡ Refused x → Failed x ≡ slow_answer net sheet
+pub refused-answer : (net sheet : List ℕ) {v : Verdict} (x : Refusal) → v ≡ words_reply net sheet → v ≡ Err x → Err x ≡ slow_answer net sheet
 unfolding slow_answer
 refused-answer net sheet x e h = rw (sym e ∙ h)
 
-pub accepted-answer : (net sheet : List ℕ) {v : Verdict} → v ≡ words_reply net sheet → v ≡ Accepted → {a : CheckAnswer} → a ≡ clauses_answer (petri_net net) (graph (petri_net net) sheet)
+pub accepted-answer : (net sheet : List ℕ) {v : Verdict} → v ≡ words_reply net sheet → v ≡ Ok tt → {a : CheckAnswer} → a ≡ clauses_answer (petri_net net) (graph (petri_net net) sheet)
     → a ≡ slow_answer net sheet
 unfolding slow_answer
 accepted-answer net sheet e h f = rw (sym e ∙ h) f
@@ -191,6 +181,6 @@ unfolding slow_answer slow_verdict slow_counts clauses_answer
 slow-words net sheet a h = go (words_reply net sheet) refl (clauses_fault (petri_net net) (graph (petri_net net) sheet)) refl
   where
     go : (v : Verdict) → words_reply net sheet ≡ v → (o : Option Refusal) → clauses_fault (petri_net net) (graph (petri_net net) sheet) ≡ o → WordsDone (slow_core net sheet) [] a []
-    go Accepted e none f = answered-none refl (rw (e, f)) (h ∙ rw (e, f))
-    go Accepted e (some x) f = refused-words {r = x} (rw (e, f)) (h ∙ rw (e, f))
-    go (Refused x) e o f = refused-words {r = x} (rw e) (h ∙ rw e)
+    go (Ok tt) e none f = answered-none refl (rw (e, f)) (h ∙ rw (e, f))
+    go (Ok tt) e (some x) f = refused-words {r = x} (rw (e, f)) (h ∙ rw (e, f))
+    go (Err x) e o f = refused-words {r = x} (rw e) (h ∙ rw e)

@@ -65,10 +65,9 @@ module _ (s : Spread) where
 
 -- the sum of what is taken and the change is a weight: what is put
 pub record PutIs (taken : ℕ) (change : ℤ) : Type 0 where
-  pub put : ℕ
-  pub most : put ≤ most_count
+  pub most : put_by taken change ≤ most_count
   pub taken_most : taken ≤ most_count
-  pub change_is : change ≡ pos put -ℤ pos taken
+  pub change_is : change ≡ pos (put_by taken change) -ℤ pos taken
 
 pub record Fit (s : Spread) (grid : List ℕ) : Type 0 where
   pub few_places : s.places ≤ most_places

@@ -1,150 +1,60 @@
-// Choice sets by the published rule, from nothing but the table of what is taken; and what a node offers, from its row of the grid.
-ghost use Rattle.std.specs.Prelude.{◌≡◌, ◌≤◌, ◌<◌};
-ghost use Rattle.scan.specs.Scan.{all, least};
-ghost use Rattle.plainly.specs.Cells.{Taking, AtRow, cells_zero, cells_same, cells_shared, cells_alike, cells_chosen, has_arc, cells_await, cells_choice};
+// Choice sets by the published rule, from nothing but what is taken; and what a node offers.
+ghost use Rattle.std.specs.Prelude.{◌≡◌};
+ghost use Rattle.sequential.specs.Tests.{is_source, takes_same, shares_place, free_choice, is_await, first_offered, offers_one_choice_set};
+ghost use Rattle.plainly.specs.Page.{net_on, graph_on, IsFirstOffered};
 
-// Whether t takes nothing: a source.
-fn is_source(taken: &[u32], places: usize, t: usize) -> bool
-    requires { Taking taken.now places × (t < 32) }
-    ensures { result ≡ cells_zero taken.now places t }
-{
-    let mut p = 0;
-    while p < places {
-        if taken[t * 32 + p] != 0 {
-            return false;
-        }
-        p += 1;
-    }
-    true
-}
+use super::page::Page;
 
-// Whether t and u take the same from every place.
-fn takes_same(taken: &[u32], places: usize, t: usize, u: usize) -> bool
-    requires { Taking taken.now places × (t < 32) × (u < 32) }
-    ensures { result ≡ cells_same taken.now places t u }
-{
-    let mut p = 0;
-    while p < places {
-        if taken[t * 32 + p] != taken[u * 32 + p] {
-            return false;
-        }
-        p += 1;
+impl<'a> Page<'a> {
+    // Whether t takes nothing: a source.
+    fn is_source(&self, t: usize) -> bool
+        ensures { result ≡ is_source (net_on self.now) t }
+    {
+        (0..self.places()).all(|p| self.taken(t, p) == 0)
     }
-    true
-}
 
-// Whether there is a place on which both t and u draw.
-fn shares_place(taken: &[u32], places: usize, t: usize, u: usize) -> bool
-    requires { Taking taken.now places × (t < 32) × (u < 32) }
-    ensures { result ≡ cells_shared taken.now places t u }
-{
-    let mut p = 0;
-    while p < places {
-        if (0 < taken[t * 32 + p]) & (0 < taken[u * 32 + p]) {
-            return true;
-        }
-        p += 1;
+    // Whether t and u take the same from every place.
+    fn takes_same(&self, t: usize, u: usize) -> bool
+        ensures { result ≡ takes_same (net_on self.now) t u }
+    {
+        (0..self.places()).all(|p| self.taken(t, p) == self.taken(u, p))
     }
-    false
-}
 
-// Whether u draws on no place of t's, or takes the same as t.
-fn draws_alike(taken: &[u32], places: usize, t: usize, u: usize) -> bool
-    requires { Taking taken.now places × (t < 32) × (u < 32) }
-    ensures { result ≡ cells_alike taken.now places t u }
-{
-    if shares_place(taken, places, t, u) {
-        return takes_same(taken, places, t, u);
+    // Whether there is a place on which both t and u draw.
+    fn shares_place(&self, t: usize, u: usize) -> bool
+        ensures { result ≡ shares_place (net_on self.now) t u }
+    {
+        (0..self.places()).any(|p| 0 < self.taken(t, p) && 0 < self.taken(u, p))
     }
-    true
-}
 
-// Whether t's choice is free: every transition that draws on a place of t's takes the same as t.
-fn is_free(taken: &[u32], places: usize, transitions: usize, t: usize) -> bool
-    requires { Taking taken.now places × (t < 32) × (transitions ≤ 32) }
-    ensures { result ≡ all (cells_alike taken.now places t) transitions }
-{
-    let mut u = 0;
-    while u < transitions {
-        if !draws_alike(taken, places, t, u) {
-            return false;
-        }
-        u += 1;
+    // Whether t's choice is free: every transition that draws on a place of t's takes the same as t.
+    fn free_choice(&self, t: usize) -> bool
+        ensures { result ≡ free_choice (net_on self.now) t }
+    {
+        (0..self.transitions()).all(|u| !self.shares_place(t, u) || self.takes_same(t, u))
     }
-    true
-}
 
-// Whether u is in the choice set of t: it is t itself, or t's choice is free and u takes the same.
-fn same_choice(taken: &[u32], places: usize, t: usize, u: usize, free: bool) -> bool
-    requires { Taking taken.now places × (t < 32) × (u < 32) }
-    ensures { result ≡ cells_chosen taken.now places free t u }
-{
-    if t == u {
-        return true;
+    // The first transition that a node offers.
+    pub(crate) fn first_offered(&self, n: usize) -> Option<usize>
+        ensures { IsFirstOffered (net_on self.now) (graph_on self.now) n result }
+    {
+        (0..self.transitions()).find(|t| self.offers(n, *t))
     }
-    if takes_same(taken, places, t, u) {
-        return free;
-    }
-    false
-}
 
-// The first transition that a node offers, or the number of transitions.
-pub(crate) fn first_offered(grid: &[u32], transitions: usize, n: usize) -> usize
-    requires { AtRow grid.now transitions n }
-    ensures { result ≡ least (has_arc grid.now n) transitions }
-{
-    let mut t = 0;
-    while t < transitions {
-        if 0 < grid[n * 64 + t] {
-            return t;
-        }
-        t += 1;
+    // Whether a node offers the choice set of t, all of it and nothing else. In the set are t itself and, if t's choice is free, all that take the same.
+    pub(crate) fn offers_choice_of(&self, n: usize, t: usize) -> bool
+        requires { t ≡ first_offered (net_on self.now) (graph_on self.now) n }
+        ensures { result ≡ offers_one_choice_set (net_on self.now) (graph_on self.now) n }
+    {
+        let free = self.free_choice(t);
+        (0..self.transitions()).all(|u| self.offers(n, u)
+            == (t == u || self.takes_same(t, u) && free))
     }
-    transitions
-}
 
-// Whether a node offers the choice set of t: all of it, and nothing else.
-pub(crate) fn offers_choice_of(
-    taken: &[u32],
-    grid: &[u32],
-    places: usize,
-    transitions: usize,
-    n: usize,
-    t: usize,
-) -> bool
-    requires at_row { AtRow grid.now transitions n }
-    requires taking { Taking taken.now places × (t < 32) }
-    ensures { result ≡ cells_choice taken.now grid.now places transitions n t }
-{
-    let free = is_free(taken, places, transitions, t);
-    let mut u = 0;
-    while u < transitions {
-        if (0 < grid[n * 64 + u]) != same_choice(taken, places, t, u, free) {
-            return false;
-        }
-        u += 1;
+    // Whether a node offers exactly the sources.
+    pub(crate) fn is_await(&self, n: usize) -> bool
+        ensures { result ≡ is_await (net_on self.now) (graph_on self.now) n }
+    {
+        (0..self.transitions()).all(|t| self.offers(n, t) == self.is_source(t))
     }
-    true
-}
-
-// Whether a node offers exactly the sources.
-pub(crate) fn is_await(
-    taken: &[u32],
-    grid: &[u32],
-    places: usize,
-    transitions: usize,
-    n: usize,
-) -> bool
-    requires at_row { AtRow grid.now transitions n }
-    requires taking { Taking taken.now places }
-    ensures { result ≡ cells_await taken.now grid.now places transitions n }
-{
-    let mut t = 0;
-    while t < transitions {
-        if (0 < grid[n * 64 + t]) != is_source(taken, places, t) {
-            return false;
-        }
-        t += 1;
-    }
-    true
 }

@@ -21,7 +21,7 @@ use Rattle.graph.proofs.Bounds.{start-bound}
 use Rattle.graph.proofs.ArcCount.{arc-count-is}
 use Rattle.judge.proofs.Judged.{accepted-readable}
 use Rattle.reaction.specs.Call.{sheet_graph}
-use Rattle.react.specs.Rows.{IsNode, Starts, ArcOf, HasEntry, Rows, Mapped}
+use Rattle.react.specs.Rows.{IsNode, Starts, ArcOf, Mapped}
 
 module _ {net sheet : List ℕ} (r : ArcsReadable net sheet) where
   -- every node has its start, and behind the last one all arcs end
@@ -33,6 +33,10 @@ module _ {net sheet : List ℕ} (r : ArcsReadable net sheet) where
         (λ q. rw q (get_or-set_same starts (node_count sheet) last 0 (omega (arith, r.sizes.few_nodes)) ∙ e ∙ arc-count-is net sheet r))
         (λ d. get_or-set_other starts (node_count sheet) n last 0 d ∙ h n (omega arith));
   }
+
+-- entry i, at which a loop from the start of node n to its end is
+pub in_row : {starts : List ℕ} {n i end : ℕ} → get_or starts n 0 ≤ i → i < end → end ≡ get_or starts (n + 1) 0 → ArcOf starts n i
+in_row b k e = record { begun = b; ends = omega (arith, e) }
 
 module _ {net sheet starts : List ℕ} (m : Mapped net sheet starts) where
   pub readable : ArcsReadable net sheet
@@ -105,39 +109,19 @@ module _ {net sheet starts : List ℕ} (m : Mapped net sheet starts) where
 
   -- ---- what the code reads
 
-  pub rows : Rows sheet starts
-  rows = record {
-    few_nodes = few_nodes;
-    few = readable.sizes.few_entries;
-    long = readable.sizes.long;
-    within = λ n l. (bound n l).within;
-    rises = λ n l. risen n l;
-    target = λ n i l a. leads l a;
-  }
-    where
-      risen : (n : ℕ) → IsNode sheet n → get_or starts n 0 ≤ get_or starts (n + 1) 0
-      risen n l = by_less (get_or starts (n + 1) 0) (get_or starts n 0)
-          (λ q. absurd (let x = bound n (omega arith) in let y = bound (n + 1) (omega arith) in
-          let z = x.below (get_or starts (n + 1) 0) q in let v = y.above (get_or starts (n + 1) 0) (omega arith) (omega (arith, x.within)) in omega arith)) (λ q. q)
+  pub end-most : (n : ℕ) → n ≤ node_count sheet → get_or starts n 0 ≤ 4096
+  end-most n l = omega (arith, (bound n l).within, readable.sizes.few_entries)
+
+  pub rises : {n : ℕ} → IsNode sheet n → get_or starts n 0 ≤ get_or starts (n + 1) 0
+  rises {n} l = by_less (get_or starts (n + 1) 0) (get_or starts n 0)
+      (λ q. absurd (let x = bound n (omega arith) in let y = bound (n + 1) (omega arith) in
+      let z = x.below (get_or starts (n + 1) 0) q in let v = y.above (get_or starts (n + 1) 0) (omega arith) (omega (arith, x.within)) in omega arith)) (λ q. q)
+
+  pub target_low : {n : ℕ} → IsNode sheet n → {i : ℕ} → ArcOf starts n i → {x : ℕ} → x ≡ entry_value sheet i → x < 128
+  target_low l a e = omega (arith, e, leads l a, few_nodes)
 
   pub first_key_lem : {n : ℕ} → IsNode sheet n → arcs_start net n ≡ n * transition_count net
   first_key_lem {n} l = arcs-start-is net n (omega (arith, few_nodes)) readable.sizes.some_transition few_transitions
-
-module _ {sheet starts : List ℕ} (r : Rows sheet starts) {n : ℕ} (l : IsNode sheet n) where
-  pub node_low : n < 128
-  node_low = omega (arith, r.few_nodes)
-
-  pub start-most : get_or starts n 0 ≤ 4096
-  start-most = omega (arith, r.within n (omega arith), r.few)
-
-  pub end-most : get_or starts (n + 1) 0 ≤ 4096
-  end-most = omega (arith, r.within (n + 1) (omega arith), r.few)
-
-  pub has-entry : {i : ℕ} → ArcOf starts n i → HasEntry sheet i
-  has-entry a = record { entry = omega (arith, r.within (n + 1) (omega arith), a.ends); few = r.few; long = r.long }
-
-  pub target_low : {i : ℕ} → ArcOf starts n i → {x : ℕ} → x ≡ entry_value sheet i → x < 128
-  target_low {i} a e = omega (arith, e, r.target n i l a, r.few_nodes)
 
 -- ---- a walk over a row
 

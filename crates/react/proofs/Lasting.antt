@@ -1,9 +1,10 @@
 -- The paths of the check of durations: its shape, one transition, and the loop over them.
-use Rattle.scan.proofs.Basics.{ℕ, ◌+◌, ◌*◌, ◌≤◌, ◌<◌, arith, ◌≡◌, refl, ◌⊎◌, ⊎_elim, Bool, true, false, eqb, ltb, List, length, get_or, ◌&&◌}
-use Rattle.scan.proofs.Tests.{lt-ltb, le-ltb, ne_eqb, eq-eqb, lt-suc-cases}
+use Rattle.scan.proofs.Basics.{ℕ, ◌+◌, ◌*◌, ◌≤◌, ◌<◌, ◌≡◌, refl, Bool, true, false, eqb, ltb, List, length, get_or, ◌&&◌}
+use Rattle.scan.proofs.Tests.{lt-ltb, le-ltb, ne_eqb, eq-eqb}
 use Rattle.reaction.specs.Words.{duration_count, early, late, most_duration}
 use Rattle.reaction.specs.Tests.{shape_passes, duration_fails}
-use Rattle.react.specs.Times.{duration_of}
+use Rattle.react.specs.declared.case.Case.TheVariants.{Best, Worst}
+use Rattle.react.specs.Cases.{duration_of}
 
 module _ (words : List ℕ) (k : ℕ) where
   pub shape-no : (length words ≡ 1 + 2 * k → ⊥) → false ≡ shape_passes words k
@@ -22,7 +23,7 @@ module _ (words : List ℕ) (k : ℕ) where
       both true = refl
       both false = refl
 
-module _ (words : List ℕ) (t : ℕ) {a b : ℕ} (p : a ≡ duration_of words true t) (q : b ≡ duration_of words false t) where
+module _ (words : List ℕ) (t : ℕ) {a b : ℕ} (p : a ≡ duration_of words Worst t) (q : b ≡ duration_of words Best t) where
   pub fails-order : a < b → true ≡ duration_fails words t
   unfolding duration_fails duration_of
   fails-order h = let z : late words t < early words t = rw (← p, ← q) h in rw (lt-ltb (late words t) (early words t) z)
@@ -37,15 +38,3 @@ module _ (words : List ℕ) (k : ℕ) where
   pub record Passing (t : ℕ) : Type 0 where
     pub shape : shape_passes words k ≡ true
     pub below : (u : ℕ) → u < t → duration_fails words u ≡ false
-
-  pub passing-none : shape_passes words k ≡ true → Passing 0
-  passing-none h = record { shape = h; below = λ u l. absurd (omega arith) }
-
-  pub passing-more : (t : ℕ) → Passing t → duration_fails words t ≡ false → Passing (t + 1)
-  passing-more t g h = record {
-    shape = g.shape;
-    below = λ u l. ⊎_elim (λ e. rw e h) (g.below u) (cases u l);
-  }
-    where
-      cases : (u : ℕ) → u < t + 1 → (u ≡ t) ⊎ (u < t)
-      cases u l = lt-suc-cases (omega arith)

@@ -2,14 +2,12 @@
 use Rattle.scan.proofs.Basics.{ℕ, zero, suc, ◌+◌, ◌*◌, ◌-◌, ◌≤◌, ◌<◌, arith, ◌≡◌, refl, sym, ap, ◌∙◌, true, false, List, length, get_or}
 use Rattle.net.specs.Net.{transition_count}
 use Rattle.sequential.specs.Words.{node_count, entry_key}
-use Rattle.reaction.specs.Words.{early, late, strung, row_at, report}
-use Rattle.reach.specs.Reach.{is_marked}
-use Rattle.reaction.specs.Call.{sheet_graph, sheet_await, report_words}
-use Rattle.react.specs.Rows.{IsNode, ArcOf, Rows, Mapped}
-use Rattle.react.specs.Times.{Ready}
-use Rattle.react.specs.Report.{SizeTold}
-use Rattle.react.proofs.ArcRows.{key-low, arc-at, rows, end-most, Walked, walk_start, walk_end, walk-reach, walk-gap, walk_more}
-use Rattle.react.proofs.RowPairs.{strung-long, pairs, row, skip, row-busy, pair-some, rows_of}
+use Rattle.reaction.specs.Words.{strung, row_at, report}
+use Rattle.reaction.specs.Call.{sheet_await, report_words}
+use Rattle.react.specs.Rows.{IsNode, ArcOf, Mapped}
+use Rattle.react.specs.Report.{row_words, SizeTold}
+use Rattle.react.proofs.ArcRows.{key-low, arc-at, rises, end-most, Walked, walk_start, walk_end, walk-reach, walk-gap, walk_more}
+use Rattle.react.proofs.RowPairs.{strung-long, pairs, skip, row-busy, pair-some, rows_of}
 
 -- ---- how long a row is: two words for each arc
 
@@ -26,49 +24,56 @@ module _ {net sheet starts : List ℕ} (m : Mapped net sheet starts) (words : Li
       let q : get_or starts n 0 + d + 1 ≡ get_or starts n 0 + suc d = omega arith in
       (t + 1, rw q at (walk_more m l g a t h), strung-long (pairs net sheet words n) t ∙ rw (s, e, p) (omega arith))
 
-  row-long : length (row net sheet words n) ≡ 2 * (get_or starts (n + 1) 0 - get_or starts n 0)
+  row-long : length (row_words net sheet words n) ≡ 2 * (get_or starts (n + 1) 0 - get_or starts n 0)
   unfolding row_at
   row-long =
       let d = get_or starts (n + 1) 0 - get_or starts n 0 in
-      let q : get_or starts n 0 + d ≡ get_or starts (n + 1) 0 = omega (arith, (rows m).rises n l) in
+      let q : get_or starts n 0 + d ≡ get_or starts (n + 1) 0 = omega (arith, rises m l) in
       let (u, g, e) = walk-long d (omega arith) in
       ap length (skip net sheet words n u (transition_count net) g.few (λ v a b. walk_end m l g (omega arith) v a)) ∙ e
 
 -- ---- how long all are: the nodes below n
 
-pub record Sizing (sheet starts awaits : List ℕ) (nodes size n : ℕ) : Type 0 where
+pub record Sizing (net sheet starts : List ℕ) (nodes size n : ℕ) : Type 0 where
+  pub mapped : Mapped net sheet starts
   pub nodes_are : nodes ≡ node_count sheet
   pub bound : n ≤ nodes
   pub few : size ≤ n * 8192
-  pub told : (net words : List ℕ) → Ready net sheet words starts awaits → size ≡ length (rows_of net sheet words n)
+  pub told : (words : List ℕ) → size ≡ length (rows_of net sheet words n)
 
-pub size-start : {sheet starts awaits : List ℕ} → Sizing sheet starts awaits (node_count sheet) 0 0
+pub size-start : {net sheet starts : List ℕ} {nodes : ℕ} → Mapped net sheet starts → nodes ≡ node_count sheet → Sizing net sheet starts nodes 0 0
 unfolding strung
-size-start = record { nodes_are = refl; bound = omega arith; few = omega arith; told = λ net words r. refl }
+size-start m s = record { mapped = m; nodes_are = s; bound = omega arith; few = omega arith; told = λ words. refl }
 
-module _ {sheet starts awaits : List ℕ} {nodes size n : ℕ} (g : Sizing sheet starts awaits nodes size n) where
-  pub size-end : nodes ≤ n → SizeTold sheet starts awaits size
+module _ {net sheet starts : List ℕ} {nodes size n : ℕ} (g : Sizing net sheet starts nodes size n) where
+  pub size-end : nodes ≤ n → SizeTold net sheet size
   unfolding report_words report
-  size-end l net words r = let q : n ≡ node_count sheet = omega (arith, g.nodes_are, g.bound) in rw q at (g.told net words r)
+  size-end l words = let q : n ≡ node_count sheet = omega (arith, g.nodes_are, g.bound) in rw q at (g.told words)
 
   module _ (k : n < nodes) where
     pub size-node : IsNode sheet n
     size-node = omega (arith, g.nodes_are)
 
-    pub size-busy : is_marked awaits n ≡ false → Sizing sheet starts awaits nodes size (n + 1)
+    row-next : (words : List ℕ) → length (rows_of net sheet words (n + 1)) ≡ size + length (row_words net sheet words n)
+    row-next words = strung-long (row_words net sheet words) n ∙ ap (◌+ length (row_words net sheet words n)) (sym (g.told words))
+
+    pub size-busy : sheet_await net sheet n ≡ false → Sizing net sheet starts nodes size (n + 1)
     size-busy b = record {
+      mapped = g.mapped;
       nodes_are = g.nodes_are;
       bound = omega arith;
       few = omega (arith, g.few);
-      told = λ net words r. let z = strung-long (row_at (sheet_graph net sheet) (sheet_await net sheet) (early words) (late words)) n in
-          let y = ap length (row-busy net sheet words n (sym (r.judged.marks n size-node) ∙ b)) in omega (arith, g.told net words r);
+      told = λ words. let y = ap length (row-busy net sheet words n b) in omega (arith, row-next words);
     }
 
-    pub size-await : Rows sheet starts → is_marked awaits n ≡ true → Sizing sheet starts awaits nodes (size + 2 * (get_or starts (n + 1) 0 - get_or starts n 0)) (n + 1)
-    size-await o w = record {
+    pub size-fits : size + 2 * get_or starts (n + 1) 0 ≤ (n + 1) * 8192
+    size-fits = omega (arith, g.few, end-most g.mapped (n + 1) (omega (arith, size-node)))
+
+    pub size-await : sheet_await net sheet n ≡ true → Sizing net sheet starts nodes (size + 2 * (get_or starts (n + 1) 0 - get_or starts n 0)) (n + 1)
+    size-await w = record {
+      mapped = g.mapped;
       nodes_are = g.nodes_are;
       bound = omega arith;
-      few = omega (arith, g.few, end-most o size-node);
-      told = λ net words r. let z = strung-long (row_at (sheet_graph net sheet) (sheet_await net sheet) (early words) (late words)) n in
-          let y = row-long r.judged.mapped words size-node (sym (r.judged.marks n size-node) ∙ w) in omega (arith, g.told net words r);
+      few = omega (arith, size-fits);
+      told = λ words. let y = row-long g.mapped words size-node w in omega (arith, row-next words);
     }

@@ -6,6 +6,7 @@ use Rattle.encoding.specs.Rows.{Appended}
 use Rattle.encoding.proofs.Rows.{appended-none, appended-more}
 use Rattle.reaction.specs.Words.{early, late, strung, pair_at, row_at}
 use Rattle.reaction.specs.Call.{sheet_graph, sheet_await, best_time, worst_time}
+use Rattle.react.specs.Report.{row_words}
 use Rattle.react.proofs.ArcRows.{passes}
 
 -- ---- lists one behind another
@@ -35,9 +36,6 @@ module _ (net sheet words : List ℕ) (n : ℕ) where
   abbrev pub pairs : ℕ → List ℕ
   pairs = pair_at (sheet_graph net sheet) (sheet_await net sheet) (early words) (late words) n
 
-  abbrev pub row : List ℕ
-  row = row_at (sheet_graph net sheet) (sheet_await net sheet) (early words) (late words) n
-
   pub pair-none : (t : ℕ) → (sheet_graph net sheet).arc n t ≡ none → pairs t ≡ []
   unfolding pair_at
   pair-none t e = by_test (sheet_await net sheet n) (λ q. rw (q, e)) (λ q. rw q)
@@ -47,7 +45,7 @@ module _ (net sheet words : List ℕ) (n : ℕ) where
   skip u t l h = passes (λ v. strung pairs v ≡ strung pairs u) u t l (λ v a b p. strung-miss pairs v (pair-none v (h v a b)) ∙ p) refl
 
   -- a busy node has none at all
-  pub row-busy : sheet_await net sheet n ≡ false → row ≡ []
+  pub row-busy : sheet_await net sheet n ≡ false → row_words net sheet words n ≡ []
   unfolding row_at pair_at strung
   row-busy b = none_of (sheet_graph net sheet).transitions
     where
@@ -61,4 +59,4 @@ module _ (net sheet words : List ℕ) (n : ℕ) where
     pair-some = rw (w, a)
 
 abbrev pub rows_of : List ℕ → List ℕ → List ℕ → ℕ → List ℕ
-rows_of net sheet words n = strung (row_at (sheet_graph net sheet) (sheet_await net sheet) (early words) (late words)) n
+rows_of net sheet words n = strung (row_words net sheet words) n

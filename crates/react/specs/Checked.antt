@@ -1,7 +1,7 @@
 -- What is known before loops are looked for. No contract of a public function cites it.
+use Rattle.refusal.specs.Refusal.{Verdict}
 use Rattle.std.specs.Prelude.{List, ℕ}
 use Rattle.refusal.specs.Verdict.{verdict_of, and_then}
-use Rattle.refusal.specs.declared.Verdict.{Verdict}
 use Rattle.net.specs.Net.{transition_count}
 use Rattle.sequential.specs.Check.{schedule_reply}
 use Rattle.reaction.specs.Tests.{durations_fault}

@@ -1,4 +1,5 @@
 pub mod Rows
+pub mod Cases
 pub mod Loops
 pub mod Times
 pub mod Report

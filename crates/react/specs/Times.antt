@@ -1,47 +1,21 @@
--- The recursion for the best and the worst time: what it relies on, what its table holds, and what it leaves. No contract of a public function cites it.
-use Rattle.std.specs.Prelude.{ℕ, suc, ◌<◌, min, max, ◌≡◌, Bool, true, false, List, length, get_or}
+-- The recursion for the best and the worst time: what its table holds, and what it leaves. No contract of a public function cites it.
+use Rattle.std.specs.Prelude.{ℕ, suc, ◌<◌, ◌≡◌, false, List, length, get_or}
 use Rattle.refusal.specs.Limits.{most_nodes}
 use Rattle.sequential.specs.Words.{node_count}
-use Rattle.reaction.specs.ToGo.{best, worst, depth}
+use Rattle.reaction.specs.ToGo.{depth}
 use Rattle.reaction.specs.Memo.{Noted, After}
-use Rattle.reaction.specs.Words.{early, late}
 use Rattle.reaction.specs.Call.{sheet_graph, sheet_await}
-use Rattle.reaction.specs.Known.{Passed}
-use Rattle.react.specs.Rows.{Judged}
-
--- ---- the worst time, or the best
-
-unfoldable pub duration_of : List ℕ → Bool → ℕ → ℕ
-duration_of words true = late words
-duration_of words false = early words
-
-unfoldable pub pick_of : Bool → ℕ → ℕ → ℕ
-pick_of true = max
-pick_of false = min
-
-unfoldable pub start_of : Bool → ℕ
-start_of true = 0
-start_of false = 4294967295
+use Rattle.react.specs.declared.case.Case.{Case}
+use Rattle.react.specs.Cases.{time_of}
 
 module _ (net sheet words : List ℕ) where
-  unfoldable pub time_of : Bool → ℕ → ℕ
-  time_of true = worst (sheet_graph net sheet) (sheet_await net sheet) (late words)
-  time_of false = best (sheet_graph net sheet) (sheet_await net sheet) (early words)
-
   abbrev pub depth_of : ℕ → ℕ
   depth_of = depth (sheet_graph net sheet) (sheet_await net sheet)
 
--- ---- the recursion
-
--- nothing is refused
-pub record Ready (net sheet words starts awaits : List ℕ) : Type 0 where
-  pub judged : Judged net sheet starts awaits
-  pub passed : Passed net sheet words
-
-module _ (net sheet words : List ℕ) (latest : Bool) where
+module _ (net sheet words : List ℕ) (case : Case) where
   -- the times in the table are right, and every node that is begun has at least this depth
   abbrev pub Keeps : ℕ → List ℕ → Type 0
-  Keeps level memo = Noted (time_of net sheet words latest) (depth_of net sheet words) (node_count sheet) level memo
+  Keeps level memo = Noted (time_of net sheet words case) (depth_of net sheet words) (node_count sheet) level memo
 
   -- before the time of node n is asked for
   pub record Entered (n : ℕ) (memo : List ℕ) : Type 0 where
@@ -58,8 +32,8 @@ module _ (net sheet words : List ℕ) (latest : Bool) where
 
   -- the answer for node n, and the table that is left
   pub record Worked (n : ℕ) (old new : List ℕ) (r : ℕ) : Type 0 where
-    pub value : r ≡ time_of net sheet words latest n
-    pub after : After (time_of net sheet words latest) (depth_of net sheet words) (node_count sheet) old new
+    pub value : r ≡ time_of net sheet words case n
+    pub after : After (time_of net sheet words case) (depth_of net sheet words) (node_count sheet) old new
 
   pub record TimesOf (times : List ℕ) : Type 0 where
-    pub told : (n : ℕ) → n < node_count sheet → get_or times n 0 ≡ time_of net sheet words latest n
+    pub told : (n : ℕ) → n < node_count sheet → get_or times n 0 ≡ time_of net sheet words case n

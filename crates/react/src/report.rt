@@ -2,28 +2,21 @@
 ghost use Rattle.std.specs.Prelude.{◌≡◌, [], ◌∷◌};
 ghost use Rattle.scan.specs.Placed.{placed};
 ghost use Rattle.encoding.specs.Rows.{Appended};
-ghost use Rattle.reaction.specs.Words.{early, late, row_at};
-ghost use Rattle.reaction.specs.Call.{sheet_graph, sheet_await, report_words};
-ghost use Rattle.react.specs.Rows.{Rows};
-ghost use Rattle.react.specs.Times.{Ready};
-ghost use Rattle.react.specs.Report.{SizeTold, Writable};
+ghost use Rattle.reaction.specs.Call.{report_words};
+ghost use Rattle.react.specs.Report.{row_words, SizeTold, Writable};
 
-use super::{durations, rows, times};
+use super::case::Case;
+use super::rows::Schedule;
+use super::times::Timed;
 
 // The length of the report in words: a pair for each arc of an await node.
-pub(crate) fn size(sheet: &[u32], starts: &[u16; 129], awaits: &[u8; 128]) -> usize
-    requires { Rows sheet.now starts.now }
-    ensures { SizeTold sheet.now starts.now awaits.now result }
+pub(crate) fn size(schedule: &Schedule) -> usize
+    ensures { SizeTold schedule.now.net.now schedule.now.sheet.now result }
 {
-    let nodes = sheet[0] as usize;
     let mut size = 0;
-    let mut n = 0;
-    while n < nodes {
-        let arcs = starts[n + 1] as usize - starts[n] as usize;
-        let waits = 0 < awaits[n];
-        n += 1;
-        if waits {
-            size += 2 * arcs;
+    for n in 0..schedule.nodes() {
+        if schedule.is_await(n) {
+            size += 2 * (schedule.end(n) - schedule.start(n));
         }
     }
     size
@@ -38,57 +31,39 @@ fn write_pair(best: u32, worst: u32, out: &mut [u32], at: usize) -> usize
 
 // Writes the pairs of one await node from an index on, and answers the index after them.
 fn write_row(
-    net: &[u32],
-    sheet: &[u32],
-    durations: &[u32],
-    starts: &[u16; 129],
+    timed: &Timed,
     best: &[u32; 128],
     worst: &[u32; 128],
     n: usize,
     out: &mut [u32],
     at: usize,
 ) -> usize
-    requires { Writable net.now sheet.now durations.now starts.now best.now worst.now n }
-    ensures { Appended out.old at (row_at (sheet_graph net.now sheet.now) (sheet_await net.now sheet.now) (early durations.now) (late durations.now) n) result out.new }
+    requires { Writable timed.now.schedule.now.net.now timed.now.schedule.now.sheet.now timed.now.durations.words.now best.now worst.now n }
+    ensures { Appended out.old at (row_words timed.now.schedule.now.net.now timed.now.schedule.now.sheet.now timed.now.durations.words.now n) result out.new }
 {
-    let first = graph::arcs_start(net, n as u32);
-    let transitions = net::transitions(net) as usize;
-    let end = starts[n + 1] as usize;
+    let schedule = timed.schedule;
+    let first = schedule.first_key(n);
     let mut next = at;
-    let mut i = starts[n] as usize;
-    while i < end {
-        let t = rows::transition(sheet, first, i);
-        let m = rows::leads_to(sheet, i);
-        let early = durations::duration(durations, transitions, t, false) + best[m];
-        let late = durations::duration(durations, transitions, t, true) + worst[m];
+    for i in schedule.start(n)..schedule.end(n) {
+        let t = schedule.transition(first, i);
+        let m = schedule.leads_to(i);
+        let early = timed.durations.lasts(Case::Best, t) + best[m];
+        let late = timed.durations.lasts(Case::Worst, t) + worst[m];
         next = write_pair(early, late, out, next);
-        i += 1;
     }
     next
 }
 
 // Writes the whole report: the rows of all await nodes.
-pub(crate) fn write(
-    net: &[u32],
-    sheet: &[u32],
-    durations: &[u32],
-    starts: &[u16; 129],
-    awaits: &[u8; 128],
-    out: &mut [u32],
-)
-    requires { Ready net.now sheet.now durations.now starts.now awaits.now }
-    ensures { out.new ≡ placed out.old 0 (report_words net.now sheet.now durations.now) }
+pub(crate) fn write(timed: &Timed, out: &mut [u32])
+    ensures { out.new ≡ placed out.old 0 (report_words timed.now.schedule.now.net.now timed.now.schedule.now.sheet.now timed.now.durations.words.now) }
 {
-    let best = times::times(net, sheet, durations, starts, awaits, false);
-    let worst = times::times(net, sheet, durations, starts, awaits, true);
-    let nodes = sheet[0] as usize;
+    let best = timed.times(Case::Best);
+    let worst = timed.times(Case::Worst);
     let mut next = 0;
-    let mut n = 0;
-    while n < nodes {
-        let m = n;
-        n += 1;
-        if 0 < awaits[m] {
-            next = write_row(net, sheet, durations, starts, &best, &worst, m, out, next);
+    for n in 0..timed.schedule.nodes() {
+        if timed.schedule.is_await(n) {
+            next = write_row(timed, &best, &worst, n, out, next);
         }
     }
 }

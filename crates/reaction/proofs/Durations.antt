@@ -1,4 +1,5 @@
 -- The tests of durations decide their clauses: when 32 is answered.
+use Rattle.refusal.specs.declared.Reason.TheVariants.{BadDuration}
 use Rattle.scan.proofs.Basics.{ℕ, ◌<◌, arith, ◌≡◌, refl, inl, inr, ◌↔◌, true, false, eqb, ltb, none, some, List}
 use Rattle.scan.proofs.Tests.{ltb-false, le-ltb, eqb-true, eq-eqb, and_left, and_right, and_both, or-none-left, or-none-right, decides_not, true-false}
 use Rattle.refusal.specs.Refusal.{refusal}
@@ -37,12 +38,12 @@ module _ (words : List ℕ) where
 
     -- ---- the paths of the code
 
-    pub shape-refused : shape_passes words k ≡ false → durations_fault words k ≡ some (refusal 32 Nothing)
+    pub shape-refused : shape_passes words k ≡ false → durations_fault words k ≡ some (refusal BadDuration Nothing)
     shape-refused e = (durations-tell.fails _).1 (inl (λ p. true-false (shape_passes words k) ((shape↔ k).1 p) e, refl))
 
     module _ (e : shape_passes words k ≡ true) where
       pub duration-refused : (t : ℕ) → t < k → ((u : ℕ) → u < t → duration_fails words u ≡ false) → duration_fails words t ≡ true
-          → durations_fault words k ≡ some (refusal 32 (Entry t))
+          → durations_fault words k ≡ some (refusal BadDuration (Entry t))
       duration-refused t l b f = (durations-tell.fails _).1 (inr (
         (shape↔ k).0 e,
         inl (record {

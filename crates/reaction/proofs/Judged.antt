@@ -1,10 +1,10 @@
 -- When 32 and 33 are answered, and reporting as an instance of what holds of every call: the checks of its words, and what is known of words that pass.
+use Rattle.std.specs.Prelude.{Ok}
 use Rattle.scan.proofs.Basics.{ℕ, ◌≡◌, refl, sym, List, [], ◌∷◌, ◌++◌, length}
 use Rattle.scan.specs.Scan.{or_else, first}
 use Rattle.scan.proofs.First.{or_else-assoc}
 use Rattle.automaton.specs.Automaton.{Closed}
 use Rattle.refusal.specs.Finding.{found_by, line_finds, finding}
-use Rattle.refusal.specs.declared.Verdict.TheVariants.{Accepted}
 use Rattle.refusal.proofs.Checks.{Decides, Decided, Lawful, Tells, finding-tells}
 use Rattle.refusal.proofs.Judges.{Judges, judges-found, judges-then, pass-append}
 use Rattle.net.specs.Checks.{net_checks}
@@ -55,7 +55,7 @@ module _ (net sheet words : List ℕ) where
     plain-refused = λ r. refl;
   }
 
-  pub passed : reaction_verdict net sheet words ≡ Accepted → Passed net sheet words
+  pub passed : reaction_verdict net sheet words ≡ Ok tt → Passed net sheet words
   passed h =
       let (a, b) = (pass-append (net_checks net ++ sheet_checks (petri_net net) sheet) (reaction_checks (petri_net net) sheet words)).0 (reaction-judged.accepts.0 h) in
       let (s, (e, (l, u))) = b in

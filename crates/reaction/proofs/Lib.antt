@@ -15,6 +15,7 @@ pub mod Memo
 -- 32 and 33, the report, and what it tells
 pub mod Durations
 pub mod Judged
+pub mod Plain
 pub mod Report
 pub mod Times
 pub mod Examples

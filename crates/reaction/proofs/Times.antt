@@ -1,11 +1,11 @@
 -- What the report tells, proved of all that passes.
+use Rattle.std.specs.Prelude.{Ok}
 use Rattle.scan.proofs.Basics.{ℕ, ◌≤◌, ◌<◌, arith, ◌≡◌, ◌∙◌, true, some, List, ◌∷◌, length}
 use native.Mathlib.Nat.{mul-le-mul}
 use Rattle.scan.specs.Scan.{count, found}
 use Rattle.scan.proofs.Tests.{iff→eq}
 use Rattle.scan.proofs.First.{found_some}
 use Rattle.scan.proofs.Count.{count-le}
-use Rattle.refusal.specs.declared.Verdict.TheVariants.{Accepted}
 use Rattle.net.proofs.Laws.{sizes}
 use Rattle.automaton.specs.Automaton.{Closed}
 use Rattle.automaton.specs.Reach.{Reachable, Leads}
@@ -34,7 +34,7 @@ use Rattle.reaction.proofs.Report.{report-length, report-at}
 
 -- ---- an accepted sheet
 
-module _ (net sheet : List ℕ) (h : schedule_reply net sheet ≡ Accepted) where
+module _ (net sheet : List ℕ) (h : schedule_reply net sheet ≡ Ok tt) where
   pub home : (n : ℕ) → n < (sheet_graph net sheet).nodes → Leads (sheet_graph net sheet) (sheet_await net sheet) n
   home n l = (leads-await (petri_net net) (sheet_graph net sheet) n).1 ((accepts net sheet h).schedule.returns n l)
 
@@ -128,7 +128,7 @@ module _ (net sheet words : List ℕ) (h : Passed net sheet words) where
 -- ---- how many firings
 
 -- where 33 is given no number of firings is enough
-pub endless-runs : (net sheet : List ℕ) → schedule_reply net sheet ≡ Accepted → (n : ℕ) → n < node_count sheet → BusyLoop (sheet_graph net sheet) (sheet_await net sheet) n
+pub endless-runs : (net sheet : List ℕ) → schedule_reply net sheet ≡ Ok tt → (n : ℕ) → n < node_count sheet → BusyLoop (sheet_graph net sheet) (sheet_await net sheet) n
     → (k : ℕ) → (σ : List ℕ) × (next : ℕ) × BusyRun (sheet_graph net sheet) (sheet_await net sheet) n σ next × (sheet_await net sheet next ≡ true) × (k ≤ length σ)
 unfolding Leads
 endless-runs net sheet h n l b k =
@@ -138,7 +138,7 @@ endless-runs net sheet h n l b k =
 
 -- ---- runs from the root
 
-from-root : (net sheet : List ℕ) (d : ℕ → ℕ) (a t x : ℕ) → schedule_reply net sheet ≡ Accepted → a < node_count sheet
+from-root : (net sheet : List ℕ) (d : ℕ → ℕ) (a t x : ℕ) → schedule_reply net sheet ≡ Ok tt → a < node_count sheet
     → (σ : List ℕ) × (next : ℕ) × Reaction (sheet_graph net sheet) (sheet_await net sheet) a t σ next × (lasting d (t ∷ σ) ≡ x) → AttainedFromRoot net sheet d a t x
 unfolding Reachable
 from-root net sheet d a t x h l (σ, next, r, e) =

@@ -1,10 +1,10 @@
 -- The call that reports reaction times (§10.46): what it makes of its words, its postcondition, and its answer as plain numbers.
-use Rattle.std.specs.Prelude.{ℕ, Bool, List, [], ◌∷◌, length}
+use Rattle.std.specs.Prelude.{ℕ, Bool, List, [], ◌∷◌, length, Result, Err, Ok}
 use Rattle.automaton.specs.Automaton.{Automaton}
 use Rattle.refusal.specs.Limits.{scratch_limit}
-use Rattle.refusal.specs.Refusal.{plain_refusal}
+use Rattle.refusal.specs.Refusal.{plain_refusal, Verdict}
+use Rattle.refusal.specs.declared.Refusal.{Refusal}
 use Rattle.refusal.specs.Verdict.{verdict_of, and_then}
-use Rattle.refusal.specs.declared.Verdict.{Verdict}
 use Rattle.lending.specs.Call.{Core, WordsDone, CallDone}
 use Rattle.sequential.specs.Petri.{petri_net}
 use Rattle.sequential.specs.Words.{graph}
@@ -13,8 +13,6 @@ use Rattle.sequential.specs.Check.{schedule_reply}
 use Rattle.reaction.specs.ToGo.{best, worst, best_reaction, worst_reaction}
 use Rattle.reaction.specs.Words.{early, late, report}
 use Rattle.reaction.specs.Tests.{reaction_fault}
-use Rattle.reaction.specs.declared.ReactionAnswer.{ReactionAnswer}
-use Rattle.reaction.specs.declared.ReactionAnswer.TheVariants.{Written, Refused}
 
 -- the schedule's graph, and which of its nodes are await nodes (§5.4)
 abbrev pub sheet_graph : List ℕ → List ℕ → Automaton
@@ -45,11 +43,15 @@ reaction_verdict net sheet durations = and_then (schedule_reply net sheet) (verd
 unfoldable pub report_words : List ℕ → List ℕ → List ℕ → List ℕ
 report_words net sheet durations = report (sheet_graph net sheet) (sheet_await net sheet) (early durations) (late durations)
 
+-- the length in words of the report, or a refusal
+abbrev pub ReactionAnswer : Type 0
+ReactionAnswer = Result ℕ Refusal
+
 abbrev pub reaction_core : List ℕ → List ℕ → List ℕ → Core ReactionAnswer
 reaction_core net sheet durations = record {
   verdict = reaction_verdict net sheet durations;
-  accepted = Written (length (report_words net sheet durations));
-  refused = Refused;
+  accepted = Ok (length (report_words net sheet durations));
+  refused = Err;
   results = report_words net sheet durations ∷ [];
 }
 
@@ -62,5 +64,5 @@ ReactionDone net sheet durations out scratch r out' scratch' = CallDone scratch_
 
 -- number, kind, position, length (§8.1), which is 0 if refused (§8.3)
 abbrev pub plain_reaction : ReactionAnswer → List ℕ
-plain_reaction (Written length) = 0 ∷ 0 ∷ 0 ∷ length ∷ 0 ∷ 0 ∷ []
-plain_reaction (Refused r) = plain_refusal r
+plain_reaction (Ok length) = 0 ∷ 0 ∷ 0 ∷ length ∷ 0 ∷ 0 ∷ []
+plain_reaction (Err r) = plain_refusal r

@@ -1,7 +1,6 @@
 -- Schedules with durations to try: the answer as plain numbers, and the words of the report, none if refused.
-use Rattle.std.specs.Prelude.{ℕ, ◌≡◌, List, [], ◌∷◌, length}
-use Rattle.refusal.specs.declared.Verdict.{Verdict}
-use Rattle.refusal.specs.declared.Verdict.TheVariants.{Accepted, Refused}
+use Rattle.refusal.specs.Refusal.{Verdict}
+use Rattle.std.specs.Prelude.{ℕ, ◌≡◌, List, [], ◌∷◌, length, Err, Ok}
 use Rattle.lending.specs.Call.{answer_of}
 use Rattle.reaction.specs.Call.{reaction_verdict, report_words, reaction_core, plain_reaction}
 
@@ -64,8 +63,8 @@ table =
 -- ---- what the definitions give
 
 abbrev pub words_where : Verdict → List ℕ → List ℕ
-words_where Accepted words = words
-words_where (Refused r) words = []
+words_where (Ok tt) words = words
+words_where (Err r) words = []
 
 abbrev pub computed : List ℕ → List ℕ → List ℕ → Row
 computed net sheet words =

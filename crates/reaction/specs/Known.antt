@@ -1,6 +1,5 @@
 -- What is known after the checks, for the functions that come after them and for proofs. No promise cites it.
-use Rattle.std.specs.Prelude.{ℕ, ◌<◌, ◌≡◌, List}
-use Rattle.refusal.specs.declared.Verdict.TheVariants.{Accepted}
+use Rattle.std.specs.Prelude.{ℕ, ◌<◌, ◌≡◌, List, Ok}
 use Rattle.sequential.specs.Petri.{petri_net}
 use Rattle.sequential.specs.Check.{schedule_reply}
 use Rattle.reaction.specs.Loop.{NoLoop}
@@ -14,6 +13,6 @@ pub record DurationsPass (durations : List ℕ) (transitions : ℕ) : Type 0 whe
 
 -- 1 to 17, 26, 27, 32 and 33 refuse nothing
 pub record Passed (net sheet durations : List ℕ) : Type 0 where
-  pub accepted : schedule_reply net sheet ≡ Accepted
+  pub accepted : schedule_reply net sheet ≡ Ok tt
   pub durations_pass : DurationsPass durations (petri_net net).transitions
   pub ending : NoLoop (sheet_graph net sheet) (sheet_await net sheet)

@@ -85,14 +85,14 @@ module _ (size : ℕ) (at : ℕ → Position) (clauses : List Clause) (tests : T
 
 -- the tests of a check decide it
 unfoldable pub Decided : Check → Tests → Type 0
-Decided (once P number) [] = ⊥
-Decided (once P number) (f ∷ fails) = (f 0 ≡ false) ↔ P
+Decided (once P reason) [] = ⊥
+Decided (once P reason) (f ∷ fails) = (f 0 ≡ false) ↔ P
 Decided (each size at clauses) fails = (i : ℕ) → i < size → Decides clauses fails i
 
 check-says : (c : Check) (tests : Tests) → Decided c tests → Says (found_by c tests) (Passes c) (Fails c)
 unfolding Decided found_by
-check-says (once P number) [] d = absurd d
-check-says (once P number) (f ∷ fails) d = says-when (f 0) _ d
+check-says (once P reason) [] d = absurd d
+check-says (once P reason) (f ∷ fails) d = says-when (f 0) _ d
 check-says (each size at clauses) tests d = each-says size at clauses tests d
 
 -- ---- a list of checks

@@ -1,4 +1,7 @@
 -- Verdicts that follow a list of checks, one list after the other, and the numbers that they refuse by.
+use Rattle.std.specs.Prelude.{Err, Ok}
+use Rattle.refusal.specs.declared.Reason.{Reason}
+use Rattle.refusal.specs.Refusal.{reason_number, refusal_number, Verdict}
 use Rattle.scan.proofs.Basics.{ℕ, ◌≤◌, ◌<◌, arith, ◌≡◌, ap, ◌∙◌, ◌⊎◌, inl, inr, ⊎_elim, ◌↔◌, Bool, true, not, ◌&&◌, eqb, Option, List, [], ◌∷◌, ◌++◌}
 use Rattle.scan.proofs.Tests.{eqb-false, not-true, and_left, and_right, and_both}
 use Rattle.scan.specs.Scan.{or_else}
@@ -6,8 +9,6 @@ use Rattle.refusal.specs.Verdict.{verdict_of, and_then}
 use Rattle.refusal.specs.Checks.{Clause, Check, once, each, FailAt, Fails, AllPass, FirstFails}
 use Rattle.refusal.specs.declared.Position.{Position}
 use Rattle.refusal.specs.declared.Refusal.{Refusal}
-use Rattle.refusal.specs.declared.Verdict.{Verdict}
-use Rattle.refusal.specs.declared.Verdict.TheVariants.{Accepted, Refused}
 use Rattle.refusal.proofs.Verdicts.{answer-none, answer-some, then_next, then-refused, then-accepted, then-cases}
 use Rattle.refusal.proofs.Checks.{says_then, Tells}
 
@@ -40,8 +41,8 @@ tells-append a b cs ds s t =
 
 -- accepted exactly where all pass, refused exactly by the one that fails first
 pub record Judges (v : Verdict) (checks : List Check) : Type 0 where
-  pub accepts : (v ≡ Accepted) ↔ AllPass checks
-  pub refuses : (r : Refusal) → (v ≡ Refused r) ↔ FirstFails checks r
+  pub accepts : (v ≡ Ok tt) ↔ AllPass checks
+  pub refuses : (r : Refusal) → (v ≡ Err r) ↔ FirstFails checks r
 
 pub judges-found : (found : Option Refusal) (checks : List Check) → Tells found checks → Judges (verdict_of found) checks
 judges-found found checks t = record {
@@ -65,15 +66,15 @@ judges-then v w cs ds j k = record {
 -- ---- numbers
 
 -- neither the number of what is accepted nor that of scratch
-abbrev proper : ℕ → Bool
-proper n = not (eqb n 0) && not (eqb n 21)
+abbrev proper : Reason → Bool
+proper reason = not (eqb (reason_number reason) 0) && not (eqb (reason_number reason) 21)
 
 abbrev proper_at : List Clause → Bool
 proper_at [] = true
-proper_at (c ∷ cs) = proper c.number && proper_at cs
+proper_at (c ∷ cs) = proper c.reason && proper_at cs
 
 abbrev proper_by : Check → Bool
-proper_by (once P number) = proper number
+proper_by (once P reason) = proper reason
 proper_by (each size at clauses) = proper_at clauses
 
 abbrev pub properly : List Check → Bool
@@ -88,21 +89,22 @@ proper-append (c ∷ cs) ds p q =
 
 -- refused by a number from 1 on that is not 21
 abbrev pub Numbered : Refusal → Type 0
-Numbered r = (1 ≤ r.number) × (r.number ≡ 21 → ⊥)
+Numbered r = (1 ≤ refusal_number r) × (refusal_number r ≡ 21 → ⊥)
 
-proper-number : (n : ℕ) → proper n ≡ true → (1 ≤ n) × (n ≡ 21 → ⊥)
-proper-number n h =
+proper-number : (reason : Reason) → proper reason ≡ true → (1 ≤ reason_number reason) × (reason_number reason ≡ 21 → ⊥)
+proper-number reason h =
+    let n = reason_number reason in
     let z = eqb-false n 0 (not-true _ (and_left (not (eqb n 0)) (not (eqb n 21)) h)) in
     (omega arith, eqb-false n 21 (not-true _ (and_right (not (eqb n 0)) (not (eqb n 21)) h)))
 
 at-number : (at : ℕ → Position) (cs : List Clause) (i : ℕ) (r : Refusal) → proper_at cs ≡ true → FailAt at cs i r → Numbered r
 at-number at [] i r h b = absurd b
 at-number at (c ∷ cs) i r h f =
-    ⊎_elim (λ (n, e). rw e (proper-number c.number (and_left (proper c.number) (proper_at cs) h)))
-    (λ (p, g). at-number at cs i r (and_right (proper c.number) (proper_at cs) h) g) f
+    ⊎_elim (λ (n, e). rw e (proper-number c.reason (and_left (proper c.reason) (proper_at cs) h)))
+    (λ (p, g). at-number at cs i r (and_right (proper c.reason) (proper_at cs) h) g) f
 
 by_number : (c : Check) (r : Refusal) → proper_by c ≡ true → Fails c r → Numbered r
-by_number (once P number) r h (n, e) = rw e (proper-number number h)
+by_number (once P reason) r h (n, e) = rw e (proper-number reason h)
 by_number (each size at clauses) r h k = at-number at clauses k.index r h k.there
 
 pub fails-number : (cs : List Check) (r : Refusal) → properly cs ≡ true → FirstFails cs r → Numbered r
@@ -115,25 +117,25 @@ fails-number (c ∷ cs) r h f =
 -- each clause of that number holds
 abbrev SparedAt : ℕ → List Clause → ℕ → Type 0
 SparedAt k [] i = Unit
-SparedAt k (c ∷ cs) i = (c.number ≡ k → c.holds i) × SparedAt k cs i
+SparedAt k (c ∷ cs) i = (reason_number c.reason ≡ k → c.holds i) × SparedAt k cs i
 
 abbrev SparedBy : ℕ → Check → Type 0
-SparedBy k (once P number) = number ≡ k → P
+SparedBy k (once P reason) = reason_number reason ≡ k → P
 SparedBy k (each size at clauses) = (i : ℕ) → i < size → SparedAt k clauses i
 
 abbrev pub Spared : ℕ → List Check → Type 0
 Spared k [] = Unit
 Spared k (c ∷ cs) = SparedBy k c × Spared k cs
 
-at-spared : (k : ℕ) (at : ℕ → Position) (cs : List Clause) (i : ℕ) (r : Refusal) → SparedAt k cs i → FailAt at cs i r → r.number ≡ k → ⊥
+at-spared : (k : ℕ) (at : ℕ → Position) (cs : List Clause) (i : ℕ) (r : Refusal) → SparedAt k cs i → FailAt at cs i r → refusal_number r ≡ k → ⊥
 at-spared k at [] i r s b e = b
 at-spared k at (c ∷ cs) i r (h, s) f e = ⊎_elim (λ (n, q). n (h (rw q at e))) (λ (p, g). at-spared k at cs i r s g e) f
 
-by-spared : (k : ℕ) (c : Check) (r : Refusal) → SparedBy k c → Fails c r → r.number ≡ k → ⊥
-by-spared k (once P number) r s (n, q) e = n (s (rw q at e))
+by-spared : (k : ℕ) (c : Check) (r : Refusal) → SparedBy k c → Fails c r → refusal_number r ≡ k → ⊥
+by-spared k (once P reason) r s (n, q) e = n (s (rw q at e))
 by-spared k (each size at clauses) r s f e = at-spared k at clauses f.index r (s f.index f.within) f.there e
 
-pub spared-never : (k : ℕ) (cs : List Check) (r : Refusal) → Spared k cs → FirstFails cs r → r.number ≡ k → ⊥
+pub spared-never : (k : ℕ) (cs : List Check) (r : Refusal) → Spared k cs → FirstFails cs r → refusal_number r ≡ k → ⊥
 spared-never k [] r s b e = b
 spared-never k (c ∷ cs) r (h, s) f e = ⊎_elim (λ x. by-spared k c r h x e) (λ (p, g). spared-never k cs r s g e) f
 
@@ -144,10 +146,10 @@ spared-append k (c ∷ cs) ds (h, s) t = (h, spared-append k cs ds s t)
 -- as where no clause has that number
 abbrev without_at : ℕ → List Clause → Bool
 without_at k [] = true
-without_at k (c ∷ cs) = not (eqb c.number k) && without_at k cs
+without_at k (c ∷ cs) = not (eqb (reason_number c.reason) k) && without_at k cs
 
 abbrev without_by : ℕ → Check → Bool
-without_by k (once P number) = not (eqb number k)
+without_by k (once P reason) = not (eqb (reason_number reason) k)
 without_by k (each size at clauses) = without_at k clauses
 
 abbrev pub without : ℕ → List Check → Bool
@@ -157,12 +159,12 @@ without k (c ∷ cs) = without_by k c && without k cs
 without_at_lem : (k : ℕ) (cs : List Clause) (i : ℕ) → without_at k cs ≡ true → SparedAt k cs i
 without_at_lem k [] i h = tt
 without_at_lem k (c ∷ cs) i h = (
-  λ e. absurd (eqb-false _ _ (not-true _ (and_left (not (eqb c.number k)) (without_at k cs) h)) e),
-  without_at_lem k cs i (and_right (not (eqb c.number k)) (without_at k cs) h),
+  λ e. absurd (eqb-false _ _ (not-true _ (and_left (not (eqb (reason_number c.reason) k)) (without_at k cs) h)) e),
+  without_at_lem k cs i (and_right (not (eqb (reason_number c.reason) k)) (without_at k cs) h),
 )
 
 without-by : (k : ℕ) (c : Check) → without_by k c ≡ true → SparedBy k c
-without-by k (once P number) h = λ e. absurd (eqb-false number k (not-true _ h) e)
+without-by k (once P reason) h = λ e. absurd (eqb-false (reason_number reason) k (not-true _ h) e)
 without-by k (each size at clauses) h = λ i l. without_at_lem k clauses i h
 
 pub without-spared : (k : ℕ) (cs : List Check) → without k cs ≡ true → Spared k cs

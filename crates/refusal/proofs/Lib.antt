@@ -1,5 +1,7 @@
 -- one verdict
 pub mod Verdicts
+-- the numbers of reasons
+pub mod Reasons
 -- checks in an order
 pub mod Checks
 pub mod Judges

@@ -16,12 +16,12 @@ Tests = List (ℕ → Bool)
 unfoldable pub found_at : (ℕ → Position) → List Clause → Tests → ℕ → Option Refusal
 found_at at [] fails i = none
 found_at at (c ∷ cs) [] i = none
-found_at at (c ∷ []) (f ∷ fails) i = when (f i) (refusal c.number (at i))
-found_at at (c ∷ d ∷ cs) (f ∷ fails) i = or_else (when (f i) (refusal c.number (at i))) (found_at at (d ∷ cs) fails i)
+found_at at (c ∷ []) (f ∷ fails) i = when (f i) (refusal c.reason (at i))
+found_at at (c ∷ d ∷ cs) (f ∷ fails) i = or_else (when (f i) (refusal c.reason (at i))) (found_at at (d ∷ cs) fails i)
 
 unfoldable pub found_by : Check → Tests → Option Refusal
-found_by (once P number) [] = none
-found_by (once P number) (f ∷ fails) = when (f 0) (refusal number Nothing)
+found_by (once P reason) [] = none
+found_by (once P reason) (f ∷ fails) = when (f 0) (refusal reason Nothing)
 found_by (each size at clauses) fails = first (found_at at clauses fails) size
 
 unfoldable pub finding : List Check → List Tests → Option Refusal
@@ -34,7 +34,7 @@ finding (c ∷ d ∷ cs) (fails ∷ tests) = or_else (found_by c fails) (finding
 unfoldable pub line_finds : List Check → List Tests → ℕ → ℕ → Option Refusal
 line_finds [] tests k i = none
 line_finds (c ∷ cs) [] k i = none
-line_finds (once P number ∷ cs) (fails ∷ tests) zero i = found_by (once P number) fails
+line_finds (once P reason ∷ cs) (fails ∷ tests) zero i = found_by (once P reason) fails
 line_finds (each size at clauses ∷ cs) (fails ∷ tests) zero i = found_at at clauses fails i
 line_finds (c ∷ cs) (fails ∷ tests) (suc k) i = line_finds cs tests k i
 

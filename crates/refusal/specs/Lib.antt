@@ -3,3 +3,4 @@ pub mod Refusal
 pub mod Verdict
 pub mod Checks
 pub mod Finding
+pub mod Index

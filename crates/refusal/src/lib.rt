@@ -1,11 +1,12 @@
-// Refusals (§7.51), each with a number and a position; what a check answers; and both as plain numbers.
+// Refusals (§7.51), each with a reason, which has a number, and a position; what a check answers; and answers as plain numbers.
 #![tactic(auto)]
 
-ghost use Rattle.std.specs.Prelude.{◌≡◌};
-ghost use Rattle.refusal.specs.Refusal.{refusal, number_of, position_of, kind_of, index_of, plain_refusal, plain_verdict};
+ghost use Rattle.std.specs.Prelude.{ℕ, ◌≡◌, List, [], ◌∷◌, Err};
+ghost use Rattle.refusal.specs.Index.{plain_index};
+ghost use Rattle.refusal.specs.Refusal.{refusal, reason_number, number_of, position_of, kind_of, index_of, plain_refusal, plain_answer};
 
 // What a refusal's position counts, from 0: §7.52, and §7.53 for which number counts what.
-#[derive(Clone, Copy)]
+#[derive(Clone, Copy, Debug, PartialEq, Eq)]
 pub enum Position {
     Nothing,
     Entry(usize),
@@ -62,76 +63,68 @@ impl Limits {
     pub const SCRATCH: usize = 8192; // §1.6
 }
 
-// A refusal. Its position is an enum of the kinds, each with its index: §13.8.
-#[derive(Clone, Copy)]
+// Why a word, a schedule or a call is refused: each reason has the number of its clause, which is its discriminant, and the trade's word for it.
+#[derive(Clone, Copy, Debug, PartialEq, Eq)]
+pub enum Reason {
+    NetLength = 1, // §7.1, ragged net
+    NetSize = 2, // §7.2, net size
+    NetOrder = 3, // §7.3, net order
+    NetWeight = 4, // §7.4, net weight
+    NoSource = 5, // §7.5, no source
+    ScheduleLength = 6, // §7.6, ragged sheet
+    ScheduleSize = 7, // §7.7, sheet size
+    ScheduleOrder = 8, // §7.8, sheet order
+    ScheduleValue = 9, // §7.9, sheet value
+    WrongStart = 10, // §7.10, wrong start
+    NoArc = 11, // §7.11, dead end
+    NotOneChoiceSet = 12, // §7.12, torn choice
+    RootNotAwait = 13, // §7.13, busy root
+    NotHeld = 14, // §7.14, starved arc
+    WrongTarget = 15, // §7.15, wrong landing
+    NotReached = 16, // §7.16, stray node
+    NoPathToAwait = 17, // §7.17, no way home
+    NoSuchNode = 18, // §7.18, no such node
+    WrongCounts = 19, // §7.19, walker astray
+    NotOffered = 20, // §7.20, not offered
+    SmallScratch = 21, // §7.21, small scratch
+    SmallOutput = 22, // §7.22, small out
+    LogShape = 23, // §7.23, no record
+    WrongNode = 24, // §7.24, logged node differs
+    NoCountsFit = 25, // §7.25, no counts fit
+    StartOverCapacity = 26, // §7.26, overfull start
+    OverCapacity = 27, // §7.27, over capacity
+    WrongNumber = 28, // §7.28, wrong number of sheets
+    TooLarge = 29, // §7.29, too many
+    Dependent = 30, // §7.30, dependent
+    BrokenWord = 31, // §7.31, broken word
+    BadDuration = 32, // §7.32, bad duration
+    EndlessReaction = 33, // §7.33, endless reaction
+}
+
+impl Reason {
+    // Its number: §7.51.
+    pub fn number(self) -> u32
+        ensures { result ≡ reason_number self }
+    {
+        self as u32
+    }
+}
+
+// A refusal: why, and where. Its position is an enum of the kinds, each with its index: §13.8.
+#[derive(Clone, Copy, Debug, PartialEq, Eq)]
 pub struct Refusal {
-    pub number: u32,
+    pub reason: Reason,
     pub at: Position,
 }
 
-// The refusals by number, each with its clause and the trade's word for it.
 impl Refusal {
-    pub const NET_LENGTH: u32 = 1; // §7.1, ragged net
-
-    pub const NET_SIZE: u32 = 2; // §7.2, net size
-
-    pub const NET_ORDER: u32 = 3; // §7.3, net order
-
-    pub const NET_WEIGHT: u32 = 4; // §7.4, net weight
-
-    pub const NO_SOURCE: u32 = 5; // §7.5, no source
-
-    pub const SCHEDULE_LENGTH: u32 = 6; // §7.6, ragged sheet
-
-    pub const SCHEDULE_SIZE: u32 = 7; // §7.7, sheet size
-
-    pub const SCHEDULE_ORDER: u32 = 8; // §7.8, sheet order
-
-    pub const SCHEDULE_VALUE: u32 = 9; // §7.9, sheet value
-
-    pub const WRONG_START: u32 = 10; // §7.10, wrong start
-
-    pub const NO_ARC: u32 = 11; // §7.11, dead end
-
-    pub const NOT_ONE_CHOICE_SET: u32 = 12; // §7.12, torn choice
-
-    pub const ROOT_NOT_AWAIT: u32 = 13; // §7.13, busy root
-
-    pub const NOT_HELD: u32 = 14; // §7.14, starved arc
-
-    pub const WRONG_TARGET: u32 = 15; // §7.15, wrong landing
-
-    pub const NOT_REACHED: u32 = 16; // §7.16, stray node
-
-    pub const NO_PATH_TO_AWAIT: u32 = 17; // §7.17, no way home
-
-    pub const NO_SUCH_NODE: u32 = 18; // §7.18, no such node
-
-    pub const WRONG_COUNTS: u32 = 19; // §7.19, walker astray
-
-    pub const NOT_OFFERED: u32 = 20; // §7.20, not offered
-
-    pub const SMALL_SCRATCH: u32 = 21; // §7.21, small scratch
-
-    pub const SMALL_OUTPUT: u32 = 22; // §7.22, small out
-
-    pub const LOG_SHAPE: u32 = 23; // §7.23, no record
-
-    pub const WRONG_NODE: u32 = 24; // §7.24, logged node differs
-
-    pub const NO_COUNTS_FIT: u32 = 25; // §7.25, no counts fit
-
-    pub const START_OVER_CAPACITY: u32 = 26; // §7.26, overfull start
-
-    pub const OVER_CAPACITY: u32 = 27; // §7.27, over capacity
-
     // The plain numbers of a refused answer: §8.1, §8.3.
     pub fn plain(self) -> [u64; 6]
         ensures { result ≡ plain_refusal self }
     {
         let at = self.at;
         [
-            self.number as u64,
+            self.reason.number() as u64,
             at.kind() as u64,
             at.index() as u64,
             0,
@@ -142,47 +135,80 @@ impl Refusal {
 }
 
 // What a check without numbers of its own answers.
-#[derive(Clone, Copy)]
-pub enum Verdict {
-    Accepted,
-    Refused(Refusal),
-}
+pub type Verdict = Result<(), Refusal>;
 
-impl Verdict {
-    // The refusal's number, or 0: §7.51.
-    pub fn number(self) -> u32
-        ensures { result ≡ number_of self }
-    {
-        match self {
-            Verdict::Accepted => 0,
-            Verdict::Refused(r) => r.number,
-        }
-    }
-
-    // The refusal's position, or `Nothing` if accepted: §7.51.
-    pub fn at(self) -> Position
-        ensures { result ≡ position_of self }
-    {
-        match self {
-            Verdict::Accepted => Position::Nothing,
-            Verdict::Refused(r) => r.at,
-        }
-    }
-
-    // The plain numbers of a call that has none of its own: §8.1, §8.4.
-    pub fn plain(self) -> [u64; 6]
-        ensures { result ≡ plain_verdict self }
-    {
-        match self {
-            Verdict::Accepted => [0u64, 0, 0, 0, 0, 0],
-            Verdict::Refused(r) => r.plain(),
-        }
-    }
-}
-
-// Refused by a number at a position.
-pub fn refuse(number: u32, at: Position) -> Verdict
-    ensures { result ≡ Verdict.Refused (refusal number at) }
+// Refused for a reason at a position.
+pub fn refuse(reason: Reason, at: Position) -> Verdict
+    ensures { result ≡ Err (refusal reason at) }
 {
-    Verdict::Refused(Refusal { number, at })
+    Err(Refusal { reason, at })
+}
+
+// A verdict's number, 0 if accepted: §7.51.
+pub fn number(verdict: Verdict) -> u32
+    ensures { result ≡ number_of verdict }
+{
+    match verdict {
+        Ok(()) => 0,
+        Err(r) => r.reason.number(),
+    }
+}
+
+// A verdict's position, `Nothing` if accepted: §7.51.
+pub fn at(verdict: Verdict) -> Position
+    ensures { result ≡ position_of verdict }
+{
+    match verdict {
+        Ok(()) => Position::Nothing,
+        Err(r) => r.at,
+    }
+}
+
+// What an accepted call tells besides: three numbers of its own, 0 where it has fewer (§8.1, §8.4).
+pub trait Numbers {
+    ghost numbers: { Self → List ℕ };
+
+    fn numbers(self) -> [u64; 3]
+        ensures { result ≡ numbers self };
+}
+
+// A call without numbers of its own.
+impl Numbers for () {
+    ghost numbers = { λ _. 0 ∷ 0 ∷ 0 ∷ [] };
+
+    fn numbers(self) -> [u64; 3] {
+        [0u64, 0, 0]
+    }
+}
+
+// A call that tells how many words it wrote.
+impl Numbers for usize {
+    ghost numbers = { λ n. n ∷ 0 ∷ 0 ∷ [] };
+
+    fn numbers(self) -> [u64; 3] {
+        [self as u64, 0, 0]
+    }
+}
+
+// The plain numbers of an answer: 0 three times and then the call's own, or those of its refusal (§8.1, §8.3).
+pub fn plain<A: Numbers>(answer: Result<A, Refusal>) -> [u64; 6]
+    ensures { result ≡ plain_answer A.numbers answer }
+{
+    match answer {
+        Ok(accepted) => {
+            let own = accepted.numbers();
+            [0u64, 0, 0, own[0], own[1], own[2]]
+        }
+        Err(r) => r.plain(),
+    }
+}
+
+// The plain number of a number that can be missing, as an entry's index or a capacity: §8.4.
+pub fn plain_index(index: Option<u32>) -> u64
+    ensures { result ≡ plain_index index }
+{
+    match index {
+        Some(i) => i as u64 + 1,
+        None => 0,
+    }
 }

@@ -1,22 +1,19 @@
 -- Following a log turn by turn: what is known after i firings, one firing more, and the firings at which it ends.
+use Rattle.std.specs.Prelude.{Err, None, Ok, Some}
+use Rattle.refusal.specs.declared.Reason.TheVariants.{NotOffered, WrongNode}
 use Rattle.scan.proofs.Basics.{ℕ, ◌+◌, ◌≤◌, ◌<◌, add-one, arith, ◌≡◌, refl, sym, ap, ◌∙◌, none, some, List, length, get_or}
 use Rattle.scan.proofs.Tabulate.{tabulate-length, tabulate-at}
 use Rattle.scan.specs.Scan.{first}
 use Rattle.scan.proofs.First.{first-none, first_more, first-hit}
-use Rattle.table.specs.declared.Found.TheVariants.{At, Nothing}
 use Rattle.refusal.specs.Refusal.{refusal}
 use Rattle.refusal.specs.Verdict.{verdict_of}
+use Rattle.refusal.specs.declared.Reason.{Reason}
 use Rattle.refusal.specs.declared.Position.TheVariants.{Record}
-use Rattle.refusal.specs.declared.Verdict.{Verdict}
-use Rattle.refusal.specs.declared.Verdict.TheVariants.{Accepted, Refused}
-use Rattle.refusal.proofs.Verdicts.{accepted-refused}
 use Rattle.sequential.specs.Petri.{petri_net}
 use Rattle.sequential.specs.Words.{entry_value, arc_entry}
 use Rattle.graph.specs.Readable.{ArcsReadable}
 use Rattle.graph.specs.LookUp.{arc_look_up}
-use Rattle.lending.specs.Index.{index_from}
-use Rattle.lending.specs.declared.Index.{Index}
-use Rattle.lending.specs.declared.Index.TheVariants.{Known, Missing}
+use Rattle.refusal.specs.Index.{index_from, Index}
 use Rattle.schedule.specs.Firing.{node_after, entry_after}
 use Rattle.schedule.proofs.Walks.{entry-fits, after_none, after_more, entry-none, entry_more}
 use Rattle.graph.proofs.LookUp.{arc-found, arc-missing}
@@ -48,7 +45,7 @@ pub record Along (net sheet log : List ℕ) (n node : ℕ) (entry : Index) (i : 
   pub as_run : node ≡ node_after (petri_net net) sheet (firings log) i
   pub by-entry : entry ≡ index_from (entry_after (petri_net net) sheet (firings log) i)
 
-pub sets-out : {net sheet log : List ℕ} → ArcsReadable net sheet → LogHolds log → Along net sheet log (get_or log 0 0) 0 Missing 0
+pub sets-out : {net sheet log : List ℕ} → ArcsReadable net sheet → LogHolds log → Along net sheet log (get_or log 0 0) 0 None 0
 unfolding firing_count
 sets-out {net = net} {sheet = sheet} {log = log} r h = record {
   readable = r;
@@ -63,27 +60,26 @@ sets-out {net = net} {sheet = sheet} {log = log} r h = record {
 
 module _ {net sheet log : List ℕ} {n node : ℕ} {entry : Index} {i : ℕ} (w : Along net sheet log n node entry i) where
   -- all are passed
-  pub arrives : n ≤ i → LogFollowed (petri_net net) sheet log Accepted entry
+  pub arrives : n ≤ i → LogFollowed (petri_net net) sheet log (Ok entry)
   arrives l =
       let q : i ≡ firing_count log = omega (arith, w.all, w.within) in
       record {
         reply = ap verdict_of (sym (rw q at w.passed));
-        entry = λ h. w.by-entry ∙ ap (λ (x : ℕ). index_from (entry_after (petri_net net) sheet (firings log) x)) (q ∙ sym (firings-long log));
+        entry = λ e h. let same : entry ≡ e = cc h in sym same ∙ w.by-entry ∙ ap (λ (x : ℕ). index_from (entry_after (petri_net net) sheet (firings log) x)) (q ∙ sym (firings-long log));
       }
 
   module _ (l : i < n) where
-    stopped : {v : Verdict} (number : ℕ) → firing_fault (petri_net net) sheet log i ≡ some (refusal number (Record i)) → v ≡ Refused (refusal number (Record i))
-        → LogFollowed (petri_net net) sheet log v entry
-    stopped number f e = record {
-      reply = e ∙ ap verdict_of (sym (first-hit _ i _ w.passed f (firing_count log) (omega (arith, w.all))));
-      entry = λ h. accepted-refused _ _ h e;
+    stopped : (reason : Reason) → firing_fault (petri_net net) sheet log i ≡ some (refusal reason (Record i))
+        → LogFollowed (petri_net net) sheet log (Err (refusal reason (Record i)))
+    stopped reason f = record {
+      reply = ap verdict_of (sym (first-hit _ i _ w.passed f (firing_count log) (omega (arith, w.all))));
+      entry = λ e h. cc h;
     }
 
-    pub not-offered : {v : Verdict} → arc_look_up net sheet node (get_or log (1 + i) 0) ≡ Nothing → v ≡ Refused (refusal 20 (Record i))
-        → LogFollowed (petri_net net) sheet log v entry
-    not-offered h = stopped 20 (firing-stops (petri_net net) sheet log i node w.at_node (unfold fired_at in (arc-missing net sheet w.readable node _ h)))
+    pub not-offered : arc_look_up net sheet node (get_or log (1 + i) 0) ≡ None → LogFollowed (petri_net net) sheet log (Err (refusal NotOffered (Record i)))
+    not-offered h = stopped NotOffered (firing-stops (petri_net net) sheet log i node w.at_node (unfold fired_at in (arc-missing net sheet w.readable node _ h)))
 
-    module _ {k m : ℕ} (h : arc_look_up net sheet node (get_or log (1 + i) 0) ≡ At k) (e : m ≡ entry_value sheet k) where
+    module _ {k m : ℕ} (h : arc_look_up net sheet node (get_or log (1 + i) 0) ≡ Some k) (e : m ≡ entry_value sheet k) where
       its-entry : arc_entry (petri_net net) sheet node (fired_at log i) ≡ some k
       unfolding fired_at
       its-entry = arc-found net sheet w.readable node _ k h
@@ -98,11 +94,10 @@ module _ {net sheet log : List ℕ} {n node : ℕ} {entry : Index} {i : ℕ} (w 
       unfolding logged_at
       logged = ap (λ (x : ℕ). get_or log (1 + x + i) 0) w.all
 
-      pub other-node : {v : Verdict} → (get_or log (1 + n + i) 0 ≡ m → ⊥) → v ≡ Refused (refusal 24 (Record i))
-          → LogFollowed (petri_net net) sheet log v entry
-      other-node d = stopped 24 (node-differs (petri_net net) sheet log i node w.at_node k its-entry (λ q. d (logged ∙ q ∙ sym e)))
+      pub other-node : (get_or log (1 + n + i) 0 ≡ m → ⊥) → LogFollowed (petri_net net) sheet log (Err (refusal WrongNode (Record i)))
+      other-node d = stopped WrongNode (node-differs (petri_net net) sheet log i node w.at_node k its-entry (λ q. d (logged ∙ q ∙ sym e)))
 
-      pub goes_on : get_or log (1 + n + i) 0 ≡ m → Along net sheet log n m (Known k) (i + 1)
+      pub goes_on : get_or log (1 + n + i) 0 ≡ m → Along net sheet log n m (Some k) (i + 1)
       goes_on q = record {
         readable = w.readable;
         holds = w.holds;

@@ -1,4 +1,5 @@
 -- The tests of a log decide its clauses: 23, and 20 and 24 at each firing. And one firing more, or the firing at which the replay stops.
+use Rattle.refusal.specs.declared.Reason.TheVariants.{LogShape, NotOffered, WrongNode}
 use Rattle.scan.proofs.Basics.{ℕ, suc, ◌+◌, ◌*◌, ◌≤◌, ◌<◌, arith, ◌≡◌, refl, sym, ap, ◌∙◌, inl, inr, ◌↔◌, true, false, not, eqb, Option, none, some, List, length}
 use Rattle.scan.proofs.Tests.{ltb-false, le-ltb, eqb-true, eq-eqb, ne_eqb, not-false, decides_not}
 use Rattle.scan.specs.Scan.{or_else, found, found_or, first, tabulate}
@@ -29,14 +30,14 @@ module _ (log : List ℕ) where
   unfolding log_fault
   log-tells = finding-tells Unit (log_checks log) (log_tests log) log-lawful tt
 
-  pub no_word : length log < 1 → log_fault log ≡ some (refusal 23 Nothing)
+  pub no_word : length log < 1 → log_fault log ≡ some (refusal LogShape Nothing)
   no_word l = (log-tells.fails _).1 (inl (λ p. omega arith, refl))
 
-  pub too_many_lem : 1 ≤ length log → most_firings < firing_count log → log_fault log ≡ some (refusal 23 Nothing)
+  pub too_many_lem : 1 ≤ length log → most_firings < firing_count log → log_fault log ≡ some (refusal LogShape Nothing)
   too_many_lem a l = (log-tells.fails _).1 (inr (a, inl (λ p. omega arith, refl)))
 
   module _ (a : 1 ≤ length log) (b : firing_count log ≤ most_firings) where
-    pub other_length : (length log ≡ 1 + 2 * firing_count log → ⊥) → log_fault log ≡ some (refusal 23 Nothing)
+    pub other_length : (length log ≡ 1 + 2 * firing_count log → ⊥) → log_fault log ≡ some (refusal LogShape Nothing)
     other_length d = (log-tells.fails _).1 (inr (a, inr (b, inl (d, refl))))
 
     pub log_passes : length log ≡ 1 + 2 * firing_count log → log_fault log ≡ none
@@ -80,7 +81,7 @@ module _ (N : PetriNet) (sheet log : List ℕ) where
     unfolding firings_to tabulate
     leads-next = follow-snoc (graph N sheet) (firings_to log i) 0 n (fired_at log i) e
 
-    pub firing-stops : arc_entry N sheet n (fired_at log i) ≡ none → firing_fault N sheet log i ≡ some (refusal 20 (Record i))
+    pub firing-stops : arc_entry N sheet n (fired_at log i) ≡ none → firing_fault N sheet log i ≡ some (refusal NotOffered (Record i))
     unfolding firing_fault line_finds found_at allows found
     firing-stops h = or_else-hit _ _ _ (when-hit _ _ (ap (λ (o : Option ℕ). not (found o)) (leads-next ∙ entry-stays N sheet n (fired_at log i) h)))
 
@@ -92,7 +93,7 @@ module _ (N : PetriNet) (sheet log : List ℕ) where
       unfolding allows found
       offered = ap (λ (o : Option ℕ). not (found o)) leads-more
 
-      pub node-differs : (logged_at log i ≡ entry_value sheet k → ⊥) → firing_fault N sheet log i ≡ some (refusal 24 (Record i))
+      pub node-differs : (logged_at log i ≡ entry_value sheet k → ⊥) → firing_fault N sheet log i ≡ some (refusal WrongNode (Record i))
       unfolding firing_fault line_finds found_at other_node
       node-differs d = or_else-next _ _ (when-miss _ _ offered) ∙ when-hit _ _ (rw leads-more (ap not (ne_eqb _ _ d)))
 

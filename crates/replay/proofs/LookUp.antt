@@ -1,4 +1,5 @@
 -- The look-up of a firing's arc: a guess whose key is the arc's is its entry, and what is looked up lies in the node's row.
+use Rattle.std.specs.Prelude.{None, Some}
 use Rattle.scan.proofs.Basics.{ℕ, ◌+◌, ◌*◌, ◌≤◌, ◌<◌, arith, ◌≡◌, refl, sym, ap, ◌∙◌, some, List, get_or, set, replicate, length-set, get_or-set_same, get_or-set_other}
 use native.Mathlib.Decide.{dec_lt}
 use native.Mathlib.Nat.{mul-le-mul}
@@ -6,7 +7,6 @@ use lib.ListN.{get_or-replicate}
 use Rattle.scan.proofs.Tests.{lt-ltb, le-ltb}
 use Rattle.table.specs.Table.{key_at}
 use Rattle.table.specs.Bisection.{found_of}
-use Rattle.table.specs.declared.Found.TheVariants.{At, Nothing}
 use Rattle.table.proofs.Table.{entry_at}
 use Rattle.net.specs.Net.{transition_count}
 use Rattle.sequential.specs.Petri.{petri_net}
@@ -45,13 +45,13 @@ module _ {net sheet keys starts : List ℕ} {transitions node : ℕ} (w : LooksU
   start-low = bound-low w.readable (arcs_start net node) (w.starts_are.start node w.at_node)
 
   module _ (t : ℕ) where
-    pub no-transition : transitions ≤ t → Nothing ≡ arc_look_up net sheet node t
+    pub no-transition : transitions ≤ t → None ≡ arc_look_up net sheet node t
     unfolding arc_look_up
     no-transition l = rw (le-ltb t (transition_count net) (omega (arith, w.all)))
 
     -- ---- the guess
 
-    pub guess-hit : {guess : ℕ} → t < transitions → guess < get_or sheet 1 0 → get_or sheet (2 + guess) 0 ≡ get_or keys node 0 + t → At guess ≡ arc_look_up net sheet node t
+    pub guess-hit : {guess : ℕ} → t < transitions → guess < get_or sheet 1 0 → get_or sheet (2 + guess) 0 ≡ get_or keys node 0 + t → Some guess ≡ arc_look_up net sheet node t
     unfolding arc_entry entry_with_key key_at
     guess-hit {guess} l m e =
         let k : get_or sheet (2 + guess) 0 ≡ node * transition_count net + t = omega (arith, e, w.keys_are.key node w.at_node, first_key_lem) in
@@ -62,7 +62,7 @@ module _ {net sheet keys starts : List ℕ} {transitions node : ℕ} (w : LooksU
 
     -- ---- what is looked up
 
-    pub in_row : {e : ℕ} → arc_look_up net sheet node t ≡ At e → (get_or starts node 0 ≤ e) × (e ≤ 4096)
+    pub in_row : {e : ℕ} → arc_look_up net sheet node t ≡ Some e → (get_or starts node 0 ≤ e) × (e ≤ 4096)
     unfolding entry_key
     in_row {e} h =
         let (l, k) = entry_key_lem (petri_net net) sheet node t e (arc-found net sheet w.readable node t e h) in
@@ -73,7 +73,7 @@ module _ {net sheet keys starts : List ℕ} {transitions node : ℕ} (w : LooksU
         )
 
     -- it is there, and leads to a node
-    module _ {e : ℕ} (h : arc_look_up net sheet node t ≡ At e) where
+    module _ {e : ℕ} (h : arc_look_up net sheet node t ≡ Some e) where
       pub entry-there : EntryThere sheet e
       entry-there = record { whole = w.readable.sizes.long; there = (entry_key_lem (petri_net net) sheet node t e (arc-found net sheet w.readable node t e h)).0 }
 

@@ -1,17 +1,16 @@
 -- A log that passes is a run: each node that it names is where its firings lead, and what they take and put balances at every place.
+use Rattle.std.specs.Prelude.{Ok, Some}
 use Rattle.scan.proofs.Basics.{ℕ, zero, suc, ◌+◌, ◌-◌, ◌≤◌, ◌<◌, arith, ◌≡◌, sym, ap, ◌∙◌, none, some, List, get_or}
 use Rattle.scan.specs.Scan.{sum}
 use Rattle.scan.proofs.Tabulate.{tabulate-at, take-tabulate}
 use Rattle.automaton.specs.Automaton.{follow}
 use Rattle.automaton.proofs.Automaton.{same_target, arc-transition, follow-lands, follow-allows}
 use Rattle.refusal.specs.Checks.{AllPass}
-use Rattle.refusal.specs.declared.Verdict.TheVariants.{Accepted}
 use Rattle.refusal.proofs.Verdicts.{answer-none, then-accepted}
 use Rattle.sequential.specs.Petri.{petri_net, initial, fired_count, fire}
 use Rattle.sequential.specs.Words.{node_count, entry_value, arc_entry, arc, marking, graph}
 use Rattle.sequential.specs.Check.{schedule_reply}
 use Rattle.sequential.proofs.Accepted.{accepts, closed}
-use Rattle.lending.specs.declared.Index.TheVariants.{Known}
 use Rattle.schedule.specs.Firing.{node_after, last_entry, run_fault}
 use Rattle.schedule.proofs.Following.{run-allowed, run-leads, last-firing}
 use Rattle.replay.specs.Log.{firing_count, fired_at, logged_at, firings_to, firings, moved_by, moved}
@@ -26,8 +25,8 @@ stood_at : List ℕ → ℕ → ℕ
 stood_at log zero = 0
 stood_at log (suc i) = logged_at log i
 
-module _ (net sheet log : List ℕ) (ok : replay_verdict net sheet log ≡ Accepted) where
-  pub passed-sheet : schedule_reply net sheet ≡ Accepted
+module _ (net sheet log : List ℕ) (ok : replay_verdict net sheet log ≡ Ok tt) where
+  pub passed-sheet : schedule_reply net sheet ≡ Ok tt
   unfolding replay_verdict
   passed-sheet = (then-accepted (schedule_reply net sheet) _ ok).0
 
@@ -60,7 +59,7 @@ module _ (net sheet log : List ℕ) (ok : replay_verdict net sheet log ≡ Accep
   pub record LastOfLog (i n k : ℕ) : Type 0 where
     pub before : leads (petri_net net) sheet log i ≡ some n
     pub entry : arc_entry (petri_net net) sheet n (fired_at log i) ≡ some k
-    pub named : last_entry (petri_net net) sheet (firings log) ≡ Known k
+    pub named : last_entry (petri_net net) sheet (firings log) ≡ Some k
     pub lands : entry_value sheet k ≡ logged_at log i
 
   pub last-of-log : (i : ℕ) → firing_count log ≡ suc i → (n : ℕ) × (k : ℕ) × LastOfLog i n k

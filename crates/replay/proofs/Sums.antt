@@ -1,4 +1,5 @@
 -- The sum over the firings of a log is the sum over the transitions, each as often as it fires. And how great such sums can be.
+use Rattle.std.specs.Prelude.{Ok}
 use Rattle.scan.proofs.Basics.{ℕ, zero, suc, ◌+◌, ◌*◌, ◌≤◌, ◌<◌, arith, ◌≡◌, refl, sym, ap, ◌∙◌, ⊎_elim, Bool, true, false, cond, eqb, List, length, get_or, set, replicate}
 use Prim.Native.Nat.{zero-le}
 use native.Mathlib.Nat.{add-mul, mul-le-mul, suc-mul, zero-mul, one-mul}
@@ -9,7 +10,6 @@ use Rattle.scan.proofs.Sum.{sum_more, sum-ext, sum-plus, sum_zeros}
 use Rattle.scan.proofs.Count.{count-more, count-le}
 use Rattle.scan.proofs.Tabulate.{tabulate-at, tabulate-ext}
 use Rattle.refusal.specs.Limits.{most_firings, most_count}
-use Rattle.refusal.specs.declared.Verdict.TheVariants.{Accepted}
 use Rattle.net.specs.Check.{net_reply}
 use Rattle.net.specs.Accessors.{taken_row_reply, put_row_reply}
 use Rattle.net.proofs.Laws.{accessors, taken_most, put_most}
@@ -117,7 +117,7 @@ module _ (moves : ℕ → ℕ → ℕ) (parikh : List ℕ) where
 
 -- ---- the rows of the net
 
-module _ (net : List ℕ) (accepted : net_reply net ≡ Accepted) where
+module _ (net : List ℕ) (accepted : net_reply net ≡ Ok tt) where
   pub side-most : (putting : Bool) (t p : ℕ) → side_of (petri_net net) putting t p ≤ most_count
   side-most true t p = put_most net accepted t p
   side-most false t p = taken_most net accepted t p

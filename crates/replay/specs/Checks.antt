@@ -1,4 +1,5 @@
 -- The checks of a log in their order (§7.60), each with its clause and its number.
+use Rattle.refusal.specs.declared.Reason.TheVariants.{LogShape, NotOffered, WrongNode}
 use Rattle.std.specs.Prelude.{ℕ, suc, ◌+◌, ◌*◌, ◌≤◌, ◌≡◌, true, List, [], ◌∷◌, ◌++◌, length}
 use Rattle.std.proofs.Math.Option.{Option, some}
 use Rattle.automaton.specs.Automaton.{follow, allows}
@@ -12,9 +13,9 @@ use Rattle.replay.specs.Log.{firing_count, logged_at, firings_to}
 -- §7.23
 abbrev pub log_checks : List ℕ → List Check
 log_checks log =
-    once (1 ≤ length log) 23
-    ∷ once (firing_count log ≤ most_firings) 23
-    ∷ once (length log ≡ 1 + 2 * firing_count log) 23
+    once (1 ≤ length log) LogShape
+    ∷ once (firing_count log ≤ most_firings) LogShape
+    ∷ once (length log ≡ 1 + 2 * firing_count log) LogShape
     ∷ []
 
 module _ (N : PetriNet) (sheet log : List ℕ) where
@@ -32,4 +33,4 @@ module _ (N : PetriNet) (sheet log : List ℕ) where
 
   -- both checks at each firing in turn, with its index as the position: §7.61
   abbrev pub replay_checks : List Check
-  replay_checks = log_checks log ++ (each (firing_count log) Record (FiringOffered else 20 ∷ NodeReached else 24 ∷ []) ∷ [])
+  replay_checks = log_checks log ++ (each (firing_count log) Record (FiringOffered else NotOffered ∷ NodeReached else WrongNode ∷ []) ∷ [])

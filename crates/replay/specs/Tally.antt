@@ -1,8 +1,7 @@
 -- How often each transition fires, and what that moves at each place. No contract of a public function cites it.
-use Rattle.std.specs.Prelude.{ℕ, ◌+◌, ◌*◌, ◌≤◌, ◌<◌, ◌≡◌, List, ◌++◌, Bool, true, false, length, get_or, drop, eqb}
+use Rattle.std.specs.Prelude.{ℕ, ◌+◌, ◌*◌, ◌≤◌, ◌<◌, ◌≡◌, List, ◌++◌, Bool, true, false, length, get_or, drop, eqb, Ok}
 use Rattle.scan.specs.Scan.{count, sum, tabulate}
 use Rattle.refusal.specs.Limits.{most_firings}
-use Rattle.refusal.specs.declared.Verdict.TheVariants.{Accepted}
 use Rattle.net.specs.Net.{place_count, transition_count}
 use Rattle.net.specs.Check.{net_reply}
 use Rattle.sequential.specs.Petri.{PetriNet, petri_net}
@@ -48,13 +47,13 @@ AtMost most row = (p : ℕ) → p < 32 → get_or row p 0 ≤ most
 
 -- what adding up both sides relies on: a net, and a log whose firings are transitions of the net
 pub record Countable (net log : List ℕ) : Type 0 where
-  pub accepted : net_reply net ≡ Accepted
+  pub accepted : net_reply net ≡ Ok tt
   pub holds : LogHolds log
   pub low : (i : ℕ) → i < firing_count log → fired_at log i < transition_count net
 
 -- what adding up one side relies on: a net, and how often each transition fires, at most 4,096 times
 pub record Weighable (net parikh : List ℕ) : Type 0 where
-  pub accepted : net_reply net ≡ Accepted
+  pub accepted : net_reply net ≡ Ok tt
   pub most : AtMost 4096 parikh
 
 -- both buffers have room for a number for each place

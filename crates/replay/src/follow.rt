@@ -5,22 +5,13 @@ ghost use Rattle.replay.specs.Calls.{LogFollowed};
 ghost use Rattle.replay.specs.Tally.{LogHolds};
 
 use super::look_up;
-use lending::Index;
-use refusal::{Position, Refusal, Verdict};
-use table::Found;
+use refusal::{Position, Reason, Refusal};
 
-// The verdict, and the entry of the last arc if it is accepted.
-#[derive(Clone, Copy)]
-pub(crate) struct Findings {
-    pub verdict: Verdict,
-    pub entry: Index,
-}
-
-// Refusals 20 and 24, firing by firing: §7.60.
-pub(crate) fn followed(net: &[u32], sheet: &[u32], log: &[u32]) -> Findings
+// Refusals 20 and 24, firing by firing (§7.60), or the entry of the last arc.
+pub(crate) fn followed(net: &[u32], sheet: &[u32], log: &[u32]) -> Result<Option<u32>, Refusal>
     requires arcs_readable { ArcsReadable net.now sheet.now }
     requires log_holds { LogHolds log.now }
-    ensures { LogFollowed (petri_net net.now) sheet.now log.now result.verdict result.entry }
+    ensures { LogFollowed (petri_net net.now) sheet.now log.now result }
 {
     let n = log[0] as usize;
     let transitions = net::transitions(net);
@@ -28,11 +19,10 @@ pub(crate) fn followed(net: &[u32], sheet: &[u32], log: &[u32]) -> Findings
     let starts = look_up::arc_starts(net, sheet, &keys);
     let mut ranks = [0u16; 32];
     let mut node = 0;
-    let mut entry = Index::Missing;
-    let mut i = 0;
-    while i < n {
+    let mut entry = None;
+    for i in 0..n {
         let logged = log[1 + n + i];
-        match look_up::arc(
+        let Some(e) = look_up::arc(
             net,
             sheet,
             &keys,
@@ -41,29 +31,21 @@ pub(crate) fn followed(net: &[u32], sheet: &[u32], log: &[u32]) -> Findings
             transitions,
             node,
             log[1 + i],
-        ) {
-            Found::Nothing => {
-                return Findings {
-                    verdict: refusal::refuse(Refusal::NOT_OFFERED, Position::Record(i)),
-                    entry,
-                };
-            }
-            Found::At(e) => {
-                if logged != look_up::arc_target(sheet, e) {
-                    return Findings {
-                        verdict: refusal::refuse(Refusal::WRONG_NODE, Position::Record(i)),
-                        entry,
-                    };
-                }
-                // The logged node is the one that was reached. It is taken from the log: the processor can go on with it while the comparison is still under way.
-                node = logged;
-                entry = Index::Known(e as u32);
-                i += 1;
-            }
+        ) else {
+            return Err(Refusal {
+                reason: Reason::NotOffered,
+                at: Position::Record(i),
+            });
+        };
+        if logged != look_up::arc_target(sheet, e) {
+            return Err(Refusal {
+                reason: Reason::WrongNode,
+                at: Position::Record(i),
+            });
         }
+        // The logged node is the one that was reached. It is taken from the log: the processor can go on with it while the comparison is still under way.
+        node = logged;
+        entry = Some(e as u32);
     }
-    Findings {
-        verdict: Verdict::Accepted,
-        entry,
-    }
+    Ok(entry)
 }

@@ -6,8 +6,6 @@ ghost use Rattle.graph.specs.LookUp.{arc_look_up};
 ghost use Rattle.sequential.specs.Words.{entry_value};
 ghost use Rattle.replay.specs.LookUp.{FirstKeys, ArcStarts, LooksUp, Ranks, EntryThere};
 
-use table::Found;
-
 // The key at which the row of each node's arcs begins, as the page of row starts has it (§3.9).
 pub(crate) fn first_keys(net: &[u32], sheet: &[u32]) -> [u16; 128]
     requires { ArcsReadable net.now sheet.now }
@@ -15,11 +13,9 @@ pub(crate) fn first_keys(net: &[u32], sheet: &[u32]) -> [u16; 128]
 {
     let nodes = sheet[0];
     let mut keys = [0u16; 128];
-    let mut n = 0;
-    while n < nodes {
+    for n in 0..nodes {
         let first = graph::arcs_start(net, n);
         keys[n as usize] = first as u16;
-        n += 1;
     }
     keys
 }
@@ -33,11 +29,9 @@ pub(crate) fn arc_starts(net: &[u32], sheet: &[u32], keys: &[u16; 128]) -> [u16;
     let nodes = sheet[0];
     let entries = sheet[1] as usize;
     let mut starts = [0u16; 128];
-    let mut n = 0;
-    while n < nodes {
+    for n in 0..nodes {
         let start = table::lower_bound(sheet, 2, entries, keys[n as usize] as u32);
         starts[n as usize] = start as u16;
-        n += 1;
     }
     starts
 }
@@ -52,24 +46,24 @@ pub(crate) fn arc(
     transitions: u32,
     node: u32,
     t: u32,
-) -> Found
+) -> Option<usize>
     requires looks_up { LooksUp net.now sheet.now keys.now starts.now transitions node }
     requires ranks { Ranks ranks.old }
     ensures { (result ≡ arc_look_up net.now sheet.now node t) × Ranks ranks.new }
 {
     // t is no transition, so no node offers it: §3.7
     if transitions <= t {
-        return Found::Nothing;
+        return None;
     }
     let start = starts[node as usize] as usize;
     let guess = start + ranks[t as usize] as usize;
     if guess < sheet[1] as usize {
         if sheet[2 + guess] == keys[node as usize] as u32 + t {
-            return Found::At(guess);
+            return Some(guess);
         }
     }
     let found = graph::arc(net, sheet, node, t);
-    if let Found::At(e) = found {
+    if let Some(e) = found {
         ranks[t as usize] = (e - start) as u16;
     }
     found

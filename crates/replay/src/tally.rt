@@ -1,7 +1,6 @@
 // What a log moves: for each transition, how often it fires times its row of weights.
-ghost use Rattle.std.specs.Prelude.{◌≡◌, cond, ℕ, ◌≤◌, ◌<◌, length, take};
+ghost use Rattle.std.specs.Prelude.{◌≡◌, cond, ℕ, ◌≤◌, ◌<◌, length};
 ghost use Rattle.scan.specs.Scan.{tabulate, sum};
-ghost use Rattle.scan.specs.Placed.{placed};
 ghost use Rattle.net.specs.Net.{place_count, transition_count};
 ghost use Rattle.net.specs.Accessors.{taken_row_reply, put_row_reply};
 ghost use Rattle.sequential.specs.Petri.{petri_net};
@@ -18,11 +17,9 @@ fn fired_times(log: &[u32]) -> [u32; 32]
 {
     let n = log[0] as usize;
     let mut parikh = [0u32; 32];
-    let mut i = 0;
-    while i < n {
+    for i in 0..n {
         let t = log[1 + i] as usize;
         parikh[t] += 1;
-        i += 1;
     }
     parikh
 }
@@ -37,12 +34,6 @@ fn row_of(net: &[u32], t: u32, putting: bool) -> [u32; 32]
     net::taken_row(net, t)
 }
 
-fn wide(x: u32) -> u64
-    ensures { (result ≡ x) × (result ≤ 4294967295) }
-{
-    x as u64
-}
-
 // The sums, with `times` times a row added. A sum has at most 32 such terms of at most 4,096 times a word, which is at most 2 ^ 49.
 fn add_row(sums: [u64; 32], row: [u32; 32], times: u32) -> [u64; 32]
     requires times_bound { times ≤ 4096 }
@@ -50,8 +41,9 @@ fn add_row(sums: [u64; 32], row: [u32; 32], times: u32) -> [u64; 32]
     ensures { result ≡ tabulate (added sums row times) 32 }
 {
     let mut next = [0u64; 32];
-    for p in 0..32usize {
-        next[p] = sums[p] + wide(times) * wide(row[p]);
+    for p in 0..32 {
+        let weight = row[p];
+        next[p] = sums[p] + u64::from(times) * u64::from(weight);
     }
     next
 }
@@ -63,12 +55,10 @@ fn weigh(net: &[u32], parikh: [u32; 32], putting: bool) -> [u64; 32]
 {
     let transitions = net::transitions(net);
     let mut sums = [0u64; 32];
-    let mut t = 0;
-    while t < transitions {
+    for t in 0..transitions {
         let row = row_of(net, t, putting);
         let next = add_row(sums, row, parikh[t as usize]);
         sums = next;
-        t += 1;
     }
     sums
 }
@@ -80,29 +70,10 @@ fn total(row: [u64; 32], n: usize) -> u64
     ensures { result ≡ sum (at row) n }
 {
     let mut all: u64 = 0;
-    let mut p = 0;
-    while p < n {
+    for p in 0..n {
         all += row[p];
-        p += 1;
     }
     all
-}
-
-// Writes the first n numbers of a row over the buffer's front, as `scan::write_row` does with words.
-fn write_row(row: [u64; 32], out: &mut [u64], n: usize)
-    ensures { out.new ≡ placed out.old 0 (take n row) }
-{
-    let mut i = 0;
-    while i < 32 {
-        if n <= i {
-            return;
-        }
-        if out.len() <= i {
-            return;
-        }
-        out[i] = row[i];
-        i += 1;
-    }
 }
 
 // One side, taken or put: writes what is moved at each place, and answers the total.
@@ -113,7 +84,7 @@ fn side(net: &[u32], parikh: [u32; 32], putting: bool, out: &mut [u64]) -> u64
 {
     let places = net::places(net) as usize;
     let row = weigh(net, parikh, putting);
-    write_row(row, out, places);
+    scan::write_row(row, out, places);
     total(row, places)
 }
 

@@ -1,6 +1,6 @@
 -- The rule of the page: one computed test of its numbers, and from it the law of each entry.
-use Rattle.scan.proofs.Basics.{ℕ, zero, suc, ◌+◌, ◌-◌, ◌*◌, ◌≤◌, ◌<◌, arith, ◌≡◌, refl, sym, ◌∙◌, Bool, true, ◌&&◌, eqb, List, [], ◌∷◌, get_or, length}
-use Rattle.scan.proofs.Tests.{lt-ltb, le-ltb, le-leb, lt-leb, eqb-true, and_left, and_right}
+use Rattle.scan.proofs.Basics.{ℕ, zero, suc, ◌+◌, ◌-◌, ◌*◌, ◌≤◌, ◌<◌, arith, ◌≡◌, refl, sym, ◌∙◌, Bool, true, ◌&&◌, ltb, leb, eqb, List, [], ◌∷◌, get_or, length}
+use Rattle.scan.proofs.Tests.{ltb-true, lt-ltb, leb-true, le-leb, eqb-true, and_left, and_right, by_test}
 use lib.ListN.{get_or-append}
 use lib.Seq.{get_or-append-add}
 use Rattle.row_starts.specs.Page.{lines, joined, page}
@@ -65,24 +65,9 @@ start_is n T l a b = rw (lt-ltb n 128 l, le-leb 1 T a, le-leb T 32 b)
 pub one-there : (n T : ℕ) → n < 128 → 1 ≤ T → T ≤ 32 → get_or (get_or lines n []) (T - 1) 0 ≡ row_start n T
 one-there n T l a b = (both n T l a b).0 ∙ sym (start_is n T l a b)
 
-pub none-high : (n T : ℕ) → 128 ≤ n → 0 ≡ row_start n T
+pub none-there : (n T : ℕ) → (n < 128 → 1 ≤ T → T ≤ 32 → ⊥) → 0 ≡ row_start n T
 unfolding row_start on_page
-none-high n T l = rw (le-ltb n 128 l)
-
-pub none-few : (n T : ℕ) → n < 128 → T < 1 → 0 ≡ row_start n T
-unfolding row_start on_page
-none-few n T l m = rw (lt-ltb n 128 l, lt-leb 1 T m)
-
-pub none-many : (n T : ℕ) → n < 128 → 1 ≤ T → 32 < T → 0 ≡ row_start n T
-unfolding row_start on_page
-none-many n T l a b = rw (lt-ltb n 128 l, le-leb 1 T a, lt-leb T 32 b)
-
--- ---- which line is left: n is none of the so many numbers from k on
-
-abbrev pub NoneOf : ℕ → ℕ → ℕ → Type 0
-NoneOf n k zero = Unit
-NoneOf n k (suc j) = NoneOf n k j × (n ≡ k + j → ⊥)
-
-pub passed : (n k j : ℕ) → k ≤ n → NoneOf n k j → k + j ≤ n
-passed n k zero l r = omega arith
-passed n k (suc j) l (r, other) = let h = passed n k j l r in omega arith
+none-there n T h =
+    by_test (ltb n 128 && (leb 1 T && leb T 32))
+    (λ e. let t = and_right (ltb n 128) _ e in absurd (h (ltb-true n 128 (and_left (ltb n 128) _ e)) (leb-true 1 T (and_left (leb 1 T) _ t)) (leb-true T 32 (and_right (leb 1 T) _ t))))
+    (λ e. rw e)

@@ -650,6 +650,7 @@ fn line(n: u32) -> [u16; 32]
     requires { n < 128 }
     ensures { result ≡ get_or lines n [] }
 {
+    // No table of lines that n indexes: a match copies no other line (docs/DECISIONS.md).
     match n {
         0 => LINE_0,
         1 => LINE_1,
@@ -782,7 +783,7 @@ fn line(n: u32) -> [u16; 32]
     }
 }
 
-// The number of a line for a count of transitions. The indices are constants, so that the compiled code stores no line.
+// The number of a line for a count of transitions. The indices are constants, none is worked out, so that the compiled code stores no line (docs/DECISIONS.md).
 fn number(line: [u16; 32], transitions: u32) -> u16
     requires { (1 ≤ transitions) × (transitions ≤ 32) }
     ensures { result ≡ get_or line (transitions - 1) 0 }
@@ -823,24 +824,12 @@ fn number(line: [u16; 32], transitions: u32) -> u16
     }
 }
 
-fn wide(x: u16) -> u32
-    ensures { (result ≡ x) × (result ≤ 65535) }
-{
-    x as u32
-}
-
 // The first key of node n's arcs for a count of transitions; 0 if the page has no such number.
 pub fn start(n: u32, transitions: u32) -> u32
     ensures { (result ≡ row_start n transitions) × (result ≤ 65535) }
 {
-    if 128 <= n {
+    if 128 <= n || transitions < 1 || 32 < transitions {
         return 0;
     }
-    if transitions < 1 {
-        return 0;
-    }
-    if 32 < transitions {
-        return 0;
-    }
-    wide(number(line(n), transitions))
+    u32::from(number(line(n), transitions))
 }

@@ -1,25 +1,26 @@
 -- Words written one after the other from an index on: more words, one more word, and a buffer that is full.
 use Rattle.scan.proofs.Basics.{ℕ, suc, ◌+◌, ◌≤◌, ◌<◌, add-one, arith, ◌≡◌, refl, sym, ap, ◌∙◌, leb, List, [], ◌∷◌, ◌++◌, length, get_or, take, drop, set, length-append}
 use native.Mathlib.Nat.{add-zero, zero-add}
+use Prim.Native.Nat.{min}
 use lib.ListN.{take-append-drop}
 use lib.Seq.{sets, sets-eq, length-sets, set_out, take-suc, take-take, take_all, length-take-le}
 use Rattle.scan.proofs.Tests.{leb-true, leb-false, by_test}
 use Rattle.scan.specs.Placed.{placed, next_place}
 
-sets-append : (xs ys out : List ℕ) (at : ℕ) → sets (sets out at xs) (at + length xs) ys ≡ sets out at (xs ++ ys)
+sets-append : {A : Type 0} (xs ys out : List A) (at : ℕ) → sets (sets out at xs) (at + length xs) ys ≡ sets out at (xs ++ ys)
 sets-append [] ys out at = rw (add-zero at)
 sets-append (x ∷ xs) ys out at = let q : at + suc (length xs) ≡ suc at + length xs = omega arith in rw q (sets-append xs ys (set out at x) (suc at))
 
-sets-past : (xs out : List ℕ) (at : ℕ) → length out ≤ at → sets out at xs ≡ out
+sets-past : {A : Type 0} (xs out : List A) (at : ℕ) → length out ≤ at → sets out at xs ≡ out
 sets-past [] out at l = refl
 sets-past (x ∷ xs) out at l = rw (set_out out at x l) (sets-past xs out (suc at) (omega arith))
 
-pub placed-none : (out : List ℕ) (at : ℕ) → out ≡ placed out at []
+pub placed-none : {A : Type 0} (out : List A) (at : ℕ) → out ≡ placed out at []
 unfolding placed
 placed-none out at = refl
 
 -- more words, and one more
-pub placed-append : (xs ys out : List ℕ) (at : ℕ) → placed (placed out at xs) (at + length xs) ys ≡ placed out at (xs ++ ys)
+pub placed-append : {A : Type 0} (xs ys out : List A) (at : ℕ) → placed (placed out at xs) (at + length xs) ys ≡ placed out at (xs ++ ys)
 unfolding placed
 placed-append = sets-append
 
@@ -28,16 +29,16 @@ unfolding placed
 placed_one xs out at v = sets-append xs (v ∷ []) out at
 
 -- past the buffer's end
-pub placed_past : (xs out : List ℕ) (at : ℕ) → length out ≤ at → placed out at xs ≡ out
+pub placed_past : {A : Type 0} (xs out : List A) (at : ℕ) → length out ≤ at → placed out at xs ≡ out
 unfolding placed
 placed_past = sets-past
 
-pub placed-length : (xs out : List ℕ) (at : ℕ) → length (placed out at xs) ≡ length out
+pub placed-length : {A : Type 0} (xs out : List A) (at : ℕ) → length (placed out at xs) ≡ length out
 unfolding placed
 placed-length xs out at = length-sets out at xs
 
 -- over the front
-pub placed-front : (xs out : List ℕ) → length xs ≤ length out → placed out 0 xs ≡ xs ++ drop (length xs) out
+pub placed-front : {A : Type 0} (xs out : List A) → length xs ≤ length out → placed out 0 xs ≡ xs ++ drop (length xs) out
 unfolding placed
 placed-front xs out l = sets-eq xs out 0 (omega arith) ∙ rw (zero-add (length xs))
 
@@ -69,12 +70,25 @@ row_more row out i l =
     rw (add-one, take-suc row i 0 l) (rw e at (placed_one (take i row) out 0 (get_or row i 0)))
 
 -- a loop that met the row's end
-pub row-all : (row out : List ℕ) (i n : ℕ) → length row ≤ i → i ≤ n → placed out 0 (take i row) ≡ placed out 0 (take n row)
+pub row-all : {A : Type 0} (row out : List A) (i n : ℕ) → length row ≤ i → i ≤ n → placed out 0 (take i row) ≡ placed out 0 (take n row)
 row-all row out i n l m = rw (take_all i row l, take_all n row (omega arith))
 
 -- or the buffer's
-pub row-full : (row out : List ℕ) (i n : ℕ) → i ≤ length row → length out ≤ i → i ≤ n → placed out 0 (take i row) ≡ placed out 0 (take n row)
+pub row-full : {A : Type 0} (row out : List A) (i n : ℕ) → i ≤ length row → length out ≤ i → i ≤ n → placed out 0 (take i row) ≡ placed out 0 (take n row)
 row-full row out i n k l m =
     let e : length (take i row) ≡ i = length-take-le i row k in
     sym (placed_past (drop i (take n row)) (placed out 0 (take i row)) (0 + length (take i row)) (rw (placed-length (take i row) out 0) (omega arith)))
     ∙ placed-append (take i row) (drop i (take n row)) out 0 ∙ ap (placed out 0) (rw (← take-take i n row m) (take-append-drop i (take n row)))
+
+-- a row copied at once over the front
+pub placed-row : {A : Type 0} (m n : ℕ) (row out : List A) → m ≡ min (min n (length row)) (length out) → take m row ++ drop m out ≡ placed out 0 (take n row)
+placed-row m n row out e =
+    let k : length (take m row) ≡ m = length-take-le m row (omega arith) in
+    sym (rw k at (placed-front (take m row) out (omega arith))) ∙ rest
+  where
+    rest : placed out 0 (take m row) ≡ placed out 0 (take n row)
+    rest =
+        by_test (leb n m) (λ h. let q : m ≡ n = omega (arith, leb-true n m h) in rw q)
+        (λ h. let l = leb-false n m h in
+        by_test (leb (length row) m) (λ g. row-all row out m n (leb-true (length row) m g) (omega arith))
+        (λ g. let p = leb-false (length row) m g in row-full row out m n (omega arith) (omega arith) (omega arith)))

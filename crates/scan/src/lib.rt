@@ -9,29 +9,14 @@ ghost use Rattle.scan.specs.Placed.{placed};
 pub fn clear_front(words: &mut [u32], n: usize)
     ensures { words.new ≡ cleared n words.old }
 {
-    let mut i = 0;
-    while i < n {
-        if words.len() <= i {
-            return;
-        }
-        words[i] = 0;
-        i += 1;
-    }
+    let front = n.min(words.len());
+    words[..front].fill(0);
 }
 
-// Writes the first n words of a row over the front of a buffer, at most as many as the row has and the buffer holds.
-pub fn write_row(row: [u32; 32], out: &mut [u32], n: usize)
+// Writes the first n numbers of a row over the front of a buffer, at most as many as the row has and the buffer holds.
+pub fn write_row<T: Copy>(row: [T; 32], out: &mut [T], n: usize)
     ensures { out.new ≡ placed out.old 0 (take n row) }
 {
-    let mut i = 0;
-    while i < 32 {
-        if n <= i {
-            return;
-        }
-        if out.len() <= i {
-            return;
-        }
-        out[i] = row[i];
-        i += 1;
-    }
+    let front = n.min(row.len()).min(out.len());
+    out[..front].copy_from_slice(&row[..front]);
 }

@@ -1,11 +1,10 @@
 -- The calls as instances of what holds of every call: the schedule check's answer, and the checks of each call's words.
+use Rattle.std.specs.Prelude.{Err, Ok, Some}
 use Rattle.scan.proofs.Basics.{ℕ, ◌≡◌, refl, ap, ◌∙◌, Option, List, [], ◌∷◌, ◌++◌, length}
-use Rattle.refusal.specs.Refusal.{plain_verdict}
+use Rattle.refusal.specs.Refusal.{plain_verdict, Verdict}
 use Rattle.refusal.specs.Checks.{Check}
 use Rattle.refusal.specs.Verdict.{verdict_of, and_then}
 use Rattle.refusal.specs.declared.Refusal.{Refusal}
-use Rattle.refusal.specs.declared.Verdict.{Verdict}
-use Rattle.refusal.specs.declared.Verdict.TheVariants.{Accepted, Refused}
 use Rattle.refusal.proofs.Checks.{Tells}
 use Rattle.refusal.proofs.Judges.{Judges, judges-found, judges-then}
 use Rattle.net.specs.Checks.{net_checks}
@@ -13,14 +12,12 @@ use Rattle.sequential.specs.Petri.{petri_net}
 use Rattle.sequential.specs.Checks.{sheet_checks}
 use Rattle.sequential.specs.Check.{schedule_reply}
 use Rattle.sequential.proofs.Accepted.{schedule-judged}
-use Rattle.judge.specs.Answer.{counts_of, check_answer, plain_check}
-use Rattle.judge.specs.declared.CheckAnswer.{CheckAnswer}
+use Rattle.judge.specs.Answer.{counts_of, check_answer, plain_check, CheckAnswer}
 use Rattle.lending.specs.Call.{WordsDone}
 use Rattle.lending.proofs.Laws.{refused-words, answered-none}
 use Rattle.lending.proofs.Judged.{Lawful}
 use Rattle.schedule.specs.Walker.{walker_checks, run_checks}
-use Rattle.lending.specs.Index.{plain_index}
-use Rattle.lending.specs.declared.Index.TheVariants.{Known}
+use Rattle.refusal.specs.Index.{plain_index}
 use Rattle.schedule.specs.Firing.{entry_fired, node_after, last_entry}
 use Rattle.schedule.specs.Calls.{check_core, bounds_core, fire_core, run_core}
 use Rattle.schedule.specs.Plain.{plain_fire, plain_run}
@@ -34,8 +31,8 @@ pub check-words : (net sheet : List ℕ) (r : CheckAnswer) → r ≡ check_answe
 check-words net sheet r h = go (schedule_reply net sheet) refl
   where
     go : (v : Verdict) → schedule_reply net sheet ≡ v → WordsDone (check_core net sheet) [] r []
-    go Accepted e = answered-none refl e (h ∙ ap (λ (v : Verdict). check_answer v (counts_of net sheet)) e)
-    go (Refused x) e = refused-words e (h ∙ ap (λ (v : Verdict). check_answer v (counts_of net sheet)) e)
+    go (Ok tt) e = answered-none refl e (h ∙ ap (λ (v : Verdict). check_answer v (counts_of net sheet)) e)
+    go (Err x) e = refused-words e (h ∙ ap (λ (v : Verdict). check_answer v (counts_of net sheet)) e)
 
 -- ---- what each call shows of its core
 
@@ -53,7 +50,7 @@ module _ (net sheet : List ℕ) where
   pub bounds-law : Lawful (bounds_core net sheet) plain_verdict (0 ∷ 0 ∷ 0 ∷ []) checks
   bounds-law = record { judged = schedule-judged net sheet; proper = refl; plain-accepted = refl; own-length = refl; plain-refused = λ r. refl }
 
-  pub fire-law : (w : Walker) (t : ℕ) → Lawful (fire_core net sheet w t) (λ a. plain_fire a.0) (plain_index (Known (entry_fired (petri_net net) sheet w t)) ∷ 0 ∷ 0 ∷ [])
+  pub fire-law : (w : Walker) (t : ℕ) → Lawful (fire_core net sheet w t) (λ a. plain_fire a.0) (plain_index (Some (entry_fired (petri_net net) sheet w t)) ∷ 0 ∷ 0 ∷ [])
       (checks ++ walker_checks (petri_net net) sheet w t)
   fire-law w t = record { judged = then-own (step-tells (petri_net net) sheet w t); proper = refl; plain-accepted = refl; own-length = refl; plain-refused = λ r. refl }
 

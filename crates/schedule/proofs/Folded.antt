@@ -1,9 +1,9 @@
 -- Single firings one after the other, each with the walker that the one before handed back, follow the arcs of the graph.
+use Rattle.std.specs.Prelude.{Ok}
 use Rattle.scan.proofs.Basics.{ℕ, ◌≡◌, refl, sym, ap, ◌∙◌, none, some, List, [], ◌∷◌, length}
 use Rattle.scan.specs.Scan.{found_or}
 use Rattle.automaton.specs.Automaton.{follow}
 use Rattle.automaton.proofs.Automaton.{follow-first}
-use Rattle.refusal.specs.declared.Verdict.TheVariants.{Accepted}
 use Rattle.sequential.specs.Petri.{petri_net}
 use Rattle.sequential.specs.Words.{arc, graph}
 use Rattle.sequential.specs.Check.{schedule_reply}
@@ -12,7 +12,7 @@ use Rattle.schedule.specs.Walks.{Chain, stays, goes}
 use Rattle.schedule.specs.declared.Walker.{Walker}
 use Rattle.schedule.proofs.Walkers.{walker-out, step-tells, step-passes, handed-back}
 
-module _ (net sheet : List ℕ) (accepted : schedule_reply net sheet ≡ Accepted) where
+module _ (net sheet : List ℕ) (accepted : schedule_reply net sheet ≡ Ok tt) where
   -- what stays true of the walker
   pub record Kept (w : Walker) (n : ℕ) : Type 0 where
     pub passes : walker_fault (petri_net net) sheet w ≡ none

@@ -1,4 +1,5 @@
 -- Following the arcs from the root along a record: what a run finds is its first firing that is not allowed, and where it ends otherwise.
+use Rattle.std.specs.Prelude.{Ok, Some}
 use Rattle.scan.proofs.Basics.{ℕ, zero, suc, ◌≤◌, ◌<◌, arith, ◌≡◌, refl, sym, ap, ◌∙◌, ◌↔◌, true, not, Option, none, some, List, [], ◌∷◌, length, get_or, take, drop}
 use lib.ListN.{take-append-drop}
 use lib.Seq.{take-suc, take-length}
@@ -10,7 +11,6 @@ use Rattle.automaton.specs.Automaton.{Automaton, follow, allows}
 use Rattle.automaton.proofs.Automaton.{follow-snoc, follow-lands, follow-allows, allows-prefix}
 use Rattle.refusal.specs.Finding.{Tests, found_at, found_by, finding}
 use Rattle.refusal.specs.declared.Refusal.{Refusal}
-use Rattle.refusal.specs.declared.Verdict.TheVariants.{Accepted}
 use Rattle.refusal.proofs.Checks.{Decides, Decided, Lawful, Tells, finding-tells}
 use Rattle.sequential.specs.Petri.{PetriNet, petri_net, initial}
 use Rattle.sequential.specs.Words.{node_count, entry_value, arc_entry, arc, marking, graph}
@@ -19,8 +19,7 @@ use Rattle.sequential.specs.Check.{schedule_reply}
 use Rattle.sequential.proofs.Accepted.{accepts, closed}
 use Rattle.sequential.proofs.Runs.{from-root, fire-all-length}
 use Rattle.schedule.specs.Walker.{run_checks}
-use Rattle.lending.specs.Index.{index_from}
-use Rattle.lending.specs.declared.Index.TheVariants.{Known}
+use Rattle.refusal.specs.Index.{index_from}
 use Rattle.sequential.proofs.Entries.{entry_of}
 use Rattle.schedule.specs.Firing.{node_after, entry_after, last_entry, firing_fault, run_fault, end_counts}
 
@@ -69,7 +68,7 @@ module _ (N : PetriNet) (sheet firings : List ℕ) where
   pub record LastFiring (i k : ℕ) : Type 0 where
     pub before : follow G 0 (take i firings) ≡ some (after i)
     pub entry : arc_entry N sheet (after i) (get_or firings i 0) ≡ some k
-    pub named : last_entry N sheet firings ≡ Known k
+    pub named : last_entry N sheet firings ≡ Some k
     pub lands : entry_value sheet k ≡ after (length firings)
 
   pub last-firing : run_fault N sheet firings ≡ none → (i : ℕ) → length firings ≡ suc i → (k : ℕ) × LastFiring i k
@@ -119,7 +118,7 @@ pub record Ends (net sheet firings : List ℕ) (n : ℕ) : Type 0 where
   pub counts : marking (petri_net net) sheet n ≡ end_counts net firings
   pub long : length (end_counts net firings) ≡ (petri_net net).places
 
-pub run_ends : (net sheet firings : List ℕ) → schedule_reply net sheet ≡ Accepted → run_fault (petri_net net) sheet firings ≡ none
+pub run_ends : (net sheet firings : List ℕ) → schedule_reply net sheet ≡ Ok tt → run_fault (petri_net net) sheet firings ≡ none
     → Ends net sheet firings (node_after (petri_net net) sheet firings (length firings))
 unfolding end_counts
 run_ends net sheet firings h ok =

@@ -1,4 +1,6 @@
 -- Walkers: what 18 to 20 say, a fresh walker, the walker that follows, and that it passes again.
+use Rattle.std.specs.Prelude.{Ok}
+use Rattle.refusal.specs.declared.Reason.TheVariants.{NotOffered}
 use Rattle.scan.proofs.Basics.{ℕ, ◌+◌, ◌-◌, ◌≤◌, ◌<◌, arith, ◌≡◌, refl, sym, ap, ◌∙◌, ◌↔◌, true, not, ltb, none, some, List, length, get_or}
 use native.Mathlib.Decide.{dec_lt}
 use mathlib.Core.Bool.{and-false}
@@ -9,7 +11,6 @@ use Rattle.scan.proofs.Tabulate.{tabulate-length, tabulate-at, tabulate-ext}
 use Rattle.refusal.specs.Refusal.{refusal}
 use Rattle.refusal.specs.Finding.{found_by, finding}
 use Rattle.refusal.specs.declared.Position.TheVariants.{Nothing}
-use Rattle.refusal.specs.declared.Verdict.TheVariants.{Accepted}
 use Rattle.refusal.proofs.Checks.{Decides, Decided, Lawful, Tells, finding-tells, ◌▸◌}
 use Rattle.net.specs.Check.{net_reply}
 use Rattle.net.proofs.Laws.{sizes, put_no_place, start_no_place}
@@ -55,7 +56,7 @@ module _ (N : PetriNet) (sheet : List ℕ) (w : Walker) where
   step-tells t = finding-tells Unit (walker_checks N sheet w t) (walker_tests N sheet w t) (step-lawful t) tt
 
   -- 20 comes after 18 and 19
-  pub step-fault : (t : ℕ) → step_fault N sheet w t ≡ or_else (walker_fault N sheet w) (when (not (found (arc N sheet w.node t))) (refusal 20 Nothing))
+  pub step-fault : (t : ℕ) → step_fault N sheet w t ≡ or_else (walker_fault N sheet w) (when (not (found (arc N sheet w.node t))) (refusal NotOffered Nothing))
   unfolding step_fault walker_fault finding found_by
   step-fault t = sym (or_else-assoc _ _ _)
 
@@ -75,7 +76,7 @@ module _ (N : PetriNet) (sheet : List ℕ) (w : Walker) where
 
 -- ---- on an accepted sheet
 
-module _ (net sheet : List ℕ) (accepted : schedule_reply net sheet ≡ Accepted) where
+module _ (net sheet : List ℕ) (accepted : schedule_reply net sheet ≡ Ok tt) where
   pub few_places : (petri_net net).places ≤ 32
   few_places = (sizes net (accepts net sheet accepted).net_accepted).few_places
 
@@ -90,7 +91,7 @@ module _ (net sheet : List ℕ) (accepted : schedule_reply net sheet ≡ Accepte
   ]
 
   pub fresh-passes : walker_fault (petri_net net) sheet (fresh_walker (net_reply net) net) ≡ none
-  fresh-passes = rw (accepts net sheet accepted).net_accepted (walker-in (petri_net net) sheet (fresh_walker Accepted net) (record {
+  fresh-passes = rw (accepts net sheet accepted).net_accepted (walker-in (petri_net net) sheet (fresh_walker (Ok tt) net) (record {
     node = (closed net sheet accepted).root;
     holds = λ p l. tabulate-at (petri_net net).start 0 32 p l ∙ start-count p;
   }))

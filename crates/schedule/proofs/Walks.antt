@@ -1,15 +1,15 @@
 -- Walks along the arcs: where an arc's entry leads, the faults of a walker, a single firing, and a list of firings from node 0.
+use Rattle.std.specs.Prelude.{Err, None, Ok, Some}
+use Rattle.refusal.specs.declared.Reason.TheVariants.{NoSuchNode, NotOffered, WrongCounts}
 use Rattle.scan.proofs.Basics.{ℕ, ◌+◌, ◌*◌, ◌≤◌, ◌<◌, add-one, arith, ◌≡◌, refl, sym, ap, ◌∙◌, not, ◌&&◌, ltb, none, some, List, [], get_or}
 use Rattle.scan.proofs.Tests.{le-leb, lt-leb, eq-eqb, ne_eqb, by_test}
 use Rattle.scan.specs.Scan.{found, first}
 use Rattle.scan.proofs.First.{none-some, or_else-next, or_else-hit, when-hit, when-miss, first-hit}
 use Rattle.scan.proofs.Tabulate.{tabulate-at}
 use Rattle.table.proofs.Table.{entry-some}
-use Rattle.refusal.specs.Refusal.{refusal}
+use Rattle.refusal.specs.Refusal.{refusal, Verdict}
 use Rattle.refusal.specs.declared.Position.TheVariants.{Nothing, Place, Record}
 use Rattle.refusal.specs.declared.Refusal.{Refusal}
-use Rattle.refusal.specs.declared.Verdict.{Verdict}
-use Rattle.refusal.specs.declared.Verdict.TheVariants.{Accepted, Refused}
 use Rattle.sequential.specs.Petri.{PetriNet, petri_net}
 use Rattle.sequential.specs.Words.{node_count, entry_count, entry_key, entry_value, entry_with_key, arc_entry, arc, count_at}
 use Rattle.sequential.specs.Check.{schedule_reply}
@@ -21,14 +21,12 @@ use Rattle.judge.proofs.Judged.{accepted-readable}
 use Rattle.refusal.specs.Verdict.{verdict_of}
 use Rattle.refusal.proofs.Verdicts.{answer-some, then_next}
 use Rattle.lending.specs.Call.{WordsDone}
-use Rattle.lending.specs.Index.{index_from}
-use Rattle.lending.specs.declared.Index.TheVariants.{Known, Missing}
+use Rattle.refusal.specs.Index.{index_from}
 use Rattle.lending.proofs.Laws.{refused-words, answered-none}
 use Rattle.schedule.specs.Calls.{fire_core}
 use Rattle.schedule.specs.Walker.{walker}
 use Rattle.schedule.specs.Firing.{count_fault, walker_fault, step_fault, entry_fired, node_after, entry_after, firing_fault}
 use Rattle.schedule.specs.declared.Walker.{Walker}
-use Rattle.schedule.specs.declared.FireAnswer.TheVariants.{Done, Stopped}
 use Rattle.sequential.proofs.Entries.{graph-closed}
 use Rattle.schedule.proofs.Walkers.{step-fault, walker-out, step-passes, follows_is}
 use Rattle.refusal.specs.Finding.{found_at, found_by, line_finds, finding}
@@ -58,7 +56,7 @@ module _ (N : PetriNet) (sheet : List ℕ) (n t : ℕ) where
 -- ---- 18 and 19
 
 module _ (N : PetriNet) (sheet : List ℕ) (w : Walker) where
-  pub no-such-node : node_count sheet ≤ w.node → walker_fault N sheet w ≡ some (refusal 18 Nothing)
+  pub no-such-node : node_count sheet ≤ w.node → walker_fault N sheet w ≡ some (refusal NoSuchNode Nothing)
   unfolding walker_fault count_fault finding found_by line_finds found_at
   no-such-node l = or_else-hit _ _ _ (when-hit _ _ (le-leb _ _ l))
 
@@ -68,7 +66,7 @@ module _ (N : PetriNet) (sheet : List ℕ) (w : Walker) where
 
   -- the scan of the counts is left at p, or runs out
   pub astray-at : w.node < node_count sheet → (p : ℕ) → first (count_fault N sheet w) p ≡ none → p < 32 → (get_or w.counts p 0 ≡ count_at N sheet w.node p → ⊥)
-      → walker_fault N sheet w ≡ some (refusal 19 (Place p))
+      → walker_fault N sheet w ≡ some (refusal WrongCounts (Place p))
   unfolding walker_fault count_fault finding found_by line_finds found_at
   astray-at l p h m e = or_else-next _ _ (when-miss _ _ (lt-leb _ _ l)) ∙ first-hit _ p _ h (when-hit _ _ (ap not (ne_eqb _ _ e))) 32 m
 
@@ -87,20 +85,20 @@ pub entry-fired : (N : PetriNet) (sheet : List ℕ) (w : Walker) (t i : ℕ) →
 unfolding entry_fired
 entry-fired N sheet w t i e = rw e
 
-module _ (net sheet : List ℕ) (w : Walker) (t : ℕ) (a : schedule_reply net sheet ≡ Accepted) where
-  step-refuses : (r : Refusal) → step_fault (petri_net net) sheet w t ≡ some r → WordsDone (fire_core net sheet w t) [] (Stopped r, w) []
+module _ (net sheet : List ℕ) (w : Walker) (t : ℕ) (a : schedule_reply net sheet ≡ Ok tt) where
+  step-refuses : (r : Refusal) → step_fault (petri_net net) sheet w t ≡ some r → WordsDone (fire_core net sheet w t) [] (Err r, w) []
   step-refuses r f = refused-words (then_next _ _ a ∙ ap verdict_of f) refl
 
-  pub walker-refused : (v : Verdict) (r : Refusal) → v ≡ verdict_of (walker_fault (petri_net net) sheet w) → v ≡ Refused r → WordsDone (fire_core net sheet w t) [] (Stopped r, w) []
+  pub walker-refused : (v : Verdict) (r : Refusal) → v ≡ verdict_of (walker_fault (petri_net net) sheet w) → v ≡ Err r → WordsDone (fire_core net sheet w t) [] (Err r, w) []
   walker-refused v r h e = step-refuses r (step-fault (petri_net net) sheet w t ∙ or_else-hit _ _ r (answer-some _ r (sym h ∙ e)))
 
   module _ (h : walker_fault (petri_net net) sheet w ≡ none) where
-    pub not-offered : arc_entry (petri_net net) sheet w.node t ≡ none → WordsDone (fire_core net sheet w t) [] (Stopped (refusal 20 Nothing), w) []
+    pub not-offered : arc_entry (petri_net net) sheet w.node t ≡ none → WordsDone (fire_core net sheet w t) [] (Err (refusal NotOffered Nothing), w) []
     unfolding found
     not-offered q = step-refuses _ (step-fault (petri_net net) sheet w t ∙ or_else-next _ _ h ∙ when-hit _ _ (rw (entry-stays (petri_net net) sheet w.node t q)))
 
     pub follows_on : (i m : ℕ) (counts : List ℕ) → arc_entry (petri_net net) sheet w.node t ≡ some i → m ≡ entry_value sheet i
-        → counts ≡ marking_row net sheet m → WordsDone (fire_core net sheet w t) [] (Done i, walker m counts) []
+        → counts ≡ marking_row net sheet m → WordsDone (fire_core net sheet w t) [] (Ok (record { entry = i }), walker m counts) []
     follows_on i m counts q e k =
         let r = (accepted-readable net sheet a).arcs in
         let p = walker-out (petri_net net) sheet w h in
@@ -116,7 +114,7 @@ module _ (N : PetriNet) (sheet firings : List ℕ) where
   unfolding node_after
   after_none = refl
 
-  pub entry-none : Missing ≡ index_from (entry_after N sheet firings 0)
+  pub entry-none : None ≡ index_from (entry_after N sheet firings 0)
   unfolding entry_after
   entry-none = refl
 
@@ -125,7 +123,7 @@ module _ (N : PetriNet) (sheet firings : List ℕ) where
     unfolding node_after
     after_more k h = rw (add-one, ← e, entry-leads N sheet n (get_or firings i 0) k h)
 
-    pub entry_more : (k : ℕ) → arc_entry N sheet n (get_or firings i 0) ≡ some k → Known k ≡ index_from (entry_after N sheet firings (i + 1))
+    pub entry_more : (k : ℕ) → arc_entry N sheet n (get_or firings i 0) ≡ some k → Some k ≡ index_from (entry_after N sheet firings (i + 1))
     unfolding entry_after
     entry_more k h = rw (add-one, ← e, h)
 
@@ -133,6 +131,6 @@ module _ (N : PetriNet) (sheet firings : List ℕ) where
     unfolding firing_fault found
     firing-passes k h = when-miss _ _ (rw (← e, entry-leads N sheet n (get_or firings i 0) k h))
 
-    pub firing-fails : arc_entry N sheet n (get_or firings i 0) ≡ none → firing_fault N sheet firings i ≡ some (refusal 20 (Record i))
+    pub firing-fails : arc_entry N sheet n (get_or firings i 0) ≡ none → firing_fault N sheet firings i ≡ some (refusal NotOffered (Record i))
     unfolding firing_fault found
     firing-fails h = when-hit _ _ (rw (← e, entry-stays N sheet n (get_or firings i 0) h))

@@ -1,28 +1,22 @@
 -- The calls on schedules: what each makes of its words, and its postcondition. What is true of every call is said once, in the crate `lending`.
-use Rattle.std.specs.Prelude.{ℕ, ◌≡◌, List, [], ◌∷◌, length}
+use Rattle.schedule.specs.Plain.{FireAnswer, RunAnswer}
+use Rattle.refusal.specs.Refusal.{Verdict}
+use Rattle.std.specs.Prelude.{ℕ, ◌≡◌, List, [], ◌∷◌, length, Err, Ok}
 use Rattle.refusal.specs.Limits.{scratch_limit}
 use Rattle.refusal.specs.Verdict.{verdict_of, and_then}
-use Rattle.refusal.specs.declared.Verdict.{Verdict}
-use Rattle.refusal.specs.declared.Verdict.TheVariants.{Accepted, Refused}
 use Rattle.net.specs.Check.{net_reply}
 use Rattle.sequential.specs.Petri.{petri_net}
 use Rattle.sequential.specs.Check.{schedule_reply}
 use Rattle.sequential.specs.Bounds.{bounds}
-use Rattle.judge.specs.Answer.{counts_of}
-use Rattle.judge.specs.declared.CheckAnswer.{CheckAnswer}
-use Rattle.judge.specs.declared.CheckAnswer.TheVariants.{Passed, Failed}
+use Rattle.judge.specs.Answer.{counts_of, CheckAnswer}
 use Rattle.lending.specs.Call.{Core, WordsDone, CallDone}
 use Rattle.schedule.specs.Firing.{fresh_walker, step_fault, follows, entry_fired, node_after, last_entry, run_fault, end_counts}
 use Rattle.schedule.specs.declared.Walker.{Walker}
-use Rattle.schedule.specs.declared.FireAnswer.{FireAnswer}
-use Rattle.schedule.specs.declared.FireAnswer.TheVariants as fire
-use Rattle.schedule.specs.declared.RunAnswer.{RunAnswer}
-use Rattle.schedule.specs.declared.RunAnswer.TheVariants.{Done, Stopped}
 
 -- ---- the schedule check: §10.3
 
 abbrev pub check_core : List ℕ → List ℕ → Core CheckAnswer
-check_core net sheet = record { verdict = schedule_reply net sheet; accepted = Passed (counts_of net sheet); refused = Failed; results = [] }
+check_core net sheet = record { verdict = schedule_reply net sheet; accepted = Ok (counts_of net sheet); refused = Err; results = [] }
 
 -- the postcondition under any limit of scratch
 abbrev pub CheckWithinDone : ℕ → List ℕ → List ℕ → List ℕ → CheckAnswer → List ℕ → Type 0
@@ -34,7 +28,7 @@ CheckDone = CheckWithinDone scratch_limit
 -- ---- place bounds: §10.4
 
 abbrev pub bounds_core : List ℕ → List ℕ → Core Verdict
-bounds_core net sheet = record { verdict = schedule_reply net sheet; accepted = Accepted; refused = Refused; results = bounds (petri_net net) sheet ∷ [] }
+bounds_core net sheet = record { verdict = schedule_reply net sheet; accepted = Ok tt; refused = Err; results = bounds (petri_net net) sheet ∷ [] }
 
 -- the postcondition without scratch
 abbrev pub BoundsWritten : List ℕ → List ℕ → List ℕ → Verdict → List ℕ → Type 0
@@ -57,8 +51,8 @@ pub record FreshDone (net : List ℕ) (r : Verdict) (w : Walker) : Type 0 where
 abbrev pub fire_core : List ℕ → List ℕ → Walker → ℕ → Core (FireAnswer × Walker)
 fire_core net sheet w t = record {
   verdict = and_then (schedule_reply net sheet) (verdict_of (step_fault (petri_net net) sheet w t));
-  accepted = (fire.Done (entry_fired (petri_net net) sheet w t), follows (petri_net net) sheet w t);
-  refused = λ r. (fire.Stopped r, w);
+  accepted = (Ok (record { entry = entry_fired (petri_net net) sheet w t }), follows (petri_net net) sheet w t);
+  refused = λ r. (Err r, w);
   results = [];
 }
 
@@ -77,8 +71,8 @@ FireDone = FireWithinDone scratch_limit
 abbrev pub run_core : List ℕ → List ℕ → List ℕ → Core RunAnswer
 run_core net sheet firings = record {
   verdict = and_then (schedule_reply net sheet) (verdict_of (run_fault (petri_net net) sheet firings));
-  accepted = Done (record { fired = length firings; node = node_after (petri_net net) sheet firings (length firings); entry = last_entry (petri_net net) sheet firings });
-  refused = Stopped;
+  accepted = Ok (record { fired = length firings; node = node_after (petri_net net) sheet firings (length firings); entry = last_entry (petri_net net) sheet firings });
+  refused = Err;
   results = end_counts net firings ∷ [];
 }
 

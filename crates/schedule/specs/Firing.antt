@@ -1,27 +1,27 @@
 -- Firing, as a computation: what the checks of a walker and of a run find, the walker that follows, and where a run ends.
-use Rattle.std.specs.Prelude.{ℕ, zero, suc, ◌≡◌, List, [], ◌∷◌, ◌++◌, not, length, get_or, replicate, leb, eqb}
+use Rattle.refusal.specs.declared.Reason.TheVariants.{NotOffered}
+use Rattle.std.specs.Prelude.{ℕ, zero, suc, ◌≡◌, List, [], ◌∷◌, ◌++◌, not, length, get_or, replicate, leb, eqb, Err, Ok}
 use Rattle.std.proofs.Math.Option.{Option, none}
 use Rattle.scan.specs.Scan.{when, found, first, tabulate, found_or}
 use Rattle.refusal.specs.Limits.{most_places}
-use Rattle.refusal.specs.Refusal.{refusal}
-use Rattle.refusal.specs.Verdict.{verdict_of}
+use Rattle.refusal.specs.Refusal.{refusal, Verdict}
+use Rattle.refusal.specs.Verdict.{verdict_of, verdict_alone}
 use Rattle.refusal.specs.Finding.{Tests, asked, line_finds, finding}
 use Rattle.refusal.specs.declared.Position.TheVariants.{Record}
 use Rattle.refusal.specs.declared.Refusal.{Refusal}
-use Rattle.refusal.specs.declared.Verdict.{Verdict}
-use Rattle.refusal.specs.declared.Verdict.TheVariants.{Accepted, Refused}
 use Rattle.sequential.specs.Petri.{PetriNet, petri_net, initial, fired_count, fire_all}
 use Rattle.sequential.specs.Words.{node_count, arc_entry, arc, count_at}
-use Rattle.lending.specs.Index.{index_from}
-use Rattle.lending.specs.declared.Index.{Index}
+use Rattle.refusal.specs.Index.{index_from, Index}
 use Rattle.schedule.specs.Walker.{walker, stand_checks, walker_checks}
+use Rattle.schedule.specs.Plain.{RunAnswer}
+use Rattle.schedule.specs.declared.Ran.{Ran}
 use Rattle.schedule.specs.declared.Walker.{Walker}
 
 -- ---- a fresh walker: §10.6
 
 abbrev pub fresh_walker : Verdict → List ℕ → Walker
-fresh_walker Accepted net = walker 0 (tabulate (petri_net net).start most_places)
-fresh_walker (Refused r) net = walker 0 (replicate most_places 0)
+fresh_walker (Ok tt) net = walker 0 (tabulate (petri_net net).start most_places)
+fresh_walker (Err r) net = walker 0 (replicate most_places 0)
 
 -- ---- a single firing: §10.7
 
@@ -70,7 +70,7 @@ module _ (N : PetriNet) (sheet firings : List ℕ) where
 
   -- §7.20 at one index, at the node that the firings before it lead to (§7.58)
   unfoldable pub firing_fault : ℕ → Option Refusal
-  firing_fault i = when (not (found (arc N sheet (node_after i) (get_or firings i 0)))) (refusal 20 (Record i))
+  firing_fault i = when (not (found (arc N sheet (node_after i) (get_or firings i 0)))) (refusal NotOffered (Record i))
 
   unfoldable pub run_fault : Option Refusal
   run_fault = first firing_fault (length firings)
@@ -78,8 +78,7 @@ module _ (N : PetriNet) (sheet firings : List ℕ) where
 unfoldable pub end_counts : List ℕ → List ℕ → List ℕ
 end_counts net firings = fire_all (petri_net net) (initial (petri_net net)) firings
 
--- what following the firings finds: the first that is not offered; or, if all are, the node at the end and the entry of the last arc
-pub record FollowedTo (N : PetriNet) (sheet firings : List ℕ) (r : Verdict) (n : ℕ) (e : Index) : Type 0 where
-  pub reply : r ≡ verdict_of (run_fault N sheet firings)
-  pub node : r ≡ Accepted → n ≡ node_after N sheet firings (length firings)
-  pub entry : r ≡ Accepted → e ≡ last_entry N sheet firings
+-- what following the firings finds: the first that is not offered; or, if all are, their number, the node at the end and the entry of the last arc
+pub record FollowedTo (N : PetriNet) (sheet firings : List ℕ) (answer : RunAnswer) : Type 0 where
+  pub reply : verdict_alone answer ≡ verdict_of (run_fault N sheet firings)
+  pub ran : (r : Ran) → answer ≡ Ok r → r ≡ record { fired = length firings; node = node_after N sheet firings (length firings); entry = last_entry N sheet firings }

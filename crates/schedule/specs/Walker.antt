@@ -1,4 +1,5 @@
 -- Walkers: where a walker stands, and the checks before it fires, each with its clause and its number.
+use Rattle.refusal.specs.declared.Reason.TheVariants.{NoSuchNode, NotOffered, WrongCounts}
 use Rattle.std.specs.Prelude.{ℕ, suc, ◌≤◌, ◌<◌, ◌≡◌, List, [], ◌∷◌, ◌++◌, true, length, get_or, take}
 use Rattle.automaton.specs.Automaton.{allows}
 use Rattle.refusal.specs.Limits.{most_places}
@@ -22,14 +23,14 @@ pub record Stands (N : PetriNet) (w : Walker) (n : ℕ) (held : ℕ → ℕ) : T
 -- §7.18, §7.19; what a node holds is 0 at places from P on
 abbrev pub stand_checks : PetriNet → List ℕ → Walker → List Check
 stand_checks N sheet w =
-    once (w.node < node_count sheet) 18
-    ∷ each most_places Place ((λ p. get_or w.counts p 0 ≡ count_at N sheet w.node p) else 19 ∷ [])
+    once (w.node < node_count sheet) NoSuchNode
+    ∷ each most_places Place ((λ p. get_or w.counts p 0 ≡ count_at N sheet w.node p) else WrongCounts ∷ [])
     ∷ []
 
 -- §7.18 to §7.20, in the order of §7.58; 20 has no position here (§7.53)
 abbrev pub walker_checks : PetriNet → List ℕ → Walker → ℕ → List Check
-walker_checks N sheet w t = stand_checks N sheet w ++ (once (Offers N (graph N sheet) w.node t) 20 ∷ [])
+walker_checks N sheet w t = stand_checks N sheet w ++ (once (Offers N (graph N sheet) w.node t) NotOffered ∷ [])
 
 -- §7.20 at each firing of a record, after those before it (§7.58)
 abbrev pub run_checks : PetriNet → List ℕ → List ℕ → List Check
-run_checks N sheet firings = each (length firings) Record ((λ i. allows (graph N sheet) 0 (take (suc i) firings) ≡ true) else 20 ∷ []) ∷ []
+run_checks N sheet firings = each (length firings) Record ((λ i. allows (graph N sheet) 0 (take (suc i) firings) ≡ true) else NotOffered ∷ []) ∷ []

@@ -1,8 +1,8 @@
 -- A schedule is accepted exactly if all checks pass, and so exactly if the net's words are right, its own words are right, and its graph is a sequential schedule.
+use Rattle.std.specs.Prelude.{Ok}
 use Rattle.scan.proofs.Basics.{ℕ, ◌<◌, arith, ◌≡◌, refl, ◌↔◌, some, List, ◌++◌}
 use Rattle.automaton.specs.Automaton.{Closed}
 use Rattle.refusal.specs.Checks.{AllPass}
-use Rattle.refusal.specs.declared.Verdict.TheVariants.{Accepted}
 use Rattle.refusal.proofs.Checks.{Tells}
 use Rattle.refusal.proofs.Judges.{Judges, judges-found, judges-then, tells-append, pass-append}
 use Rattle.refusal.specs.Verdict.{verdict_of, and_then}
@@ -88,7 +88,7 @@ module _ (N : PetriNet) (sheet : List ℕ) (T : 0 < N.transitions) where
 
 -- as a schedule of N, whose transitions have the numbers of the net's
 module _ (N : PetriNet) (net sheet : List ℕ) (same : N.transitions ≡ transition_count net) where
-  some_number : net_reply net ≡ Accepted → 0 < N.transitions
+  some_number : net_reply net ≡ Ok tt → 0 < N.transitions
   some_number h = rw same (sizes net h).some_transition
 
   judged-as : Judges (and_then (net_reply net) (verdict_of (schedule_fault N sheet))) (net_checks net ++ sheet_checks N sheet)
@@ -96,7 +96,7 @@ module _ (N : PetriNet) (net sheet : List ℕ) (same : N.transitions ≡ transit
       judges-then (net_reply net) _ (net_checks net) (sheet_checks N sheet) (net-judged net)
       (λ p. judges-found _ (sheet_checks N sheet) (sheet-tells N sheet (some_number ((net-judged net).accepts.1 p))))
 
-  accepted-as : (and_then (net_reply net) (verdict_of (schedule_fault N sheet)) ≡ Accepted) ↔ AcceptsAs N net sheet
+  accepted-as : (and_then (net_reply net) (verdict_of (schedule_fault N sheet)) ≡ Ok tt) ↔ AcceptsAs N net sheet
   accepted-as = (
     λ h. let (a, b) = (pass-append (net_checks net) (sheet_checks N sheet)).0 (judged-as.accepts.0 h) in
         let n = (net-judged net).accepts.1 a in
@@ -111,7 +111,7 @@ module _ (net sheet : List ℕ) where
   unfolding schedule_reply
   schedule-judged = judged-as (petri_net net) net sheet refl
 
-  pub accepted-exactly : (schedule_reply net sheet ≡ Accepted) ↔ Accepts net sheet
+  pub accepted-exactly : (schedule_reply net sheet ≡ Ok tt) ↔ Accepts net sheet
   unfolding schedule_reply
   accepted-exactly = accepted-as (petri_net net) net sheet refl
 
@@ -124,7 +124,7 @@ module _ (net : List ℕ) (s : ℕ) (sheet : List ℕ) where
 
 -- ---- an accepted schedule
 
-module _ (net sheet : List ℕ) (h : schedule_reply net sheet ≡ Accepted) where
+module _ (net sheet : List ℕ) (h : schedule_reply net sheet ≡ Ok tt) where
   pub accepts : Accepts net sheet
   accepts = (accepted-exactly net sheet).0 h
 

@@ -1,11 +1,11 @@
 -- Capacities: firing enabled transitions keeps every place within its capacity; and when a transition is enabled if there are no capacities.
+use Rattle.std.specs.Prelude.{Ok}
 use Rattle.scan.proofs.Basics.{ℕ, ◌<◌, arith, ◌≡◌, none, List, [], ◌∷◌, get_or}
 use Rattle.scan.proofs.Tests.{by_less}
 use Rattle.scan.proofs.First.{none-some}
 use Rattle.scan.proofs.Tabulate.{tabulate-at}
 use Rattle.automaton.specs.Automaton.{Automaton, Closed}
 use Rattle.automaton.specs.Reach.{Reachable}
-use Rattle.refusal.specs.declared.Verdict.TheVariants.{Accepted}
 use Rattle.net.specs.Check.{net_reply}
 use Rattle.net.proofs.Laws.{start-within}
 use Rattle.sequential.specs.Petri.{PetriNet, petri_net, initial, HoldsTaken, Enabled, fire, fired_count, fire_all, FiresEnabled, fires_first, Source}
@@ -41,7 +41,7 @@ module _ (N : PetriNet) where
 
 -- ---- the initial marking
 
-pub initial-within : (net : List ℕ) → net_reply net ≡ Accepted → WithinCapacities (petri_net net) (initial (petri_net net))
+pub initial-within : (net : List ℕ) → net_reply net ≡ Ok tt → WithinCapacities (petri_net net) (initial (petri_net net))
 unfolding initial
 initial-within net a p l = rw (tabulate-at (petri_net net).start 0 (petri_net net).places p l) (start-within net a p)
 

@@ -1,4 +1,5 @@
 -- A net or a sheet with too many words is answered as its first words are: the longest sheet has 8,194.
+use Rattle.refusal.specs.declared.Reason.TheVariants.{ScheduleLength, ScheduleSize}
 use Rattle.scan.proofs.Basics.{ℕ, ◌+◌, ◌*◌, ◌≤◌, ◌<◌, arith, ◌≡◌, sym, ap, ◌∙◌, true, false, cond, ltb, eqb, some, List, length, take}
 use lib.Seq.{get_or-take, take_all, length-take-le}
 use Rattle.scan.proofs.Tests.{le-ltb, ne_eqb, by_test, by_less}
@@ -17,7 +18,7 @@ use Rattle.sequential.proofs.Words.{sizes↔, words-fault}
 
 -- what more words than fit are refused by: sizes, or else the length
 unfoldable overlong_fault : ℕ → ℕ → Refusal
-overlong_fault v k = cond (sizes_pass v k) (refusal 6 Nothing) (refusal 7 Nothing)
+overlong_fault v k = cond (sizes_pass v k) (refusal ScheduleLength Nothing) (refusal ScheduleSize Nothing)
 
 module _ (N : PetriNet) (sheet : List ℕ) (l : 8195 ≤ length sheet) where
   not-whole : sizes_pass (node_count sheet) (entry_count sheet) ≡ true → eqb (length sheet) (2 + 2 * entry_count sheet) ≡ false

@@ -1,4 +1,5 @@
 -- 10 to 17, with 27: the tests decide the clauses.
+use Rattle.refusal.specs.declared.Reason.TheVariants.{NotHeld, OverCapacity, WrongTarget}
 use Rattle.scan.proofs.Basics.{ℕ, ◌-◌, ◌<◌, ◌≡◌, sym, ap, ◌∙◌, ◌↔◌, true, false, not, none, List, get_or}
 use Rattle.scan.proofs.Tests.{eqb-true, eq-eqb, decides_not, decides-unless}
 use Rattle.scan.specs.Scan.{or_else, when, first}
@@ -63,8 +64,8 @@ module _ (N : PetriNet) (sheet : List ℕ) where
 
   -- what is found at an entry that is an arc, and that nothing is at another
   pub arc-fault : (i : ℕ) → is_arc N sheet i ≡ true
-      → arc_fault N sheet i ≡ or_else (when (not (arc_holds N sheet i)) (refusal 14 (Entry i)))
-      (or_else (when (not (arc_has_room N sheet i)) (refusal 27 (Entry i))) (when (not (arc_lands N sheet i)) (refusal 15 (Entry i))))
+      → arc_fault N sheet i ≡ or_else (when (not (arc_holds N sheet i)) (refusal NotHeld (Entry i)))
+      (or_else (when (not (arc_has_room N sheet i)) (refusal OverCapacity (Entry i))) (when (not (arc_lands N sheet i)) (refusal WrongTarget (Entry i))))
   unfolding arc_fault line_finds found_at
   arc-fault i e = rw e
 

@@ -1,4 +1,6 @@
 -- A net with one source left: what is removed, which checks of a schedule's words and arcs do not depend on it, and which choice sets are left.
+use Rattle.std.specs.Prelude.{Err, Ok}
+use Rattle.refusal.specs.Refusal.{Verdict}
 use Rattle.scan.proofs.Basics.{ℕ, ◌<◌, arith, ◌≡◌, refl, sym, ◌∙◌, ap, inl, inr, ⊎_elim, ◌↔◌, Bool, true, false, not, ◌&&◌, ltb, eqb, List}
 use mathlib.Core.Path.{fun_ext}
 use Rattle.scan.proofs.Tests.{ltb-true, le-ltb, eqb-true, eq-eqb, ne_eqb, by_test, true-false, not-true→false, and_left, and_right, and-true}
@@ -10,8 +12,6 @@ use Rattle.automaton.specs.Equivalence.{leader_by}
 use Rattle.automaton.proofs.Leader.{leader-ext, leader-member}
 use Rattle.refusal.specs.Finding.{line_finds}
 use Rattle.refusal.specs.Verdict.{verdict_of, and_then}
-use Rattle.refusal.specs.declared.Verdict.{Verdict}
-use Rattle.refusal.specs.declared.Verdict.TheVariants.{Accepted, Refused}
 use Rattle.net.specs.Net.{transition_count}
 use Rattle.net.specs.Check.{net_reply}
 use Rattle.net.proofs.Laws.{sizes}
@@ -169,8 +169,8 @@ whole-reply net sheet = go (net_reply net) refl
   where
     go : (v : Verdict) → net_reply net ≡ v → and_then (net_reply net) (verdict_of (schedule_fault (only (petri_net net) 32) sheet)) ≡ and_then (net_reply net) (verdict_of
         (schedule_fault (petri_net net) sheet))
-    go Accepted h =
+    go (Ok tt) h =
         let few = (sizes net h).few_transitions in
         ap (λ (N : PetriNet). and_then (net_reply net) (verdict_of (schedule_fault N sheet)))
         (only-whole (petri_net net) 32 (unfold is_source_of in (rw (le-ltb 32 (transition_count net) (omega arith)))))
-    go (Refused r) h = rw h
+    go (Err r) h = rw h

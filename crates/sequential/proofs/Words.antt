@@ -1,4 +1,5 @@
 -- 6 to 9: the tests decide the clauses, and what is known of words that pass.
+use Rattle.refusal.specs.declared.Reason.TheVariants.{ScheduleOrder, ScheduleValue}
 use Rattle.scan.proofs.Basics.{ℕ, ◌+◌, ◌≤◌, ◌<◌, arith, ◌≡◌, sym, ap, ◌∙◌, ◌↔◌, Bool, true, false, ltb, eqb, none, List, [], ◌∷◌, ◌++◌, length}
 use Rattle.scan.proofs.Tests.{ltb-true, ltb-false, lt-ltb, le-ltb, leb-false, lt-leb, eqb-true, eqb-false, eq-eqb, ne_eqb, by_test, decides_not, or-none-left, or-none-right}
 use Rattle.scan.specs.Scan.{or_else, first}
@@ -81,7 +82,7 @@ module _ (sheet : List ℕ) (arcs i : ℕ) where
 
 module _ (N : PetriNet) (sheet : List ℕ) (Value : ℕ → Type 0) where
   abbrev entries : List Check
-  entries = each (entry_count sheet) Entry (KeyPasses sheet 2 (key_limit N sheet) else 8 ∷ Value else 9 ∷ []) ∷ []
+  entries = each (entry_count sheet) Entry (KeyPasses sheet 2 (key_limit N sheet) else ScheduleOrder ∷ Value else ScheduleValue ∷ []) ∷ []
 
   entries-hold : AllPass (shape_checks sheet ++ entries)
       ↔ (ShapePasses sheet × ((i : ℕ) → i < entry_count sheet → KeyPasses sheet 2 (key_limit N sheet) i) × ((i : ℕ) → i < entry_count sheet → Value i))

@@ -1,4 +1,5 @@
 -- The check of a schedule as a computation: for each clause of `sheet_checks` a test that it fails, and what these tests find.
+use Rattle.refusal.specs.declared.Reason.TheVariants.{ScheduleOrder, ScheduleValue}
 use Rattle.std.specs.Prelude.{ℕ, ◌+◌, ◌*◌, ◌-◌, List, [], ◌∷◌, ◌++◌, Bool, cond, not, ◌&&◌, ◌||◌, length, ltb, leb, eqb}
 use Rattle.std.proofs.Math.Option.{Option}
 use Rattle.scan.specs.Scan.{or_else, when, all, count}
@@ -6,11 +7,10 @@ use Rattle.table.specs.Keys.{key_fails}
 use Rattle.automaton.specs.Reach.{reached_in, leads_in}
 use Rattle.refusal.specs.Limits.{most_nodes, most_entries, most_count}
 use Rattle.refusal.specs.Verdict.{verdict_of, and_then}
-use Rattle.refusal.specs.Refusal.{refusal}
+use Rattle.refusal.specs.Refusal.{refusal, Verdict}
 use Rattle.refusal.specs.Finding.{Tests, asked, line_finds, finding}
 use Rattle.refusal.specs.declared.Position.TheVariants.{Entry}
 use Rattle.refusal.specs.declared.Refusal.{Refusal}
-use Rattle.refusal.specs.declared.Verdict.{Verdict}
 use Rattle.net.specs.Check.{net_reply}
 use Rattle.sequential.specs.Petri.{PetriNet, petri_net, fired_count}
 use Rattle.sequential.specs.Words.{node_count, entry_count, entry_key, entry_value, arc_keys, key_limit, marking, graph, is_arc, arc_node, arc_transition, count_at}
@@ -53,7 +53,7 @@ shape_fault sheet = finding (shape_checks sheet) (shape_tests sheet)
 
 -- 8 and 9 at one entry, given the test of its value
 unfoldable pub entry_fault : List ℕ → ℕ → (ℕ → Bool) → ℕ → Option Refusal
-entry_fault sheet limit fails i = or_else (when (key_fails sheet 2 limit i) (refusal 8 (Entry i))) (when (fails i) (refusal 9 (Entry i)))
+entry_fault sheet limit fails i = or_else (when (key_fails sheet 2 limit i) (refusal ScheduleOrder (Entry i))) (when (fails i) (refusal ScheduleValue (Entry i)))
 
 module _ (N : PetriNet) (sheet : List ℕ) where
   -- the tests of the words, given the test of an entry's value

@@ -1,4 +1,5 @@
 -- The checks of a schedule in their order, each with its clause and its number: of its words, and of the graph that they describe.
+use Rattle.refusal.specs.declared.Reason.TheVariants.{NoArc, NoPathToAwait, NotHeld, NotOneChoiceSet, NotReached, OverCapacity, RootNotAwait, ScheduleLength, ScheduleOrder, ScheduleSize, ScheduleValue, WrongStart, WrongTarget}
 use Rattle.std.specs.Prelude.{ℕ, ◌+◌, ◌*◌, ◌≤◌, ◌<◌, ◌≡◌, List, [], ◌∷◌, ◌++◌, length}
 use Rattle.table.specs.Table.{KeyPasses}
 use Rattle.automaton.specs.Reach.{Reachable}
@@ -28,19 +29,19 @@ pub record ValuePasses (sheet : List ℕ) (arcs i : ℕ) : Type 0 where
 -- §7.6 and §7.7
 abbrev pub shape_checks : List ℕ → List Check
 shape_checks sheet =
-    once (2 ≤ length sheet) 6
-    ∷ once (SizesPass sheet) 7
-    ∷ once (length sheet ≡ 2 + 2 * entry_count sheet) 6
+    once (2 ≤ length sheet) ScheduleLength
+    ∷ once (SizesPass sheet) ScheduleSize
+    ∷ once (length sheet ≡ 2 + 2 * entry_count sheet) ScheduleLength
     ∷ []
 
 module _ (N : PetriNet) (sheet : List ℕ) where
   -- then §7.8 and §7.9 at each entry, in the order of §7.56; positions are those of §7.53
   abbrev pub word_checks : List Check
-  word_checks = shape_checks sheet ++ (each (entry_count sheet) Entry (KeyPasses sheet 2 (key_limit N sheet) else 8 ∷ ValuePasses sheet (arc_keys N sheet) else 9 ∷ []) ∷ [])
+  word_checks = shape_checks sheet ++ (each (entry_count sheet) Entry (KeyPasses sheet 2 (key_limit N sheet) else ScheduleOrder ∷ ValuePasses sheet (arc_keys N sheet) else ScheduleValue ∷ []) ∷ [])
 
   -- the same, but §7.9 is asked of arcs only: the counts may be anything
   abbrev pub arc_word_checks : List Check
-  arc_word_checks = shape_checks sheet ++ (each (entry_count sheet) Entry (KeyPasses sheet 2 (key_limit N sheet) else 8 ∷ ArcValuePasses sheet (arc_keys N sheet) else 9 ∷ []) ∷ [])
+  arc_word_checks = shape_checks sheet ++ (each (entry_count sheet) Entry (KeyPasses sheet 2 (key_limit N sheet) else ScheduleOrder ∷ ArcValuePasses sheet (arc_keys N sheet) else ScheduleValue ∷ []) ∷ [])
 
   -- the words are right: §3.1 to §3.6
   abbrev pub WordsPass : Type 0
@@ -61,12 +62,12 @@ module _ (N : PetriNet) (sheet : List ℕ) where
   -- §7.10 to §7.17 and §7.27, in the order of §7.57: each line has the number of its clause. The first is §6.2
   abbrev pub graph_checks : List Check
   graph_checks =
-      each N.places Place ((λ p. count_at N sheet 0 p ≡ N.start p) else 10 ∷ [])
-      ∷ each (node_count sheet) Node ((λ n. (t : ℕ) × Offers N (graph N sheet) n t) else 11 ∷ OneChoiceSet N (graph N sheet) else 12 ∷ [])
-      ∷ each 1 Node (Await N (graph N sheet) else 13 ∷ [])
-      ∷ each (entry_count sheet) Entry (ArcHolds else 14 ∷ ArcHasRoom else 27 ∷ ArcLands else 15 ∷ [])
-      ∷ each (node_count sheet) Node (Reachable (graph N sheet) else 16 ∷ [])
-      ∷ each (node_count sheet) Node (ToAwait N (graph N sheet) else 17 ∷ [])
+      each N.places Place ((λ p. count_at N sheet 0 p ≡ N.start p) else WrongStart ∷ [])
+      ∷ each (node_count sheet) Node ((λ n. (t : ℕ) × Offers N (graph N sheet) n t) else NoArc ∷ OneChoiceSet N (graph N sheet) else NotOneChoiceSet ∷ [])
+      ∷ each 1 Node (Await N (graph N sheet) else RootNotAwait ∷ [])
+      ∷ each (entry_count sheet) Entry (ArcHolds else NotHeld ∷ ArcHasRoom else OverCapacity ∷ ArcLands else WrongTarget ∷ [])
+      ∷ each (node_count sheet) Node (Reachable (graph N sheet) else NotReached ∷ [])
+      ∷ each (node_count sheet) Node (ToAwait N (graph N sheet) else NoPathToAwait ∷ [])
       ∷ []
 
   -- the words before the graph: §7.54

@@ -1,8 +1,7 @@
 -- What is known after the checks, for the functions that come after them and for proofs. No promise cites it.
-use Rattle.std.specs.Prelude.{ℕ, ◌+◌, ◌*◌, ◌≤◌, ◌<◌, ◌≡◌, List, length}
+use Rattle.std.specs.Prelude.{ℕ, ◌+◌, ◌*◌, ◌≤◌, ◌<◌, ◌≡◌, List, length, Ok}
 use Rattle.table.specs.Table.{KeyPasses}
 use Rattle.refusal.specs.Limits.{most_nodes, most_entries}
-use Rattle.refusal.specs.declared.Verdict.TheVariants.{Accepted}
 use Rattle.net.specs.Check.{net_reply}
 use Rattle.sequential.specs.Petri.{PetriNet, petri_net}
 use Rattle.sequential.specs.Words.{node_count, entry_count, arc_keys, key_limit, graph}
@@ -29,7 +28,7 @@ pub record WordsHold (N : PetriNet) (sheet : List ℕ) : Type 0 where
 
 -- 1 to 17, 26 and 27 refuse nothing, if the words are read as a schedule of N
 pub record AcceptsAs (N : PetriNet) (net sheet : List ℕ) : Type 0 where
-  pub net_accepted : net_reply net ≡ Accepted
+  pub net_accepted : net_reply net ≡ Ok tt
   pub words : WordsHold N sheet
   pub schedule : IsSchedule N (graph N sheet)
 

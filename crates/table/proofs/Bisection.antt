@@ -1,12 +1,12 @@
 -- Bisection, turn by turn for any test; if the test passes below some index and not from there on, bisection finds that index.
 -- So the look-up among rising keys is the entry with the key.
 -- ---- the turns of the loop
+use Rattle.std.specs.Prelude.{None, Some}
 use Rattle.scan.proofs.Basics.{ℕ, zero, suc, ◌+◌, ◌-◌, ◌≤◌, ◌<◌, arith, ◌≡◌, refl, sym, ap, ◌∙◌, Bool, true, false, cond, ◌&&◌, ltb, leb, eqb, none, some, List, length}
 use native.Mathlib.Decide.{dec_lt}
 use Rattle.scan.proofs.Tests.{ltb-true, ltb-false, lt-ltb, le-ltb, leb-true, le-leb, lt-leb, eqb-true, eq-eqb, ne_eqb, by_test, true-false, not-true→false, and_left, and_right, and_both}
 use Rattle.table.specs.Table.{key_at, entry_of, Rising}
 use Rattle.table.specs.Bisection.{middle, bisect, key_below, lower_bound, look_up, found_of}
-use Rattle.table.specs.declared.Found.TheVariants.{At, Nothing}
 use Rattle.table.proofs.Table.{rising, entry_at, entry_absent}
 
 module _ (f : ℕ → Bool) where
@@ -75,7 +75,7 @@ module _ (f : ℕ → Bool) (n : ℕ) (falling : (i j : ℕ) → i < j → j < n
 
 -- ---- the look-up
 
-found-cond : (b : Bool) (i : ℕ) → cond b (At i) Nothing ≡ found_of (cond b (some i) none)
+found-cond : (b : Bool) (i : ℕ) → cond b (Some i) None ≡ found_of (cond b (some i) none)
 found-cond true i = refl
 found-cond false i = refl
 
@@ -93,23 +93,23 @@ module _ (words : List ℕ) (offset entries k : ℕ) where
   unfolding lower_bound
   lower-bound-unfit h = rw (lt-leb (offset + entries) (length words) h)
 
-  pub look-up-hit : (i : ℕ) → i ≡ lower_bound words offset entries k → i < entries → key_at words offset i ≡ k → At i ≡ look_up words offset entries k
+  pub look-up-hit : (i : ℕ) → i ≡ lower_bound words offset entries k → i < entries → key_at words offset i ≡ k → Some i ≡ look_up words offset entries k
   unfolding look_up
   look-up-hit i e l h = rw (← e, lt-ltb i entries l, eq-eqb (key_at words offset i) k h)
 
-  pub look-up-miss : (i : ℕ) → i ≡ lower_bound words offset entries k → (i < entries → key_at words offset i ≡ k → ⊥) → Nothing ≡ look_up words offset entries k
+  pub look-up-miss : (i : ℕ) → i ≡ lower_bound words offset entries k → (i < entries → key_at words offset i ≡ k → ⊥) → None ≡ look_up words offset entries k
   unfolding look_up
   look-up-miss i e h = rw (← e) (by_test (ltb i entries) (λ q. rw (q, ne_eqb (key_at words offset i) k (h (ltb-true i entries q)))) (λ q. rw q))
 
   -- the entry that is found is one of the entries, whatever the keys
-  pub look-up-within : (i : ℕ) → look_up words offset entries k ≡ At i → i < entries
+  pub look-up-within : (i : ℕ) → look_up words offset entries k ≡ Some i → i < entries
   unfolding look_up
   look-up-within i e = go (ltb r entries) refl (eqb (key_at words offset r) k) e
     where
       r : ℕ
       r = lower_bound words offset entries k
 
-      go : (a : Bool) → ltb r entries ≡ a → (b : Bool) → cond (a && b) (At r) Nothing ≡ At i → i < entries
+      go : (a : Bool) → ltb r entries ≡ a → (b : Bool) → cond (a && b) (Some r) None ≡ Some i → i < entries
       go true p true h = let q : r ≡ i = cc in omega (arith, ltb-true r entries p)
       go true p false h = absurd (let z : ◌≡◌ {A = ℕ} 0 1 = cc in omega arith)
       go false p b h = absurd (let z : ◌≡◌ {A = ℕ} 0 1 = cc in omega arith)

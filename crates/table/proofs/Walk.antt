@@ -1,13 +1,37 @@
 -- The walk along a run of keys: its turns, and what it stores on any words.
 use Rattle.scan.proofs.Basics.{ℕ, zero, suc, ◌+◌, ◌-◌, ◌≤◌, ◌<◌, arith, ◌≡◌, refl, ◌∙◌, ◌⊎◌, inl, inr, ⊎_elim, ◌&&◌, ltb, leb, List, length, get_or, set, replicate, length-set}
+use Prim.Native.Nat.{min}
 use native.Mathlib.Decide.{ℕ_discrete}
 use lib.ListN.{get_or-replicate}
 use lib.Seq.{get_or-set_same, get_or-set_other}
-use Rattle.scan.proofs.Tests.{ltb-true, lt-ltb, le-ltb, leb-true, le-leb, by_test, and_left, and_right}
+use Rattle.std.specs.Bool.{then_some}
+use Rattle.std.specs.Prelude.{MatchOption}
+use Rattle.scan.proofs.Tests.{ltb-true, ltb-false, lt-ltb, le-ltb, leb-true, le-leb, lt-leb, by_test, and_left, and_right}
 use Rattle.table.specs.Table.{key_at}
 use Rattle.table.specs.Bisection.{lower_bound}
 use Rattle.table.specs.Row.{run_place, walk, run_row}
 use Rattle.table.proofs.Bisection.{lower-bound-fits}
+
+-- the place of a key: below the run it is past the row, and from there on it is told where the row has it
+module _ (words : List ℕ) (offset first width : ℕ) where
+  abbrev key_of : ℕ → ℕ
+  key_of = key_at words offset
+
+  abbrev place_of : ℕ → ℕ
+  place_of = run_place words offset first width
+
+  pub place-low : (i : ℕ) → key_of i < first → 32 ≤ place_of i
+  unfolding run_place
+  place-low i l = rw (lt-leb first (key_of i) l) (omega arith)
+
+  pub place-told : (i p m : ℕ) → first ≤ key_of i → p ≡ key_of i - first → m ≡ min width 32
+      → MatchOption (then_some (ltb p m) p) (32 ≤ place_of i) (λ q. (q < 32) × (q ≡ place_of i))
+  unfolding run_place
+  place-told i p m l e w =
+      by_test (ltb p m)
+      (λ h. let k = ltb-true p m h in rw (h, le-leb first (key_of i) l, ← e, lt-ltb p width (omega arith)) (omega arith, refl))
+      (λ h. let k = ltb-false p m h in rw (h, le-leb first (key_of i) l, ← e)
+      (by_test (ltb p width) (λ g. let q = ltb-true p width g in rw g (omega arith)) (λ g. rw g (omega arith))))
 
 module _ (words : List ℕ) (offset entries first width : ℕ) where
   abbrev key : ℕ → ℕ
@@ -71,13 +95,13 @@ module _ (words : List ℕ) (offset entries first width : ℕ) where
         }
 
     -- it ends at a key that is not of the run, or behind the last entry
-    pub walk_ends : (i p : ℕ) (row : List ℕ) → Walking i row → p ≡ place i → 32 ≤ p → row ≡ end_row
+    pub walk_ends : (i : ℕ) (row : List ℕ) → Walking i row → 32 ≤ place i → row ≡ end_row
     unfolding walk
-    walk_ends i p row w e l = go (entries - i) w.ends
+    walk_ends i row w l = go (entries - i) w.ends
       where
         go : (left : ℕ) → walked left i row ≡ end_row → row ≡ end_row
         go zero h = h
-        go (suc left) h = rw (← e, le-ltb p 32 l) at h
+        go (suc left) h = rw (le-ltb (place i) 32 l) at h
 
     pub walk-over : (i : ℕ) (row : List ℕ) → Walking i row → entries ≤ i → row ≡ end_row
     unfolding walk

@@ -1,13 +1,16 @@
 -- The look-up by bisection, for any words: what the code answers whether the keys rise or not.
 -- `look_up_lem` of proofs/Bisection shows that it is the entry with the key if the keys rise.
-use Rattle.std.specs.Prelude.{ℕ, zero, suc, ◌+◌, ◌-◌, ◌/◌, List, Bool, cond, ◌&&◌, length, ltb, leb, eqb}
+use Rattle.std.specs.Prelude as prelude
+use Rattle.std.specs.Prelude.{ℕ, zero, suc, ◌+◌, ◌-◌, ◌/◌, List, Bool, cond, ◌&&◌, length, ltb, leb, eqb, None, Some}
 use Rattle.std.proofs.Math.Option.{Option, none, some}
 use Rattle.table.specs.Table.{key_at}
-use Rattle.table.specs.declared.Found.{Found}
-use Rattle.table.specs.declared.Found.TheVariants.{At, Nothing}
 
 abbrev pub middle : ℕ → ℕ → ℕ
 middle low high = low + (high - low) / 2
+
+-- an entry that may be missing, as the code answers it
+abbrev pub Found : Type 0
+Found = prelude.Option ℕ
 
 -- where halving between low and high ends; it goes up past each middle that passes, and makes at most the given number of turns
 unfoldable pub bisect : (ℕ → Bool) → ℕ → ℕ → ℕ → ℕ
@@ -28,9 +31,9 @@ module _ (words : List ℕ) (offset : ℕ) where
   unfoldable pub look_up : ℕ → ℕ → Found
   look_up entries key =
       let i = lower_bound entries key in
-      cond (ltb i entries && eqb (key_at words offset i) key) (At i) Nothing
+      cond (ltb i entries && eqb (key_at words offset i) key) (Some i) None
 
 -- an entry that may be missing
 abbrev pub found_of : Option ℕ → Found
-found_of none = Nothing
-found_of (some i) = At i
+found_of none = None
+found_of (some i) = Some i

@@ -1,6 +1,5 @@
 -- Bytes, digits and texts one after the other.
-use Rattle.scan.proofs.Basics.{ℕ, zero, suc, ◌+◌, ◌/◌, ◌%◌, ◌≤◌, ◌<◌, add-one, arith, ◌≡◌, refl, List, [], ◌∷◌, ◌++◌, length, get_or, take}
-use lib.Seq.{take-suc, take_all}
+use Rattle.scan.proofs.Basics.{ℕ, zero, suc, ◌+◌, ◌/◌, ◌%◌, ◌≤◌, ◌<◌, add-one, arith, ◌≡◌, refl, List, [], ◌∷◌, ◌++◌}
 use Rattle.text.specs.Buffer.{Put}
 use Rattle.text.specs.Decimal.{digit, decimal}
 use Rattle.text.specs.Lines.{kind_name, joined}
@@ -24,14 +23,6 @@ module _ (f : ℕ → List ℕ) where
   all-joined i n l h a = let e : i ≡ n = omega arith in rw e at a
 
 module _ {out out' : List ℕ} {at r : ℕ} where
-  -- a byte more, and all of them
-  pub more-taken : {mid : List ℕ} {m : ℕ} (bytes : List ℕ) (i : ℕ) → i < length bytes
-      → Put out at (take i bytes) m mid → Put mid m (get_or bytes i 0 ∷ []) r out' → Put out at (take (i + 1) bytes) r out'
-  more-taken bytes i l a b = rw (add-one, take-suc bytes i 0) (both-put a b)
-
-  pub all-taken : (bytes : List ℕ) (i : ℕ) → length bytes ≤ i → Put out at (take i bytes) r out' → Put out at bytes r out'
-  all-taken bytes i l a = rw take_all at a
-
   -- the only digit, and the last two
   pub one-digit : (n : ℕ) → n < 10 → Put out at (digit n ∷ []) r out' → Put out at (decimal n) r out'
   one-digit n l a = rw (decimal-one n l) at a

@@ -3,6 +3,7 @@ use Rattle.scan.proofs.Basics.{ℕ, zero, suc, ◌+◌, ◌-◌, ◌≤◌, ◌<
 use Prim.Native.Nat.{min}
 use native.Mathlib.Nat.{not-suc-le-zero, le_of_suc-le-suc}
 use lib.Seq.{take-append_seam}
+use borrow.Rule.Slice.PartMut.{put_mid}
 use Rattle.text.specs.Buffer.{put_at, Put}
 
 -- ---- one piece
@@ -26,11 +27,20 @@ put_one [] at b = refl
 put_one (x ∷ out) zero b = ap (λ (l : List ℕ). b ∷ l) (put-none out zero)
 put_one (x ∷ out) (suc at) b = ap (λ (l : List ℕ). x ∷ l) (put_one out at b)
 
-put-past : (out : List ℕ) (at b : ℕ) → length out ≤ at → out ≡ put_at out at (b ∷ [])
+-- as many bytes as there is room for, copied at once
+mid-put : (out : List ℕ) (at : ℕ) (bytes : List ℕ) (n : ℕ) → n ≡ min (length bytes) (length out - at) → at ≤ length out → put_mid at n out (take n bytes) ≡ put_at out at bytes
 unfolding put_at
-put-past [] at b l = refl
-put-past (x ∷ out) zero b l = absurd (not-suc-le-zero l)
-put-past (x ∷ out) (suc at) b l = ap (λ (t : List ℕ). x ∷ t) (put-past out at b (le_of_suc-le-suc l))
+mid-put [] at bytes n e l = let q : at ≡ 0 = omega arith in let r : n ≡ 0 = omega arith in rw (q, r)
+mid-put (x ∷ out) (suc at) bytes n e l = ap (λ (t : List ℕ). x ∷ t) (mid-put out at bytes n (omega arith) (omega arith))
+mid-put (x ∷ out) zero [] n e l = let r : n ≡ 0 = omega arith in rw r
+mid-put (x ∷ out) zero (b ∷ bytes) zero e l = absurd (omega arith)
+mid-put (x ∷ out) zero (b ∷ bytes) (suc n) e l = ap (λ (t : List ℕ). b ∷ t) (mid-put out zero bytes n (omega arith) (omega arith))
+
+put-out : (out : List ℕ) (at : ℕ) (bytes : List ℕ) → length out ≤ at → out ≡ put_at out at bytes
+unfolding put_at
+put-out [] at bytes l = refl
+put-out (x ∷ out) zero bytes l = absurd (not-suc-le-zero l)
+put-out (x ∷ out) (suc at) bytes l = ap (λ (t : List ℕ). x ∷ t) (put-out out at bytes (le_of_suc-le-suc l))
 
 module _ (out : List ℕ) (at : ℕ) where
   pub nothing_put : Put out at [] at out
@@ -39,8 +49,11 @@ module _ (out : List ℕ) (at : ℕ) where
   pub byte_put : (b : ℕ) → at < length out → Put out at (b ∷ []) (at + 1) (set out at b)
   byte_put b l = record { behind = omega arith; held = put_one out at b }
 
-  pub byte-dropped : (b : ℕ) → length out ≤ at → Put out at (b ∷ []) at out
-  byte-dropped b l = record { behind = omega arith; held = put-past out at b l }
+  pub dropped : (bytes : List ℕ) → length out ≤ at → Put out at bytes at out
+  dropped bytes l = record { behind = omega arith; held = put-out out at bytes l }
+
+  pub copied : (bytes : List ℕ) (n k : ℕ) → k ≡ n → n ≡ min (length bytes) (length out - at) → at ≤ length out → Put out at bytes (at + n) (put_mid at k out (take k bytes))
+  copied bytes n k q e l = rw q (record { behind = omega arith; held = mid-put out at bytes n e l })
 
 -- ---- one piece behind the other
 

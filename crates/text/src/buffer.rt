@@ -8,29 +8,29 @@ pub(crate) fn byte(out: &mut [u8], at: usize, byte: u8) -> usize
 {
     if at < out.len() {
         out[at] = byte;
-        return at + 1;
+        at + 1
+    } else {
+        at
     }
-    at
 }
 
 pub(crate) fn bytes(out: &mut [u8], at: usize, bytes: &[u8]) -> usize
     ensures { Put out.old at bytes.now result out.new }
 {
-    let mut next = at;
-    let mut i = 0;
-    while i < bytes.len() {
-        next = byte(out, next, bytes[i]);
-        i += 1;
+    if out.len() <= at {
+        return at;
     }
-    next
+    let end = at + bytes.len().min(out.len() - at);
+    out[at..end].copy_from_slice(&bytes[..end - at]);
+    end
 }
 
 // The last two digits.
 fn two_digits(out: &mut [u8], at: usize, n: u64) -> usize
     ensures { Put out.old at (digit (n / 10 % 10) ∷ digit (n % 10) ∷ []) result out.new }
 {
-    let next = byte(out, at, 48 + (n / 10 % 10) as u8);
-    byte(out, next, 48 + (n % 10) as u8)
+    let next = byte(out, at, b'0' + (n / 10 % 10) as u8);
+    byte(out, next, b'0' + (n % 10) as u8)
 }
 
 // A number as decimal text: first the digits of n / 100, then the last two digits.
@@ -38,7 +38,7 @@ pub(crate) fn decimal(out: &mut [u8], at: usize, n: u64) -> usize
     ensures { Put out.old at (decimal_decimal n) result out.new }
 {
     if n < 10 {
-        return byte(out, at, 48 + n as u8);
+        return byte(out, at, b'0' + n as u8);
     }
     if n < 100 {
         return two_digits(out, at, n);

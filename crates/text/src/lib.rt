@@ -4,7 +4,7 @@
 
 mod buffer;
 
-ghost use Rattle.std.specs.Prelude.{◌++◌};
+ghost use Rattle.std.specs.Prelude.{◌≡◌, ◌++◌};
 ghost use Rattle.text.specs.Buffer.{Put};
 ghost use Rattle.text.specs.Decimal.{ascii, decimal};
 ghost use Rattle.text.specs.Lines.{kind_name, answer_text, answer_line, counts_line, bound_line, bound_lines, words_text, form_line, accepted_lines};
@@ -17,15 +17,16 @@ pub fn field(out: &mut [u8], at: usize, name: &[u8], n: u64) -> usize
     buffer::decimal(out, next, n)
 }
 
-fn kind_name(out: &mut [u8], at: usize, kind: u64) -> usize
-    ensures { Put out.old at (ascii (kind_name kind)) result out.new }
+// The name of a kind of position, by its number: §8.2. A kind is a number here, as it is among an answer's plain numbers.
+fn kind_name(kind: u64) -> &'static [u8]
+    ensures { result.now ≡ ascii (kind_name kind) }
 {
     match kind {
-        0 => buffer::bytes(out, at, b" none"),
-        1 => buffer::bytes(out, at, b" entry"),
-        2 => buffer::bytes(out, at, b" place"),
-        3 => buffer::bytes(out, at, b" node"),
-        _ => buffer::bytes(out, at, b" record"),
+        0 => b" none",
+        1 => b" entry",
+        2 => b" place",
+        3 => b" node",
+        _ => b" record",
     }
 }
 
@@ -34,7 +35,7 @@ pub fn answer(out: &mut [u8], at: usize, number: u64, kind: u64, index: u64) -> 
     ensures { Put out.old at (answer_text number kind index) result out.new }
 {
     let at = field(out, at, b"answer ", number);
-    let at = kind_name(out, at, kind);
+    let at = buffer::bytes(out, at, kind_name(kind));
     field(out, at, b" ", index)
 }
 
@@ -42,16 +43,16 @@ pub fn answer(out: &mut [u8], at: usize, number: u64, kind: u64, index: u64) -> 
 pub fn answer_line(out: &mut [u8], at: usize, number: u32, kind: u32, index: usize) -> usize
     ensures { Put out.old at (answer_line number kind index) result out.new }
 {
-    let at = answer(out, at, number as u64, kind as u64, index as u64);
+    let at = answer(out, at, u64::from(number), u64::from(kind), index as u64);
     buffer::byte(out, at, b'\n')
 }
 
 fn counts_line(out: &mut [u8], at: usize, nodes: u32, arcs: u32, awaits: u32) -> usize
     ensures { Put out.old at (counts_line nodes arcs awaits) result out.new }
 {
-    let at = field(out, at, b"nodes ", nodes as u64);
-    let at = field(out, at, b" arcs ", arcs as u64);
-    let at = field(out, at, b" awaits ", awaits as u64);
+    let at = field(out, at, b"nodes ", u64::from(nodes));
+    let at = field(out, at, b" arcs ", u64::from(arcs));
+    let at = field(out, at, b" awaits ", u64::from(awaits));
     buffer::byte(out, at, b'\n')
 }
 
@@ -59,7 +60,7 @@ fn bound_line(out: &mut [u8], at: usize, place: usize, bound: u32) -> usize
     ensures { Put out.old at (bound_line place bound) result out.new }
 {
     let at = field(out, at, b"place ", place as u64);
-    let at = field(out, at, b" bound ", bound as u64);
+    let at = field(out, at, b" bound ", u64::from(bound));
     buffer::byte(out, at, b'\n')
 }
 
@@ -68,10 +69,8 @@ fn bound_lines(out: &mut [u8], at: usize, bounds: &[u32]) -> usize
     ensures { Put out.old at (bound_lines bounds.now) result out.new }
 {
     let mut next = at;
-    let mut p = 0;
-    while p < bounds.len() {
-        next = bound_line(out, next, p, bounds[p]);
-        p += 1;
+    for (p, bound) in bounds.iter().enumerate() {
+        next = bound_line(out, next, p, *bound);
     }
     next
 }
@@ -81,10 +80,8 @@ pub fn words(out: &mut [u8], at: usize, words: &[u32]) -> usize
     ensures { Put out.old at (words_text words.now) result out.new }
 {
     let mut next = at;
-    let mut i = 0;
-    while i < words.len() {
-        next = field(out, next, b" ", words[i] as u64);
-        i += 1;
+    for word in words {
+        next = field(out, next, b" ", u64::from(*word));
     }
     next
 }

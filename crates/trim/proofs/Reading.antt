@@ -1,18 +1,16 @@
 -- An entry as the code reads it: whether it is an arc, the cell of its node, and what it becomes.
 use Rattle.scan.proofs.Basics.{ℕ, ◌+◌, ◌-◌, ◌*◌, ◌/◌, ◌%◌, ◌≤◌, ◌<◌, arith, ◌≡◌, refl, ◌∙◌, true, false, List, get_or}
-use native.Mathlib.Nat.{mod-lt}
 use Rattle.scan.proofs.Tests.{lt-ltb, le-ltb, by_test}
-use Rattle.scan.proofs.Count.{count-le}
 use Rattle.table.specs.Table.{key_at, value_at}
 use Rattle.net.specs.Net.{place_count, transition_count}
 use Rattle.automaton.specs.Automaton.{Automaton}
 use Rattle.sequential.specs.Petri.{PetriNet, petri_net}
 use Rattle.sequential.specs.Words.{node_count, entry_count, entry_key, entry_value, arc_keys, graph, is_arc, arc_node, arc_transition}
-use Rattle.sequential.proofs.Entries.{rows_few, entry-target}
+use Rattle.sequential.proofs.Entries.{entry-target}
 use Rattle.graph.proofs.Readable.{words}
 use Rattle.trimmed.specs.Trim.{is_kept, new_number}
 use Rattle.trimmed.specs.Entries.{count_node, count_place, entry_node, entry_kept, new_key, new_value}
-use Rattle.trimmed.proofs.Moved.{entry-below, number-below, target-kept}
+use Rattle.trimmed.proofs.Moved.{entry-below, target-kept}
 use Rattle.trim.specs.Tables.{new_cell, NewCells, NewNodes, KeptEntry}
 
 module _ {net sheet cells : List ℕ} (h : NewCells net sheet cells) {i : ℕ} (l : i < entry_count sheet) {t : ℕ} (et : t ≡ transition_count net) where
@@ -21,9 +19,6 @@ module _ {net sheet cells : List ℕ} (h : NewCells net sheet cells) {i : ℕ} (
 
   abbrev A : Automaton
   A = graph (petri_net net) sheet
-
-  pub arcs-few : get_or sheet 0 0 * t ≤ 4096
-  arcs-few = rw et h.readable.arcs.sizes.few_arcs
 
   below : entry_node N sheet i < node_count sheet
   below = entry-below N sheet h.readable.arcs.sizes.some_transition h.readable.arcs.sizes.some_place (words net sheet h.readable) i l
@@ -71,9 +66,6 @@ module _ (A : Automaton) (n : ℕ) where
   unfolding new_cell
   dropped-cell e = rw e refl
 
-  cell-few : new_cell A n ≤ n + 1
-  cell-few = by_test (is_kept A n) (λ k. rw (kept-cell k) (unfold new_number in (omega (arith, count-le (is_kept A) n)))) (λ k. rw (dropped-cell k) (omega arith))
-
   module _ {r : ℕ} (e : r ≡ new_cell A n) where
     pub cell-kept : 0 < r → is_kept A n ≡ true
     cell-kept l = by_test (is_kept A n) (λ k. k) (λ k. absurd (omega (arith, e, dropped-cell k)))
@@ -104,11 +96,6 @@ module _ {net sheet cells : List ℕ} {found i : ℕ} (h : NewNodes net sheet ce
   number_is : r - 1 ≡ new_number (graph (petri_net net) sheet) (entry_node (petri_net net) sheet i)
   number_is = omega (arith, cell-is)
 
-  pub number-few : r - 1 < found
-  number-few =
-      let sizes = h.new.readable.arcs.sizes in
-      rw (number_is, h.found_is) (number-below (petri_net net) sheet sizes.some_transition sizes.some_place (words net sheet h.new.readable) i k.kept)
-
   module _ {t : ℕ} (et : t ≡ transition_count net) where
     pub key-arc : get_or sheet (2 + i) 0 < get_or sheet 0 0 * t → (r - 1) * t + get_or sheet (2 + i) 0 % t ≡ new_key (petri_net net) sheet i
     unfolding new_key arc_transition entry_key key_at
@@ -118,29 +105,6 @@ module _ {net sheet cells : List ℕ} {found i : ℕ} (h : NewNodes net sheet ce
         → found * t + (r - 1) * p + (get_or sheet (2 + i) 0 - get_or sheet 0 0 * t) % p ≡ new_key (petri_net net) sheet i
     unfolding new_key count_place arc_keys entry_key key_at
     key-count ep a = rw (count-is h.new k.entry et ep a, number_is, h.found_is, et, ep) refl
-
-    -- and nothing on the way is too great a word
-    few_transitions : t ≤ 32
-    few_transitions = rw et h.new.readable.arcs.sizes.few_transitions
-
-    pub key-arc-few : ((r - 1) * t ≤ 4096) × (get_or sheet (2 + i) 0 % t < 32)
-    key-arc-few = (rows_few (r - 1) _ (omega (arith, number-few, h.few)) few_transitions, omega (arith, few_transitions, mod-lt (get_or sheet (2 + i) 0) positive))
-      where
-        positive : 0 < t
-        positive = rw et h.new.readable.arcs.sizes.some_transition
-
-    pub key-count-few : {p : ℕ} (ep : p ≡ place_count net) → (found * t ≤ 4096) × ((r - 1) * p ≤ 4096) × ((get_or sheet (2 + i) 0 - get_or sheet 0 0 * t) % p < 32)
-    key-count-few {p} ep = (
-      rows_few found _ h.few few_transitions,
-      rows_few (r - 1) _ (omega (arith, number-few, h.few)) few_places,
-      omega (arith, few_places, mod-lt (get_or sheet (2 + i) 0 - get_or sheet 0 0 * t) positive),
-    )
-      where
-        few_places : p ≤ 32
-        few_places = rw ep h.new.readable.arcs.sizes.few_places
-
-        positive : 0 < p
-        positive = rw ep h.new.readable.arcs.sizes.some_place
 
 -- ---- its value
 
@@ -159,9 +123,6 @@ module _ {net sheet cells : List ℕ} {i : ℕ} (h : NewCells net sheet cells) (
 
     pub target_low : get_or sheet (2 + get_or sheet 1 0 + i) 0 < 128
     target_low = omega (arith, target_below, h.readable.arcs.sizes.few_nodes)
-
-    pub target_few : get_or cells (get_or sheet (2 + get_or sheet 1 0 + i) 0) 0 ≤ 128
-    target_few = omega (arith, h.cell value target_below, cell-few (graph (petri_net net) sheet) value, target_low)
 
     pub target-cell : get_or cells (get_or sheet (2 + get_or sheet 1 0 + i) 0) 0 ≡ new_value (petri_net net) sheet i + 1
     unfolding new_value entry_value value_at

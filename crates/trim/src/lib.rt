@@ -6,17 +6,14 @@ mod writer;
 
 ghost use Rattle.trimmed.specs.Call.{TrimWritten, TrimDone};
 
-use refusal::{Limits, Verdict};
+use refusal::Limits;
 use trimmed::TrimAnswer;
 
 // Trimming without scratch.
 pub fn trim_into(net: &[u32], sheet: &[u32], out: &mut [u32], list: &mut [u32]) -> TrimAnswer
     ensures { TrimWritten net.now sheet.now out.old list.old result out.new list.new }
 {
-    let found = graph::check(net, sheet);
-    if let Verdict::Refused(r) = found {
-        return TrimAnswer::Refused(r);
-    }
+    graph::check(net, sheet)?;
     let new = numbers::kept(net, sheet);
     writer::write(net, sheet, new, out, list)
 }
@@ -31,10 +28,7 @@ pub fn trim(
 ) -> TrimAnswer
     ensures { TrimDone net.now sheet.now out.old list.old scratch.old result out.new list.new scratch.new }
 {
-    let found = lending::scratch_fault(Limits::SCRATCH, scratch.len());
-    if let Verdict::Refused(r) = found {
-        return TrimAnswer::Refused(r);
-    }
+    lending::scratch_fault(Limits::SCRATCH, scratch.len())?;
     let answer = trim_into(net, sheet, out, list);
     scan::clear_front(scratch, Limits::SCRATCH);
     answer

@@ -18,13 +18,10 @@ fn ranks(marks: [u8; 128], nodes: usize) -> Numbers
 {
     let mut cells = [0u8; 128];
     let mut found: usize = 0;
-    let mut n = 0;
-    while n < nodes {
-        let m = n;
-        n += 1;
-        if 0 < marks[m] {
+    for n in 0..nodes {
+        if 0 < marks[n] {
             found += 1;
-            cells[m] = found as u8;
+            cells[n] = found as u8;
         }
     }
     Numbers { cells, found }

@@ -1,19 +1,18 @@
 // The words of the trimmed schedule (§10.36), and the list of old numbers (§10.37). Kept nodes keep their order, and so do their entries. So one pass over the
 // entries writes them all: each key at the next index, and its value as many words behind it as there are keys.
-ghost use Rattle.std.specs.Prelude.{◌≡◌, ◌<◌};
+ghost use Rattle.std.specs.Prelude.{◌≡◌, ◌<◌, Ok};
 ghost use Rattle.sequential.specs.Petri.{petri_net};
 ghost use Rattle.sequential.specs.Words.{entry_count, graph};
 ghost use Rattle.scan.specs.Placed.{placed};
 ghost use Rattle.graph.specs.Readable.{words_reply};
-ghost use Rattle.refusal.specs.declared.Verdict.TheVariants.{Accepted};
 ghost use Rattle.trimmed.specs.Trim.{trimmed_words, kept_list};
 ghost use Rattle.trimmed.specs.Entries.{entry_node, new_key, new_value};
 ghost use Rattle.trimmed.specs.Call.{TrimWritten};
 ghost use Rattle.trim.specs.Tables.{new_cell, NewCells, NewNodes, KeptEntry, Counted};
 
 use super::numbers::Numbers;
-use refusal::Verdict;
-use trimmed::{Lengths, TrimAnswer};
+use encoding::Lengths;
+use trimmed::TrimAnswer;
 
 // The cell of the node to which entry i belongs (§3.5, §3.6): 1 plus the node's new number, or 0 if the node is dropped.
 fn cell_of(net: &[u32], sheet: &[u32], cells: &[u8; 128], i: usize) -> u8
@@ -37,11 +36,8 @@ fn entry_count(net: &[u32], sheet: &[u32], cells: &[u8; 128]) -> usize
 {
     let all = sheet[1] as usize;
     let mut entries = 0;
-    let mut i = 0;
-    while i < all {
-        let m = i;
-        i += 1;
-        if 0 < cell_of(net, sheet, cells, m) {
+    for i in 0..all {
+        if 0 < cell_of(net, sheet, cells, i) {
             entries += 1;
         }
     }
@@ -95,13 +91,10 @@ fn write_sheet(
     encoding::put(entries as u32, out, 1);
     let all = sheet[1] as usize;
     let mut done = 0;
-    let mut i = 0;
-    while i < all {
-        let m = i;
-        i += 1;
-        if 0 < cell_of(net, sheet, cells, m) {
-            let key = new_key(net, sheet, cells, found, m);
-            let value = new_value(net, sheet, cells, m);
+    for i in 0..all {
+        if 0 < cell_of(net, sheet, cells, i) {
+            let key = new_key(net, sheet, cells, found, i);
+            let value = new_value(net, sheet, cells, i);
             encoding::put(key, out, 2 + done);
             encoding::put(value, out, 2 + entries + done);
             done += 1;
@@ -116,12 +109,9 @@ fn write_list(net: &[u32], sheet: &[u32], cells: &[u8; 128], list: &mut [u32])
 {
     let nodes = sheet[0] as usize;
     let mut next = 0;
-    let mut n = 0;
-    while n < nodes {
-        let m = n;
-        n += 1;
-        if 0 < cells[m] {
-            next = encoding::put(m as u32, list, next);
+    for n in 0..nodes {
+        if 0 < cells[n] {
+            next = encoding::put(n as u32, list, next);
         }
     }
 }
@@ -134,7 +124,7 @@ pub(crate) fn write(
     out: &mut [u32],
     list: &mut [u32],
 ) -> TrimAnswer
-    requires sheet_value { words_reply net.now sheet.now ≡ Accepted }
+    requires sheet_value { words_reply net.now sheet.now ≡ Ok tt }
     requires new_nodes { NewNodes net.now sheet.now new.cells new.found }
     ensures { TrimWritten net.now sheet.now out.old list.old result out.new list.new }
 {
@@ -144,15 +134,9 @@ pub(crate) fn write(
         sheet: 2 + 2 * entries,
         list: new.found,
     };
-    let found = lending::output_fault(out.len(), lengths.sheet);
-    if let Verdict::Refused(r) = found {
-        return TrimAnswer::Refused(r);
-    }
-    let found = lending::output_fault(list.len(), lengths.list);
-    if let Verdict::Refused(r) = found {
-        return TrimAnswer::Refused(r);
-    }
+    lending::output_fault(out.len(), lengths.sheet)?;
+    lending::output_fault(list.len(), lengths.list)?;
     write_sheet(net, sheet, &cells, new.found, entries, out);
     write_list(net, sheet, &cells, list);
-    TrimAnswer::Written(lengths)
+    Ok(lengths)
 }

@@ -1,4 +1,5 @@
 -- The words of the trimmed graph, for words that pass 1 to 9 and 26: they pass 6 to 9 again, and describe the graph cut down to its reached nodes.
+use Rattle.std.specs.Prelude.{Ok}
 use Rattle.scan.proofs.Basics.{ℕ, ◌≤◌, ◌<◌, arith, ◌≡◌, refl, sym, ap, subst, ◌∙◌, ◌↔◌, true, some, List, ◌++◌, length, get_or}
 use Rattle.scan.specs.Scan.{tabulate}
 use Rattle.scan.proofs.Tests.{by_less}
@@ -7,7 +8,6 @@ use Rattle.automaton.specs.Reach.{Reachable}
 use Rattle.automaton.specs.Quotient.{Confined}
 use Rattle.automaton.proofs.Automaton.{arc-cases}
 use Rattle.automaton.proofs.Reach.{reachable-node, arc-reachable}
-use Rattle.refusal.specs.declared.Verdict.TheVariants as verdict
 use Rattle.refusal.proofs.Judges.{Spared, spared-append, without-spared}
 use Rattle.net.specs.Checks.{net_checks}
 use Rattle.sequential.specs.Petri.{PetriNet, petri_net}
@@ -76,7 +76,7 @@ module _ (A : Automaton) (c : Closed A) (M : Automaton) (f : ℕ → ℕ) (Q : T
 
 -- ---- the words
 
-module _ (net sheet : List ℕ) (h : words_reply net sheet ≡ verdict.Accepted) where
+module _ (net sheet : List ℕ) (h : words_reply net sheet ≡ Ok tt) where
   abbrev N : PetriNet
   N = petri_net net
 
@@ -148,7 +148,7 @@ module _ (net sheet : List ℕ) (h : words_reply net sheet ≡ verdict.Accepted)
 
   -- ---- accepted exactly where every clause but reachability holds on what is reached
 
-  pub result-accepted : (schedule_reply net (trimmed_words net sheet) ≡ verdict.Accepted) ↔ HoldsOnReached (petri_net net) (graph (petri_net net) sheet)
+  pub result-accepted : (schedule_reply net (trimmed_words net sheet) ≡ Ok tt) ↔ HoldsOnReached (petri_net net) (graph (petri_net net) sheet)
   result-accepted =
       let (f, g) = carried-schedule N (trimming-carries result-trimming) in
       let (a, b) = accepted-exactly net (trimmed_words net sheet) in

@@ -1,7 +1,6 @@
 -- Trimmed schedules: the answer as plain numbers, and the words of both results, none if refused.
-use Rattle.std.specs.Prelude.{ℕ, ◌≡◌, List, [], ◌∷◌}
-use Rattle.refusal.specs.declared.Verdict.{Verdict}
-use Rattle.refusal.specs.declared.Verdict.TheVariants.{Accepted, Refused}
+use Rattle.refusal.specs.Refusal.{Verdict}
+use Rattle.std.specs.Prelude.{ℕ, ◌≡◌, List, [], ◌∷◌, Err, Ok}
 use Rattle.graph.specs.Readable.{words_reply}
 use Rattle.lending.specs.Call.{answer_of}
 use Rattle.trimmed.specs.Trim.{trimmed_words, kept_list}
@@ -50,8 +49,8 @@ table =
 -- ---- what the definitions give
 
 abbrev pub words_where : Verdict → List ℕ → List ℕ
-words_where Accepted words = words
-words_where (Refused r) words = []
+words_where (Ok tt) words = words
+words_where (Err r) words = []
 
 abbrev pub computed : List ℕ → List ℕ → Row
 computed net sheet =

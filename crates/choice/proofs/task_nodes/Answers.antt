@@ -19,14 +19,13 @@ pub returns-in-Nothing : goal.returns-in-Nothing
 returns-in-Nothing c =
     let (m, s) = c.loop-n.invariant in
     refused-at s _ _ c.loop-n-test.true
-    (rw c.in-Nothing.is at (row-tells s.ground _ _ _ refl c.offer_at-offer.ensures)) c.refused.ensures
+    (rw c.in-Nothing.is at (row-tells s.ground _ _ _ refl c.offer_at-offer.ensures)) refl
 
 pub returns-in-Torn : goal.returns-in-Torn
 returns-in-Torn c =
     let (m, s) = c.loop-n.invariant in
     refused-at s _ _ c.loop-n-test.true
-    (rw c.in-Torn.is at (row-tells s.ground _ _ _ refl c.offer_at-offer.ensures))
-    c.refused-in-Torn.ensures
+    (rw c.in-Torn.is at (row-tells s.ground _ _ _ refl c.offer_at-offer.ensures)) refl
 
 pub loop-n-preserved : goal.loop-n-preserved
 loop-n-preserved c =
@@ -37,7 +36,7 @@ loop-n-preserved c =
     )
 
 pub returns-then-awaits-eq0 : goal.returns-then-awaits-eq0
-returns-then-awaits-eq0 c = busy-root c.loop-n.invariant.1 _ (omega arith) c.if-awaits-eq0.true c.refused-then-awaits-eq0.ensures
+returns-then-awaits-eq0 c = busy-root c.loop-n.invariant.1 _ (omega arith) c.if-awaits-eq0.true refl
 
 pub returns : goal.returns
 returns c = all_pass c.loop-n.invariant.1 (omega arith) (omega arith)

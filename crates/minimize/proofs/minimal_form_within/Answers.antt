@@ -1,11 +1,11 @@
 -- `minimize::minimal_form_within` meets its contract.
-use Rattle.scan.proofs.Basics.{rules, refl}
+use Rattle.scan.proofs.Basics.{refl, sym, ◌∙◌}
+use Rattle.refusal.proofs.Verdicts.{passed_on}
 use Rattle.lending.proofs.Laws.{refused-scratch, served}
-use Rattle.minimize.proofs.Told.{told}
 use Rattle.minimize.proofs.minimal_form_within.Goals as goal
 
-pub returns-in-Refused : goal.returns-in-Refused
-returns-in-Refused c = refused-scratch (search (told, rules)) refl
+pub returns-in_err-scratch_fault : goal.returns-in_err-scratch_fault
+returns-in_err-scratch_fault c = rw (passed_on _ c.from_residual.ensures.1) (refused-scratch (sym c.scratch_fault.ensures ∙ c.in_err-scratch_fault.was) refl)
 
 pub returns : goal.returns
-returns c = search (served, told, rules)
+returns c = served (sym c.scratch_fault.ensures ∙ c.in_ok-scratch_fault.was) c.form_into-answer.ensures c.clear_front.ensures

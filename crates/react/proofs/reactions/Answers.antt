@@ -1,17 +1,13 @@
 -- `react::reactions` meets its contract.
-use Rattle.scan.proofs.Basics.{rules, refl, sym, ◌∙◌}
+use Rattle.refusal.proofs.Verdicts.{passed_on}
+use Rattle.scan.proofs.Basics.{refl, sym, ◌∙◌}
 use Rattle.lending.proofs.Laws.{refused-scratch, served}
 use Rattle.react.proofs.reactions.Goals as goal
 
-pub returns-in-Refused : goal.returns-in-Refused
-returns-in-Refused c = refused-scratch (sym c.scratch_fault-found.ensures ∙ c.in-Refused.is) refl
-
-pub shape_of-out : goal.shape_of-out
-shape_of-out c =
-    search
-    rules
+pub returns-in_err-scratch_fault : goal.returns-in_err-scratch_fault
+returns-in_err-scratch_fault c = rw (passed_on _ c.from_residual.ensures.1) (refused-scratch (sym c.scratch_fault.ensures ∙ c.in_err-scratch_fault.was) refl)
 
 pub returns : goal.returns
 returns c =
-    served (sym c.scratch_fault-found.ensures ∙ c.in_default.is) c.reaction_into-answer.ensures
+    served (sym c.scratch_fault.ensures ∙ c.in_ok-scratch_fault.was) c.reaction_into-answer.ensures
     c.clear_front.ensures

@@ -8,9 +8,6 @@ use Rattle.table.proofs.lower_bound.Goals as goal
 pub returns-then-words-offset : goal.returns-then-words-offset
 returns-then-words-offset c = lower-bound-unfit _ _ _ _ (omega arith)
 
-pub returns-then-words-offset-2 : goal.returns-then-words-offset-2
-returns-then-words-offset-2 c = lower-bound-unfit _ _ _ _ (omega arith)
-
 pub loop-low-init : goal.loop-low-init
 loop-low-init c = (omega arith, omega arith, refl)
 

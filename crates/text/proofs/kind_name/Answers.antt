@@ -4,18 +4,16 @@ use Rattle.text.proofs.Joined.{record-name}
 use Rattle.text.proofs.kind_name.Goals as goal
 
 pub returns-in-0 : goal.returns-in-0
-returns-in-0 c = rw c.in-0.is c.bytes.ensures
+returns-in-0 c = rw c.in-0.is
 
 pub returns-in-1 : goal.returns-in-1
-returns-in-1 c = rw c.in-1.is c.bytes-in-1.ensures
+returns-in-1 c = rw c.in-1.is
 
 pub returns-in-2 : goal.returns-in-2
-returns-in-2 c = rw c.in-2.is c.bytes-in-2.ensures
+returns-in-2 c = rw c.in-2.is
 
 pub returns-in-3 : goal.returns-in-3
-returns-in-3 c = rw c.in-3.is c.bytes-in-3.ensures
+returns-in-3 c = rw c.in-3.is
 
 pub returns-in_default : goal.returns-in_default
-returns-in_default c =
-    rw (record-name c.args.kind (omega arith))
-    c.bytes-in_default.ensures
+returns-in_default c = rw (record-name c.args.kind (omega arith))

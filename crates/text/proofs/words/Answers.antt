@@ -1,21 +1,18 @@
-use Rattle.scan.proofs.Basics.{arith, rules}
+use Rattle.scan.proofs.Basics.{rules}
 use Rattle.text.specs.Lines.{field, word_of, words_text}
-use Rattle.text.proofs.Put.{same_length}
 use Rattle.text.proofs.Joined.{none-joined, more-joined, all-joined}
+use Rattle.text.proofs.Put.{same_length}
 use Rattle.text.proofs.words.Goals as goal
 
-pub loop-i-init : goal.loop-i-init
-loop-i-init c = (omega arith, none-joined _ _ _)
+pub loop-word-init : goal.loop-word-init
+loop-word-init c = none-joined _ _ _
 
-pub overflow_cast-words : goal.overflow_cast-words
-overflow_cast-words c = omega (arith, c.shared_slice_known-in-loop-i-1.given c.loop-i.i)
-
-pub loop-i-preserved : goal.loop-i-preserved
+pub loop-word-preserved : goal.loop-word-preserved
 unfolding field word_of
-loop-i-preserved c = search (more-joined, rules)
+loop-word-preserved c = more-joined _ _ c.loop-word.invariant (rw c.from.ensures at c.field-next.ensures)
 
 pub shape_of-out : goal.shape_of-out
-shape_of-out c = same_length c.loop-i.invariant.1
+shape_of-out c = same_length c.loop-word.invariant
 
 pub returns : goal.returns
 unfolding words_text

@@ -25,9 +25,6 @@ returns-then-places-firsts c =
     let below = rw c.loop-t.invariant.2 at c.loop-t-test.true in
     sym (least-found _ _ _ c.loop-t.invariant.1 (source_first _ _ c.places-places.ensures c.requires _ below c.if-places-firsts.true) below)
 
-pub overflow_add-t : goal.overflow_add-t
-overflow_add-t c = omega (arith, c.transitions-transitions.ensures)
-
 pub loop-t-preserved : goal.loop-t-preserved
 loop-t-preserved c =
     let below = rw c.loop-t.invariant.2 at c.loop-t-test.true in (

@@ -28,9 +28,6 @@ returns-then-not-rows_fit c =
     let told = fit-told _ _ c.places-places.ensures _ _ _ _ c.taken_row-taken.ensures c.taken_row.ensures in
     sym (all-fails _ _ _ (omega (arith, c.loop-u.invariant.2, c.loop-u-test.true)) (sym (c.rows_fit.ensures ∙ told) ∙ c.if-not-rows_fit.true))
 
-pub overflow_add-u : goal.overflow_add-u
-overflow_add-u c = omega (arith, c.transitions-transitions.ensures)
-
 pub loop-u-preserved : goal.loop-u-preserved
 loop-u-preserved c =
     let told = fit-told _ _ c.places-places.ensures _ _ _ _ c.taken_row-taken.ensures c.taken_row.ensures in

@@ -1,5 +1,5 @@
 -- `choice::choice_sets::least_alike` meets its contract: no transition before the counter takes the same as t.
-use Rattle.scan.proofs.Basics.{◌-◌, ◌≤◌, ◌≡◌, false}
+use Rattle.scan.proofs.Basics.{◌≤◌, ◌≡◌, false}
 use Rattle.scan.specs.Scan.{any}
 use Rattle.automaton.specs.Equivalence.{in_class}
 use Rattle.sequential.specs.Tests.{takes_same}
@@ -8,6 +8,3 @@ use Rattle.choice.proofs.choice_sets.least_alike.Given as goal
 
 abbrev pub invariant-loop-u : goal.invariant-loop-u
 invariant-loop-u l = (l.u ≤ l.t) × (any (in_class (takes_same (net_by_rows l.net)) l.t) l.u ≡ false)
-
-abbrev pub decreases-loop-u : goal.decreases-loop-u
-decreases-loop-u l = l.t - l.u

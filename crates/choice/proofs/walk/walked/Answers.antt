@@ -1,4 +1,4 @@
-use Rattle.scan.proofs.Basics.{arith}
+use Rattle.scan.proofs.Basics.{arith, ◌≡◌}
 use Rattle.choice.proofs.Whole.{few_transitions, set-from}
 use Rattle.choice.proofs.Answer.{none_passed}
 use Rattle.choice.proofs.Passed.{sets-out, goes_on}
@@ -50,16 +50,13 @@ overflow_cast-first c = omega (arith, few_transitions c.loop-n.invariant.offerin
 pub overflow_add-first : goal.overflow_add-first
 overflow_add-first c = let g = c.loop-n.invariant in omega (arith, few_transitions g.offering, g.row.low)
 
-pub overflow_add-n : goal.overflow_add-n
-overflow_add-n c = omega (arith, c.loop-n.invariant.nodes_are, c.loop-n-test.true)
-
-pub loop-n-smaller : goal.loop-n-smaller
-loop-n-smaller c = omega (arith, c.loop-n-test.true)
-
 pub loop-n-preserved : goal.loop-n-preserved
 loop-n-preserved c =
     goes_on c.loop-n.invariant c.loop-n-test.true c.if-transitions-c.false (c.whole_end-next.ensures (omega (arith, c.if-next-eq0.false)))
     (c.first_member-c.ensures c.if-transitions-c.false) c.mark_if.ensures
 
 pub returns : goal.returns
-returns c = c.loop-n.invariant.walked
+returns c =
+    let w = c.loop-n.invariant.walked in
+    let e : c.loop-n.n ≡ c.args.nodes = omega (arith, w.within, c.loop-n-test.false) in
+    rw e at w

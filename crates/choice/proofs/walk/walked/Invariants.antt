@@ -1,10 +1,6 @@
 -- `choice::walk::walked` meets its contract: the walk stands before the node of the counter.
-use Rattle.scan.proofs.Basics.{◌-◌}
 use Rattle.choice.proofs.Passed.{Going}
 use Rattle.choice.proofs.walk.walked.Given as goal
 
 abbrev pub invariant-loop-n : goal.invariant-loop-n
 invariant-loop-n l = Going l.net l.sheet l.leaders l.source l.transitions l.nodes l.awaits l.n l.first l.start
-
-abbrev pub decreases-loop-n : goal.decreases-loop-n
-decreases-loop-n l = l.nodes - l.n

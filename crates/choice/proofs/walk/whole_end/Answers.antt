@@ -1,7 +1,8 @@
-use Rattle.scan.proofs.Basics.{arith}
+use Rattle.scan.proofs.Basics.{◌<◌, arith}
 use Rattle.table.specs.Table.{key_at}
 use Rattle.choice.proofs.Whole.{matching-first, passed-by, matched, passed-all, row-whole}
 use Rattle.choice.proofs.walk.whole_end.Goals as goal
+use Rattle.choice.proofs.walk.whole_end.Goals.{then-leaders-t+else-entries-i+else-sheet-i, else-leaders-t}
 
 pub bounds-sheet-1 : goal.bounds-sheet-1
 bounds-sheet-1 c = omega (arith, c.requires.row_at.0.whole)
@@ -9,17 +10,11 @@ bounds-sheet-1 c = omega (arith, c.requires.row_at.0.whole)
 pub overflow_add-i : goal.overflow_add-i
 overflow_add-i c = let (r, f) = c.requires.row_at in let s = c.requires.set_from in omega (arith, r.few, f.entry)
 
-pub overflow_add-t : goal.overflow_add-t
-overflow_add-t c = let s = c.requires.set_from in omega (arith, s.few, s.below)
-
 pub loop-t-init : goal.loop-t-init
 loop-t-init c = let (r, f) = c.requires.row_at in let s = c.requires.set_from in (omega (arith, s.below), matching-first _ _ _ _ _ r f s)
 
-pub overflow_add-t-in-loop-t : goal.overflow_add-t-in-loop-t
-overflow_add-t-in-loop-t c = let s = c.requires.set_from in omega (arith, s.few, s.within)
-
-pub bounds-leaders-u : goal.bounds-leaders-u
-bounds-leaders-u c = let s = c.requires.set_from in omega (arith, s.few, s.within)
+pub bounds-leaders-t : goal.bounds-leaders-t
+bounds-leaders-t c = let s = c.requires.set_from in omega (arith, s.few, s.within)
 
 pub overflow_cast-c : goal.overflow_cast-c
 overflow_cast-c c = let s = c.requires.set_from in omega (arith, s.few, s.below)
@@ -30,8 +25,8 @@ returns-then-entries-i c h = absurd (omega arith)
 pub bounds-sheet-i : goal.bounds-sheet-i
 bounds-sheet-i c = omega (arith, c.requires.row_at.0.whole)
 
-pub overflow_cast-u : goal.overflow_cast-u
-overflow_cast-u c = let s = c.requires.set_from in omega (arith, s.few, s.within)
+pub overflow_cast-t : goal.overflow_cast-t
+overflow_cast-t c = let s = c.requires.set_from in omega (arith, s.few, s.within)
 
 pub overflow_add-first : goal.overflow_add-first
 overflow_add-first c = let (r, f) = c.requires.row_at in let s = c.requires.set_from in omega (arith, r.low, s.few, s.within)
@@ -39,21 +34,18 @@ overflow_add-first c = let (r, f) = c.requires.row_at in let s = c.requires.set_
 pub returns-then-sheet-i : goal.returns-then-sheet-i
 returns-then-sheet-i c h = absurd (omega arith)
 
-pub loop-t-preserved-then-leaders-u : goal.loop-t-preserved-then-leaders-u
-loop-t-preserved-then-leaders-u c =
-    let (h, m) = c.loop-t.invariant in
-    let s = c.requires.set_from in
-    let w = s.within in (
-      omega (arith, c.loop-t-test.true),
-      matched _ _ _ _ _ m (omega (arith, c.loop-t-test.true)) s.few c.if-leaders-u.true (omega (arith, c.if-entries-i.false)) c.if-sheet-i.false,
-    )
-
 pub loop-t-preserved : goal.loop-t-preserved
 loop-t-preserved c =
     let (h, m) = c.loop-t.invariant in
     let s = c.requires.set_from in
     let w = s.within in
-    (omega (arith, c.loop-t-test.true), passed-by _ _ _ _ _ m (omega (arith, c.loop-t-test.true)) s.few c.if-leaders-u.false)
+    let l : c.loop-t.t < c.args.transitions = omega (arith, c.loop-t-test.true) in (
+      omega arith,
+      elim c.if-leaders-t.branch [
+        | then-leaders-t+else-entries-i+else-sheet-i b ↦ rw b.i-is (matched _ _ _ _ _ m l s.few b.if-leaders-t.true (omega (arith, b.if-entries-i.false)) b.if-sheet-i.false)
+        | else-leaders-t b ↦ rw b.i-is (passed-by _ _ _ _ _ m l s.few b.if-leaders-t.false)
+      ],
+    )
 
 pub returns-then-entries-i-2 : goal.returns-then-entries-i-2
 returns-then-entries-i-2 c h =

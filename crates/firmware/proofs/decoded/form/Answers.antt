@@ -1,24 +1,10 @@
 -- `firmware::decoded::form` meets its contract.
-use Rattle.scan.proofs.Basics.{ℕ, rules, sym, length-replicate}
-use lib.Seq.{length-take-le}
-use Rattle.octets.proofs.Decoding.{words-fit}
+use Rattle.scan.proofs.Basics.{ℕ, length-replicate}
 use Rattle.minimal.specs.Form.{form_core}
-use Rattle.firmware.proofs.Cut.{written-decoded, form-asks}
+use Rattle.firmware.proofs.Cut.{written-cut, form-asks}
 use Rattle.firmware.proofs.decoded.form.Goals as goal
-
-pub slice_bounds-net_words-end : goal.slice_bounds-net_words-end
-slice_bounds-net_words-end c = search (words-fit, rules)
-
-pub slice_bounds-form-end : goal.slice_bounds-form-end
-slice_bounds-form-end c = sym (length-take-le _ _ (search (words-fit, rules)))
-
-pub slice_bounds-sheet_words-end : goal.slice_bounds-sheet_words-end
-slice_bounds-sheet_words-end c = search (words-fit, rules)
-
-pub slice_bounds-form-end-2 : goal.slice_bounds-form-end-2
-slice_bounds-form-end-2 c = sym (length-take-le _ _ (search (words-fit, rules)))
 
 pub returns : goal.returns
 returns c =
-    written-decoded form_core form-asks _ _ _ _ _ _ _ _ _ _ _ (length-replicate {A = ℕ} 4228 0) (length-replicate {A = ℕ} 8195 0)
-    c.decode-first.ensures c.decode-second.ensures c.form.ensures
+    written-cut form_core form-asks _ _
+    (rw (c.words_in.ensures, c.words_in-2.ensures, length-replicate {A = ℕ} 4228 0, length-replicate {A = ℕ} 8195 0) at c.form.ensures)

@@ -1,7 +1,7 @@
 use Rattle.scan.proofs.Basics.{arith, ◌≡◌, sym, ap, ◌∙◌}
 use Rattle.scan.proofs.First.{first-none, first_more}
 use Rattle.refusal.specs.Verdict.{verdict_of}
-use Rattle.refusal.proofs.Verdicts.{answer-none, answer-first}
+use Rattle.refusal.proofs.Verdicts.{answer-none, answer-first, handed}
 use Rattle.sequential.specs.Words.{entry_count}
 use Rattle.graph.proofs.word_check.entries_fault.Goals as goal
 
@@ -11,11 +11,13 @@ returns-then-entries_pass c = ap verdict_of (sym (c.entries_pass.ensures c.if-en
 pub loop-i-init : goal.loop-i-init
 loop-i-init c = (omega arith, first-none _)
 
-pub returns-in-Refused : goal.returns-in-Refused
-returns-in-Refused c = answer-first _ _ _ _ _ c.loop-i.invariant.1 c.entry_fault-found.ensures c.in-Refused.is c.loop-i-test.true
+pub returns-in_err-entry_fault : goal.returns-in_err-entry_fault
+returns-in_err-entry_fault c =
+    handed c.from_residual.ensures.1 c.in_err-entry_fault.was ∙
+    (answer-first _ _ _ _ _ c.loop-i.invariant.1 c.entry_fault.ensures c.in_err-entry_fault.was c.loop-i-test.true)
 
 pub loop-i-preserved : goal.loop-i-preserved
-loop-i-preserved c = (omega arith, first_more _ _ c.loop-i.invariant.1 (answer-none _ (sym c.entry_fault-found.ensures ∙ c.in_default.is)))
+loop-i-preserved c = (omega arith, first_more _ _ c.loop-i.invariant.1 (answer-none _ (sym c.entry_fault.ensures ∙ c.in_ok-entry_fault.was)))
 
 pub returns : goal.returns
-returns c = let e : c.loop-i.i ≡ entry_count c.args.sheet.now = omega arith in ap verdict_of (sym (rw e at c.loop-i.invariant.1))
+returns c = let e : c.loop-i.i ≡ entry_count c.args.sheet.words.now = omega arith in ap verdict_of (sym (rw e at c.loop-i.invariant.1))

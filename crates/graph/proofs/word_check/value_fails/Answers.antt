@@ -15,7 +15,7 @@ of-arc false sheet arcs i l = rw (lt-ltb _ _ l)
 
 pub returns-then-sheet-i : goal.returns-then-sheet-i
 unfolding entry_key entry_value key_at value_at
-returns-then-sheet-i c = let a = c.args in of-arc a.counts a.sheet.now a.arcs a.i c.if-sheet-i.true
+returns-then-sheet-i c = let a = c.args in of-arc a.counts a.sheet.words.now a.arcs a.i c.if-sheet-i.true
 
 pub returns-then-not-counts : goal.returns-then-not-counts
 unfolding arc_value_fails entry_key key_at

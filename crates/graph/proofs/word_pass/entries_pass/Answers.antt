@@ -9,15 +9,14 @@ returns-then-entries-eq0 c h = first-empty _ _ (λ i l. absurd (omega (arith, c.
 
 pub values_lie-requires : goal.values_lie-requires
 values_lie-requires c =
-    let s = c.requires in
-    (s, ends-within s (c.keys_rise.ensures (c.if-not-keys_rise.false)) _ c.lower_bound-end.ensures)
+    ends-within c.args.sheet.shape (c.keys_rise.ensures.0 c.if-not-keys_rise.false).1 _ c.lower_bound-end.ensures
 
 pub returns-then-not-counts : goal.returns-then-not-counts
 returns-then-not-counts c h =
-    arcs-pass c.requires (c.keys_rise.ensures (c.if-not-keys_rise.false)) _ c.lower_bound-end.ensures (c.values_lie.ensures (c.if-not-values_lie.false))
+    arcs-pass c.args.sheet.shape (c.keys_rise.ensures.0 c.if-not-keys_rise.false).1 _ c.lower_bound-end.ensures (c.values_lie.ensures (c.if-not-values_lie.false))
     _ (omega (arith, c.if-limit-sheet.false)) c.args.counts (c.if-not-counts.true)
 
 pub returns : goal.returns
 returns c h =
-    all_pass c.requires (c.keys_rise.ensures (c.if-not-keys_rise.false)) _ c.lower_bound-end.ensures (c.values_lie.ensures (c.if-not-values_lie.false))
+    all_pass c.args.sheet.shape (c.keys_rise.ensures.0 c.if-not-keys_rise.false).1 _ c.lower_bound-end.ensures (c.values_lie.ensures (c.if-not-values_lie.false))
     _ (omega (arith, c.if-limit-sheet.false)) c.args.counts (c.if-not-counts.false) (c.values_lie-2.ensures h)

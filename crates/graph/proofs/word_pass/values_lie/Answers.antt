@@ -10,10 +10,10 @@ pub loop-i-init : goal.loop-i-init
 loop-i-init c = (omega arith, λ h j k l. absurd (omega arith))
 
 pub overflow_add-first-in-loop-i : goal.overflow_add-first-in-loop-i
-overflow_add-first-in-loop-i c = let (s, l) = c.requires in omega (arith, s.few_entries)
+overflow_add-first-in-loop-i c = let s = c.args.sheet.shape in let l = c.requires in omega (arith, s.few_entries)
 
 pub bounds-sheet-first : goal.bounds-sheet-first
-bounds-sheet-first c = let (s, l) = c.requires in omega (arith, s.whole)
+bounds-sheet-first c = let s = c.args.sheet.shape in let l = c.requires in omega (arith, s.whole)
 
 pub returns : goal.returns
 returns c h i k l = c.loop-i.invariant.1 h i k (omega arith)

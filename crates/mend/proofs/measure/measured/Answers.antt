@@ -1,27 +1,26 @@
 -- `mend::measure::measured` meets its contract.
+use Rattle.std.specs.Prelude.{Ok}
 use Rattle.scan.proofs.Basics.{◌+◌, arith, ◌≡◌, sym, ◌∙◌}
-use Rattle.refusal.specs.declared.Verdict.TheVariants.{Accepted}
 use Rattle.graph.proofs.ArcCount.{arc-count-right}
+use Rattle.refusal.proofs.Verdicts.{passed_on}
 use Rattle.mend.specs.Rows.{Mendable}
 use Rattle.mend.specs.Writing.{entries_of}
 use Rattle.mend.specs.Measure.{arcs_verdict}
 use Rattle.mend.proofs.Writes.{entries-most}
-use Rattle.mend.proofs.Measuring.{before-readable, before-reached, before-refused, refused-measured, place-measured, entries-measured, all-measured}
+use Rattle.mend.proofs.Measuring.{before-readable, before-reached, before-refused, place-measured, entries-measured, all-measured}
 use Rattle.mend.proofs.measure.measured.Goals as goal
 
-pub returns-in-Refused : goal.returns-in-Refused
-returns-in-Refused c =
-    let e = c.in-Refused.is in
-    refused-measured (c.refused.ensures ∙ before-refused _ _ c.checked-found.ensures e) (c.refused.ensures ∙ e)
+pub returns-in_err-checked : goal.returns-in_err-checked
+returns-in_err-checked c = before-refused _ _ c.checked.ensures c.in_err-checked.was (passed_on _ c.from_residual.ensures.1)
 
 pub search-nodes-requires : goal.search-nodes-requires
 search-nodes-requires c =
-    let passed : let s = c.args in arcs_verdict s.net.now s.sheet.now ≡ Accepted = sym c.checked-found.ensures ∙ c.in_default.is in
+    let passed : let s = c.args in arcs_verdict s.net.now s.sheet.now ≡ Ok tt = sym c.checked.ensures ∙ c.in_ok-checked.was in
     record { arcs_readable = before-readable _ _ passed; leads_to_all = before-reached _ _ passed }
 
 pub returns-then-not-all_fit : goal.returns-then-not-all_fit
 returns-then-not-all_fit c =
-    let passed : let s = c.args in arcs_verdict s.net.now s.sheet.now ≡ Accepted = sym c.checked-found.ensures ∙ c.in_default.is in
+    let passed : let s = c.args in arcs_verdict s.net.now s.sheet.now ≡ Ok tt = sym c.checked.ensures ∙ c.in_ok-checked.was in
     place-measured _ _ passed (c.all_fit.ensures.wrong (c.if-not-all_fit.true)) c.no_counts.ensures
 
 pub counted-requires : goal.counted-requires
@@ -51,7 +50,7 @@ overflow_add-entries c =
 pub returns-then-entries : goal.returns-then-entries
 unfolding entries_of
 returns-then-entries c =
-    let passed : let s = c.args in arcs_verdict s.net.now s.sheet.now ≡ Accepted = sym c.checked-found.ensures ∙ c.in_default.is in
+    let passed : let s = c.args in arcs_verdict s.net.now s.sheet.now ≡ Ok tt = sym c.checked.ensures ∙ c.in_ok-checked.was in
     let mendable : let s = c.args in Mendable s.net.now s.sheet.now c.search-nodes.result.parent = let F = c.search-nodes.ensures in
     record {
       fitting = record { readable = F.readable; fit = c.all_fit.ensures.right (c.if-not-all_fit.false) };
@@ -76,7 +75,7 @@ counted-changes-requires c =
 pub returns : goal.returns
 unfolding entries_of
 returns c =
-    let passed : let s = c.args in arcs_verdict s.net.now s.sheet.now ≡ Accepted = sym c.checked-found.ensures ∙ c.in_default.is in
+    let passed : let s = c.args in arcs_verdict s.net.now s.sheet.now ≡ Ok tt = sym c.checked.ensures ∙ c.in_ok-checked.was in
     let mendable : let s = c.args in Mendable s.net.now s.sheet.now c.search-nodes.result.parent = let F = c.search-nodes.ensures in
     record {
       fitting = record { readable = F.readable; fit = c.all_fit.ensures.right (c.if-not-all_fit.false) };

@@ -1,5 +1,4 @@
 -- `mend::writer::write_part` meets its contract: the rows before the counter are written.
-use Rattle.scan.proofs.Basics.{◌-◌}
 use Rattle.encoding.specs.Rows.{Appended}
 use Rattle.mend.specs.Writing.{part_to}
 use Rattle.mend.proofs.Climbing.{RowsTo}
@@ -7,6 +6,3 @@ use Rattle.mend.proofs.writer.write_part.Given as goal
 
 abbrev pub invariant-loop-n : goal.invariant-loop-n
 invariant-loop-n l = RowsTo l.net l.sheet l.parent l.nodes l.counts l.known l.n × Appended l.initial.out l.at (part_to l.net l.sheet l.part l.section l.n) l.next l.out
-
-abbrev pub decreases-loop-n : goal.decreases-loop-n
-decreases-loop-n l = l.nodes - l.n

@@ -6,5 +6,5 @@ use Rattle.minimize.proofs.both.measured.Goals as goal
 pub classes-classes-requires : goal.classes-classes-requires
 classes-classes-requires c = search (reply-readable, rules)
 
-pub numbering-new-requires : goal.numbering-new-requires
-numbering-new-requires c = record { readable = search (reply-readable, rules); classes = c.classes-classes.ensures }
+pub numbering-new-requires-clause-readable : goal.numbering-new-requires-clause-readable
+numbering-new-requires-clause-readable c = search (reply-readable, rules)

@@ -13,11 +13,11 @@ round-classes-requires c =
     let S = c.starts_of-arcs.ensures in
     next-reads (search rules) S (arcs-closed S.readable.arcs) 0 (by-counts _ _ _ (zeros 128) c.round-first.ensures) false (λ e. true-false false e refl)
 
-pub loop-rounds-init : goal.loop-rounds-init
-loop-rounds-init c =
+pub loop-round-init : goal.loop-round-init
+loop-round-init c =
     let S = c.starts_of-arcs.ensures in
     let a = arcs-closed S.readable.arcs in
-    (omega arith, omega arith, search rules, S, round-more _ a 0 _ (by-counts _ _ _ (zeros 128) c.round-first.ensures) _ (by-arcs _ _ _ c.round-classes.ensures))
+    (search rules, round-more _ a 0 _ (by-counts _ _ _ (zeros 128) c.round-first.ensures) _ (by-arcs _ _ _ c.round-classes.ensures))
 
 pub round-next-requires : goal.round-next-requires
 round-next-requires c = search (next-reads, arcs-closed, rules)
@@ -27,10 +27,9 @@ returns-then-same_tables c =
     let same = sym c.same_tables.ensures ∙ c.if-same_tables.true in
     search (round-last, arcs-closed, by-arcs, rules)
 
-pub loop-rounds-preserved : goal.loop-rounds-preserved
-loop-rounds-preserved c = search (round-more, arcs-closed, by-arcs, rules)
+pub loop-round-preserved : goal.loop-round-preserved
+loop-round-preserved c = search (round-more, arcs-closed, by-arcs, rules)
 
 pub returns : goal.returns
 returns c =
-    let (some, l, long, S, is) = c.loop-rounds.invariant in
-    rounds-done _ (arcs-closed S.readable.arcs) _ _ is (omega arith)
+    rounds-done _ (arcs-closed c.requires.arcs) _ _ c.loop-round.invariant.1 (omega arith)

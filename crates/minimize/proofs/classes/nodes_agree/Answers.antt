@@ -1,23 +1,11 @@
 -- `minimize::classes::nodes_agree` meets its contract.
 use Rattle.scan.proofs.Basics.{arith, rules, ◌∙◌}
 use Rattle.minimize.proofs.NodeRows.{rows, walked}
-use Rattle.minimize.proofs.Level.{left-low, right-low, end-inside, end_low, even-rows, even-walked}
+use Rattle.minimize.proofs.Level.{end_low, even-rows, even-walked}
 use Rattle.minimize.proofs.classes.nodes_agree.Goals as goal
 
-pub overflow_cast-i-2 : goal.overflow_cast-i-2
-overflow_cast-i-2 c = omega (arith, left-low)
-
-pub overflow_cast-j-2 : goal.overflow_cast-j-2
-overflow_cast-j-2 c = omega (arith, right-low)
-
-pub bounds-starts-n-then-level : goal.bounds-starts-n-then-level
-bounds-starts-n-then-level c = search (end-inside, rules)
-
-pub overflow_cast-end-then-level : goal.overflow_cast-end-then-level
-overflow_cast-end-then-level c = omega (arith, (end_low c.requires c.if-level.true).1)
-
 pub overflow_sub-end : goal.overflow_sub-end
-overflow_sub-end c = omega (arith, (end_low c.requires c.if-level.true).0)
+overflow_sub-end c = omega (arith, end_low c.requires c.if-level.true)
 
 pub targets_agree-requires : goal.targets_agree-requires
 targets_agree-requires c = search (even-rows, rules)

@@ -1,13 +1,7 @@
-use Rattle.scan.proofs.Basics.{◌≤◌, arith, rules, refl, length-set}
+use Rattle.scan.proofs.Basics.{◌≤◌, arith, length-set}
 use Rattle.automaton.proofs.Leader.{leader-le}
 use Rattle.minimize.proofs.Leaders.{leaders-more}
 use Rattle.minimize.proofs.classes.round.Goals as goal
-
-pub loop-n-init : goal.loop-n-init
-loop-n-init c = (omega arith, search rules, refl, record { leads = λ n l. absurd (omega arith) })
-
-pub leader-found-requires : goal.leader-found-requires
-leader-found-requires c = record { round = search rules; round_at = search rules }
 
 pub overflow_cast-next : goal.overflow_cast-next
 overflow_cast-next c =
@@ -16,8 +10,5 @@ overflow_cast-next c =
 
 pub loop-n-preserved : goal.loop-n-preserved
 loop-n-preserved c =
-    let (l, few, long, is) = c.loop-n.invariant in
-    (omega arith, few, simp length-set long, leaders-more _ _ _ _ is (omega arith) c.leader-found.ensures)
-
-pub returns : goal.returns
-returns c = record { leads = λ n l. c.loop-n.invariant.3.leads n (omega arith) }
+    let (few, long, is) = c.loop-n.invariant in
+    (few, simp length-set long, leaders-more _ _ _ _ is (omega arith) c.leader-found.ensures)

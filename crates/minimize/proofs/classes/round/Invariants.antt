@@ -1,5 +1,5 @@
 -- `minimize::classes::round` meets its contract: the entries are right before the counter.
-use Rattle.scan.proofs.Basics.{◌-◌, ◌≤◌, ◌≡◌, length}
+use Rattle.scan.proofs.Basics.{◌≤◌, ◌≡◌, length}
 use Rattle.sequential.specs.Petri.{petri_net}
 use Rattle.sequential.specs.Words.{graph}
 use Rattle.breadth_first.specs.Along.{class_in}
@@ -8,8 +8,4 @@ use Rattle.minimize.proofs.classes.round.Given as goal
 
 abbrev pub invariant-loop-n : goal.invariant-loop-n
 invariant-loop-n l =
-    (l.n ≤ l.nodes) × (l.nodes ≤ 128) × (length l.next ≡ 128)
-    × LeadersBy (split (graph (petri_net l.net) l.sheet) l.counts (class_in l.classes)) l.n l.next
-
-abbrev pub decreases-loop-n : goal.decreases-loop-n
-decreases-loop-n l = l.nodes - l.n
+    (l.nodes ≤ 128) × (length l.next ≡ 128) × LeadersBy (split (graph (petri_net l.net) l.sheet) l.counts (class_in l.classes)) l.n l.next

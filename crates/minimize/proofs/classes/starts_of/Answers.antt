@@ -1,11 +1,8 @@
-use Rattle.scan.proofs.Basics.{arith, rules, ◌≡◌, refl, ◌∙◌, length-set}
+use Rattle.scan.proofs.Basics.{arith, ◌≡◌, ◌∙◌, length-set}
 use Rattle.scan.proofs.Tabulate.{stored_more}
 use Rattle.minimize.specs.Agree.{first_entry}
 use Rattle.minimize.proofs.NodeRows.{start-low}
 use Rattle.minimize.proofs.classes.starts_of.Goals as goal
-
-pub loop-n-init : goal.loop-n-init
-loop-n-init c = (search rules, omega arith, refl, λ j l. absurd (omega arith))
 
 pub overflow_cast-starts : goal.overflow_cast-starts
 unfolding first_entry
@@ -13,14 +10,11 @@ overflow_cast-starts c =
     let a = c.args in
     let w = c.loop-n in
     let e : c.lower_bound.result ≡ first_entry a.net.now a.sheet.now a.counts w.n = c.lower_bound.ensures ∙ rw c.first_key-key.ensures in
-    omega (arith, e, start-low w.invariant.0 a.counts w.n)
+    omega (arith, e, start-low c.requires a.counts w.n)
 
 pub loop-n-preserved : goal.loop-n-preserved
 unfolding first_entry
 loop-n-preserved c =
     let w = c.loop-n in
-    let (r, l, long, is) = w.invariant in
-    (r, omega arith, simp length-set long, stored_more (first_entry _ _ _) w.starts w.n _ is (omega arith) (c.lower_bound.ensures ∙ rw c.first_key-key.ensures))
-
-pub returns : goal.returns
-returns c = let (r, l, long, is) = c.loop-n.invariant in record { readable = r; start = λ n l. is n (omega arith) }
+    let (long, is) = w.invariant in
+    (simp length-set long, stored_more (first_entry _ _ _) w.starts w.n _ is (omega arith) (c.lower_bound.ensures ∙ rw c.first_key-key.ensures))

@@ -1,13 +1,7 @@
 -- `minimize::classes::starts_of` meets its contract: the entries are right before the counter.
-use Rattle.scan.proofs.Basics.{ℕ, ◌-◌, ◌≤◌, ◌<◌, ◌≡◌, length, get_or}
-use Rattle.graph.specs.Readable.{Readable}
+use Rattle.scan.proofs.Basics.{ℕ, ◌<◌, ◌≡◌, length, get_or}
 use Rattle.minimize.specs.Agree.{first_entry}
 use Rattle.minimize.proofs.classes.starts_of.Given as goal
 
 abbrev pub invariant-loop-n : goal.invariant-loop-n
-invariant-loop-n l =
-    Readable l.net l.sheet × (l.n ≤ l.nodes) × (length l.starts ≡ 128)
-    × ((k : ℕ) → k < l.n → get_or l.starts k 0 ≡ first_entry l.net l.sheet l.counts k)
-
-abbrev pub decreases-loop-n : goal.decreases-loop-n
-decreases-loop-n l = l.nodes - l.n
+invariant-loop-n l = (length l.starts ≡ 128) × ((k : ℕ) → k < l.n → get_or l.starts k 0 ≡ first_entry l.net l.sheet l.counts k)

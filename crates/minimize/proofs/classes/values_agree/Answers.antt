@@ -1,5 +1,5 @@
 -- `minimize::classes::values_agree` meets its contract.
-use Rattle.scan.proofs.Basics.{arith, rules}
+use Rattle.scan.proofs.Basics.{rules}
 use Rattle.table.specs.Table.{value_at}
 use Rattle.automaton.specs.Equivalence.{same_class}
 use Rattle.sequential.specs.Words.{entry_value}
@@ -12,14 +12,8 @@ pub returns-then-counts : goal.returns-then-counts
 unfolding values_agree entry_value value_at
 returns-then-counts c = rw c.if-counts.true
 
-pub overflow_cast-result : goal.overflow_cast-result
-overflow_cast-result c = omega (arith, target-read c.requires.first_valued c.if-counts.false)
-
 pub bounds-classes-v : goal.bounds-classes-v
 bounds-classes-v c = search (target-read, rules)
-
-pub overflow_cast-result-2 : goal.overflow_cast-result-2
-overflow_cast-result-2 c = omega (arith, target-read c.requires.second_valued c.if-counts.false)
 
 pub bounds-classes-w : goal.bounds-classes-w
 bounds-classes-w c = search (target-read, rules)

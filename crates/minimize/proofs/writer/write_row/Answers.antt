@@ -1,6 +1,6 @@
 use Rattle.scan.proofs.Basics.{arith, rules}
 use Rattle.encoding.specs.Encoding.{gather}
-use Rattle.encoding.proofs.Rows.{appended-none, appended-length}
+use Rattle.encoding.proofs.Rows.{appended-none}
 use Rattle.minimize.proofs.NewRows.{row-keyed, running, running-worded, running_more, running-all}
 use Rattle.minimize.proofs.writer.write_row.Goals as goal
 
@@ -11,7 +11,7 @@ run_of-run-requires c =
 
 pub loop-k-init : goal.loop-k-init
 unfolding gather
-loop-k-init c = (search (running, rules), omega arith, appended-none _ _)
+loop-k-init c = (search (running, rules), appended-none _ _)
 
 pub overflow_add-run : goal.overflow_add-run
 overflow_add-run c = omega (arith, (running-worded c.loop-k.invariant.0 c.loop-k-test.true).within)
@@ -22,8 +22,5 @@ entry_word-word-requires c = search (running-worded, rules)
 pub loop-k-preserved : goal.loop-k-preserved
 loop-k-preserved c = search (running_more, rules)
 
-pub shape_of-out : goal.shape_of-out
-shape_of-out c = search (appended-length, rules)
-
 pub returns : goal.returns
-returns c = let (r, l, a) = c.loop-k.invariant in running-all r (omega arith) a
+returns c = let (r, a) = c.loop-k.invariant in running-all r (omega arith) a

@@ -18,7 +18,7 @@ row_or_zeros-capacities-requires c = λ h. omega arith
 
 pub loop-p-init : goal.loop-p-init
 unfolding place_count transition_count
-loop-p-init c = (omega arith, first-none _, overfull-told c.requires.entries_pass c.row_or_zeros-starts.ensures c.row_or_zeros-capacities.ensures)
+loop-p-init c = (omega arith, first-none _, overfull-told c.requires c.row_or_zeros-starts.ensures c.row_or_zeros-capacities.ensures)
 
 pub returns-then-not-allows : goal.returns-then-not-allows
 unfolding place_count
@@ -35,5 +35,5 @@ loop-p-preserved c =
 pub returns : goal.returns
 unfolding place_count
 returns c =
-    let e : c.loop-p.p ≡ get_or c.args.net.now 0 0 = omega arith in
+    let e : c.loop-p.p ≡ get_or c.args.net.words.now 0 0 = omega arith in
     ap verdict_of (sym (rw e at c.loop-p.invariant.1))

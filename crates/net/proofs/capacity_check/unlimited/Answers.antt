@@ -6,4 +6,4 @@ use Rattle.net.proofs.capacity_check.unlimited.Goals as goal
 
 pub returns : goal.returns
 unfolding place_count transition_count weight_count
-returns c = λ h. unlimited-told c.requires.entries_pass _ c.lower_bound.ensures (leb-true _ _ h)
+returns c = λ h. unlimited-told c.requires _ c.lower_bound.ensures (leb-true _ _ h)

@@ -8,7 +8,7 @@ loop-t-init c = (omega arith, any-none-yet _)
 
 pub is_source-requires : goal.is_source-requires
 unfolding transition_count
-is_source-requires c = record { known = c.requires.known; entries_pass = (c.requires.entries_pass, c.loop-t-test.true) }
+is_source-requires c = (c.requires, c.loop-t-test.true)
 
 pub returns-then-is_source : goal.returns-then-is_source
 unfolding has_source transition_count
@@ -19,4 +19,4 @@ loop-t-preserved c = (omega arith, any-more _ _ c.loop-t.invariant.1 (sym c.is_s
 
 pub returns : goal.returns
 unfolding has_source transition_count
-returns c = let e : c.loop-t.t ≡ get_or c.args.net.now 1 0 = omega arith in rw (← e) (sym c.loop-t.invariant.1)
+returns c = let e : c.loop-t.t ≡ get_or c.args.net.words.now 1 0 = omega arith in rw (← e) (sym c.loop-t.invariant.1)

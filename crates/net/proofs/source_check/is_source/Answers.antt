@@ -8,18 +8,18 @@ use Rattle.net.proofs.source_check.is_source.Goals as goal
 
 pub overflow_mul-first : goal.overflow_mul-first
 unfolding transition_count
-overflow_mul-first c = let a : c.args.t ≤ 32 = omega arith in omega (arith, mul-le-mul a c.requires.known.few_places)
+overflow_mul-first c = let a : c.args.t ≤ 32 = omega arith in omega (arith, mul-le-mul a c.args.net.known.few_places)
 
 pub returns-then-entries-i : goal.returns-then-entries-i
 unfolding place_count weight_count
-returns-then-entries-i c = source-past _ c.requires.entries_pass.0 _ c.requires.entries_pass.1 _ c.lower_bound-i.ensures c.if-entries-i.true
+returns-then-entries-i c = source-past _ c.requires.0 _ c.requires.1 _ c.lower_bound-i.ensures c.if-entries-i.true
 
 pub overflow_add-result : goal.overflow_add-result
 unfolding transition_count
-overflow_add-result c = let a : c.args.t ≤ 32 = omega arith in omega (arith, mul-le-mul a c.requires.known.few_places)
+overflow_add-result c = let a : c.args.t ≤ 32 = omega arith in omega (arith, mul-le-mul a c.args.net.known.few_places)
 
 pub returns : goal.returns
 unfolding place_count weight_count key_at
 returns c =
-    source-at _ c.requires.entries_pass.0 _ c.requires.entries_pass.1
+    source-at _ c.requires.0 _ c.requires.1
     _ c.lower_bound-i.ensures c.if-entries-i.false

@@ -1,9 +1,10 @@
 -- `net::weights::weight_or_zero` meets its contract.
-use Rattle.scan.proofs.Basics.{arith, sym, ◌∙◌}
-use Rattle.refusal.proofs.Verdicts.{answer-none}
+use Rattle.std.proofs.lemmas.Result.{IfOk-at_ok}
+use Rattle.scan.proofs.Basics.{arith, ◌≡◌, ap}
+use Rattle.refusal.specs.Verdict.{verdict_alone}
 use Rattle.net.specs.Net.{transition_count}
 use Rattle.net.specs.Accessors.{weight_or_zero}
-use Rattle.net.proofs.Shape.{known}
+use Rattle.net.specs.declared.shaped.Shaped.{Shaped}
 use Rattle.net.proofs.Accessors.{shaped-true, shaped-false}
 use Rattle.net.proofs.weights.weight_or_zero.Goals as goal
 
@@ -11,17 +12,20 @@ pub returns-then-not-known : goal.returns-then-not-known
 unfolding weight_or_zero
 returns-then-not-known c = rw (c.if-not-known.true)
 
-pub returns-in-Refused : goal.returns-in-Refused
-unfolding weight_or_zero
-returns-in-Refused c = rw (c.if-not-known.false, shaped-false _ c.shape_fault.ensures c.in-Refused.is)
-
 pub weight_in_row-requires : goal.weight_in_row-requires
 unfolding transition_count
 weight_in_row-requires c =
-    let k = known _ (answer-none _ (sym c.shape_fault.ensures ∙ c.in_default.is)) in
+    let w = IfOk-at_ok (λ (s : Shaped). s.words.now ≡ c.args.net.now) c.in-Ok.is c.read.ensures.same in
+    let k = rw w at c.in-Ok.net.known in
     let l = c.requires (c.if-not-known.false) in
-    record { known = k; row_bound = omega arith }
+    omega arith
 
-pub returns : goal.returns
+pub returns-in-Ok : goal.returns-in-Ok
 unfolding weight_or_zero
-returns c = rw (c.if-not-known.false, shaped-true _ c.shape_fault.ensures c.in_default.is) c.weight_in_row.ensures
+returns-in-Ok c =
+    let w = IfOk-at_ok (λ (s : Shaped). s.words.now ≡ c.args.net.now) c.in-Ok.is c.read.ensures.same in
+    rw (c.if-not-known.false, shaped-true _ c.read.ensures.told (ap verdict_alone c.in-Ok.is)) (rw w at c.weight_in_row.ensures)
+
+pub returns-in-Err : goal.returns-in-Err
+unfolding weight_or_zero
+returns-in-Err c = rw (c.if-not-known.false, shaped-false _ c.read.ensures.told (ap verdict_alone c.in-Err.is))

@@ -23,7 +23,7 @@ overflow_cast-row c = search rules
 
 pub overflow_mul-row : goal.overflow_mul-row
 unfolding row_weights place_count weight_count
-overflow_mul-row c = omega (arith, mul-le-mul c.requires.row_bound c.requires.known.few_places)
+overflow_mul-row c = omega (arith, mul-le-mul c.requires c.args.net.known.few_places)
 
 pub overflow_cast-places : goal.overflow_cast-places
 unfolding row_weights place_count weight_count

@@ -12,5 +12,5 @@ returns-then-entries-eq0 c h = first-empty _ _ (λ i l. absurd (omega (arith, c.
 pub returns-then-keys_rise : goal.returns-then-keys_rise
 unfolding weight_count
 returns-then-keys_rise c h =
-    let e = c.requires.limit_value in
-    all_pass (c.keys_rise.ensures c.if-keys_rise.true) (omega (arith, c.if-limit-net.false)) (c.weights_pass.ensures h)
+    let e = c.requires in
+    all_pass (c.keys_rise.ensures.0 c.if-keys_rise.true).1 (omega (arith, c.if-limit-net.false)) (c.weights_pass.ensures h)

@@ -1,52 +1,27 @@
 -- `plainly::spreading::count_cell` meets its contract.
 use Rattle.scan.proofs.Basics.{arith, rules, ◌∙◌, get_or}
 use Rattle.sequential.proofs.Entries.{rows_few}
-use Rattle.plainly.proofs.LookUp.{keyed, count-no-node, count-no-place, count-value}
+use Rattle.plainly.proofs.LookUp.{count-none, count-value}
 use Rattle.plainly.proofs.spreading.count_cell.Goals as goal
 
-pub returns-then-sheet-n : goal.returns-then-sheet-n
-returns-then-sheet-n c = search (count-no-node, rules)
-
-pub returns-then-places-p : goal.returns-then-places-p
-returns-then-places-p c = count-no-place (search rules) _ _ (rw c.places-places.ensures at c.if-places-p.true)
-
-pub overflow_mul-first : goal.overflow_mul-first
-overflow_mul-first c = rw c.transitions.ensures (omega arith)
-
 pub overflow_mul-n : goal.overflow_mul-n
-overflow_mul-n c =
-    let a = c.args in
-    omega (
-      arith,
-      rows_few a.n c.places-places.result (omega arith) (omega arith),
-    )
+overflow_mul-n c = omega (arith, c.requires.arcs.sizes, rows_few c.args.n c.places-places.result (omega arith) (omega arith))
 
 pub overflow_add-first : goal.overflow_add-first
 overflow_add-first c =
-    let a = c.args in
-    let z = c.requires.arcs.sizes in
-    omega (
-      arith,
-      rows_few a.n c.places-places.result (omega arith) (omega arith),
-      rows_few (get_or a.sheet.now 0 0) c.transitions.result (omega arith) (omega arith),
-    )
+    let few = rows_few c.args.n c.places-places.result (omega arith) (omega arith) in
+    let arcs = rows_few (get_or c.args.sheet.now 0 0) c.transitions.result (omega arith) (omega arith) in omega (arith, c.requires.arcs.sizes)
 
-pub overflow_add-first-2 : goal.overflow_add-first-2
-overflow_add-first-2 c =
-    let a = c.args in
-    let z = c.requires.arcs.sizes in
-    omega (
-      arith,
-      rows_few a.n c.places-places.result (omega arith) (omega arith),
-      rows_few (get_or a.sheet.now 0 0) c.transitions.result (omega arith) (omega arith),
-    )
+pub overflow_add-first-then-p-places : goal.overflow_add-first-then-p-places
+overflow_add-first-then-p-places c =
+    let few = rows_few c.args.n c.places-places.result (omega arith) (omega arith) in
+    let arcs = rows_few (get_or c.args.sheet.now 0 0) c.transitions.result (omega arith) (omega arith) in omega (arith, c.requires.arcs.sizes)
 
-pub value_of-requires : goal.value_of-requires
-value_of-requires c = (search (keyed, rules), omega arith)
-
-pub returns : goal.returns
-returns c =
+pub returns-then-p-places : goal.returns-then-p-places
+returns-then-p-places c =
     let e = c.transitions.ensures in
     let f = c.places-places.ensures in
-    (rw (e, f) at c.value_of.ensures) ∙ count-value (search rules) _ _
-    (search rules) (rw f at c.if-places-p.false)
+    (rw (e, f) at c.value_of.ensures) ∙ count-value (search rules) _ _ c.if-n-sheet.true (rw f at c.if-p-places.true)
+
+pub returns-else-n-sheet : goal.returns-else-n-sheet
+returns-else-n-sheet c = count-none (search rules) _ _ (rw c.places-places.ensures at c.else-n-sheet.either)

@@ -8,12 +8,9 @@ use Rattle.net.proofs.Laws.{accessors}
 use Rattle.scan.proofs.Tabulate.{tabulate-at, stored_more}
 use Rattle.plainly.proofs.spreading.spread_net.Goals as goal
 
-pub loop-i-init : goal.loop-i-init
-loop-i-init c = (omega arith, refl, refl, λ j l. absurd (omega arith), λ j l. absurd (omega arith))
-
 pub returns : goal.returns
 returns c =
-    let (x, y, z, u, w) = c.loop-i.invariant in
+    let (y, z, u, w) = c.loop-i.invariant in
     let a = accessors _ c.requires in (
       record {
         places_are = c.places.ensures;
@@ -28,12 +25,11 @@ returns c =
 
 pub loop-i-preserved : goal.loop-i-preserved
 loop-i-preserved c =
-    let (x, y, z, u, w) = c.loop-i.invariant in
+    let (y, z, u, w) = c.loop-i.invariant in
     let a = accessors _ c.requires in
     let i = c.loop-i.i in
     let takes = c.taken-takes.ensures ∙ a.takes _ _ in
     let changes = c.change_of.ensures ∙ same-change (c.put.ensures ∙ a.puts _ _) takes in (
-      omega arith,
       simp length-set y,
       simp length-set z,
       stored_more (taken_cell _) c.loop-i.taken i _ u (omega arith) takes,

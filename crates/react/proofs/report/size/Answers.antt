@@ -1,36 +1,30 @@
-use Rattle.scan.proofs.Basics.{arith, rules}
-use Rattle.reach.specs.Reach.{is_marked}
-use Rattle.react.proofs.ArcRows.{node_low, start-most, end-most}
-use Rattle.react.proofs.ReportSize.{size-start, size-node, size-end, size-busy, size-await}
+use Rattle.scan.proofs.Basics.{arith, sym, ◌∙◌}
+use Rattle.react.proofs.ArcRows.{rises}
+use Rattle.react.proofs.ReportSize.{size-start, size-node, size-end, size-busy, size-fits, size-await}
 use Rattle.react.proofs.report.size.Goals as goal
+use Rattle.react.proofs.report.size.Goals.{then-is_await, else-is_await}
 
 pub loop-n-init : goal.loop-n-init
-loop-n-init c = size-start
+loop-n-init c = size-start c.args.schedule.now.judged.mapped c.nodes-n-end.ensures.size
 
-pub overflow_cast-arcs : goal.overflow_cast-arcs
-overflow_cast-arcs c = omega (arith, end-most c.requires (size-node c.loop-n.invariant c.loop-n-test.true))
-
-pub overflow_cast-arcs-in-loop-n : goal.overflow_cast-arcs-in-loop-n
-overflow_cast-arcs-in-loop-n c = omega (arith, start-most c.requires (size-node c.loop-n.invariant c.loop-n-test.true))
-
-pub overflow_sub-arcs : goal.overflow_sub-arcs
-overflow_sub-arcs c = omega (arith, c.requires.rises _ (size-node c.loop-n.invariant c.loop-n-test.true))
+pub overflow_sub-size : goal.overflow_sub-size
+overflow_sub-size c =
+    omega (arith, c.start.ensures, c.end.ensures, rises c.args.schedule.now.judged.mapped (size-node c.loop-n.invariant c.loop-n-test.true))
 
 pub overflow_mul-size : goal.overflow_mul-size
-overflow_mul-size c = omega (arith, end-most c.requires (size-node c.loop-n.invariant c.loop-n-test.true))
+overflow_mul-size c = omega (arith, c.end.ensures, c.nodes-n-end.ensures.few, size-fits c.loop-n.invariant c.loop-n-test.true)
 
 pub overflow_add-size : goal.overflow_add-size
-overflow_add-size c =
-    let l = size-node c.loop-n.invariant c.loop-n-test.true in
-    omega (arith, end-most c.requires l, node_low c.requires l)
-
-pub loop-n-preserved-then-waits : goal.loop-n-preserved-then-waits
-unfolding is_marked
-loop-n-preserved-then-waits c = search (size-await, rules)
+overflow_add-size c = omega (arith, c.end.ensures, c.nodes-n-end.ensures.few, size-fits c.loop-n.invariant c.loop-n-test.true)
 
 pub loop-n-preserved : goal.loop-n-preserved
-unfolding is_marked
-loop-n-preserved c = search (size-busy, rules)
+loop-n-preserved c =
+    let g = c.loop-n.invariant in
+    let k = c.loop-n-test.true in
+    elim c.if-is_await.branch [
+      | then-is_await w ↦ rw (w.size-is, w.end.ensures, w.start.ensures) (size-await g k (sym c.is_await.ensures ∙ w.if-is_await.true))
+      | else-is_await w ↦ rw w.size-is (size-busy g k (sym c.is_await.ensures ∙ w.if-is_await.false))
+    ]
 
 pub returns : goal.returns
-returns c = search (size-end, rules)
+returns c = size-end c.loop-n.invariant (omega arith)

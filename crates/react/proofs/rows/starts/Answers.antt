@@ -1,4 +1,4 @@
-use Rattle.scan.proofs.Basics.{arith, rules, refl, ◌∙◌, ap, length-set}
+use Rattle.scan.proofs.Basics.{arith, ◌∙◌, ap, length-set}
 use Rattle.scan.proofs.Tabulate.{stored_more}
 use Rattle.table.specs.Bisection.{lower_bound}
 use Rattle.graph.proofs.Starts.{arcs-start-is}
@@ -6,9 +6,6 @@ use Rattle.graph.proofs.ArcCount.{arcs-within}
 use Rattle.react.proofs.ArcRows.{starts-all}
 use Rattle.graph.proofs.Bounds.{bound-low}
 use Rattle.react.proofs.rows.starts.Goals as goal
-
-pub loop-n-init : goal.loop-n-init
-loop-n-init c = (refl, omega arith, search rules, λ j l. absurd (omega arith))
 
 pub overflow_cast-starts : goal.overflow_cast-starts
 overflow_cast-starts c =

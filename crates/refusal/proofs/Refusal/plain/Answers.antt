@@ -3,4 +3,4 @@ use Rattle.refusal.proofs.Verdicts.{refusal-parts}
 use Rattle.refusal.proofs.Refusal.plain.Goals as goal
 
 pub returns : goal.returns
-returns c = rw (c.index.ensures, c.kind.ensures) (refusal-parts c.args.self)
+returns c = rw (c.number.ensures, c.index.ensures, c.kind.ensures) (refusal-parts c.args.self)

@@ -31,14 +31,14 @@ returns-then-sheet-guess c = search (guess-hit, rules)
 pub overflow_sub-ranks : goal.overflow_sub-ranks
 overflow_sub-ranks c =
     let w = c.requires.looks_up in let k = c.requires.ranks in
-    omega (arith, (in_row w _ (sym c.arc-found.ensures ∙ c.in-At.is)).0)
+    omega (arith, (in_row w _ (sym c.arc-found.ensures ∙ c.in-Some.is)).0)
 
 pub overflow_cast-ranks : goal.overflow_cast-ranks
 overflow_cast-ranks c =
     let w = c.requires.looks_up in let k = c.requires.ranks in
-    omega (arith, (in_row w _ (sym c.arc-found.ensures ∙ c.in-At.is)).1)
+    omega (arith, (in_row w _ (sym c.arc-found.ensures ∙ c.in-Some.is)).1)
 
-pub returns-in-At : goal.returns-in-At
-returns-in-At c =
+pub returns-in-Some : goal.returns-in-Some
+returns-in-Some c =
     let w = c.requires.looks_up in let k = c.requires.ranks in
-    (sym c.in-At.is ∙ c.arc-found.ensures, ranked _ k (omega (arith, (in_row w _ (sym c.arc-found.ensures ∙ c.in-At.is)).1)))
+    (sym c.in-Some.is ∙ c.arc-found.ensures, ranked _ k (omega (arith, (in_row w _ (sym c.arc-found.ensures ∙ c.in-Some.is)).1)))

@@ -9,12 +9,14 @@ loop-p-init c = (omega arith, search rules, λ j l. absurd (omega arith))
 
 pub overflow_mul-next : goal.overflow_mul-next
 overflow_mul-next c =
-    let few : c.wide.result * c.wide-in-loop-p.result ≤ 4096 * 4294967295 = let t : c.wide.result ≤ 4096 = omega arith in mul-le-mul t c.wide-in-loop-p.ensures.1 in
+    let few : c.from.result * c.from-in-loop-p.result ≤ 4096 * 4294967295 =
+    mul-le-mul (let t : c.from.result ≤ 4096 = omega arith in t) (let w : c.from-in-loop-p.result ≤ 4294967295 = omega arith in w) in
     let k = few in omega arith
 
 pub overflow_add-next : goal.overflow_add-next
 overflow_add-next c =
-    let few : c.wide.result * c.wide-in-loop-p.result ≤ 4096 * 4294967295 = let t : c.wide.result ≤ 4096 = omega arith in mul-le-mul t c.wide-in-loop-p.ensures.1 in
+    let few : c.from.result * c.from-in-loop-p.result ≤ 4096 * 4294967295 =
+    mul-le-mul (let t : c.from.result ≤ 4096 = omega arith in t) (let w : c.from-in-loop-p.result ≤ 4294967295 = omega arith in w) in
     omega (arith, few, c.requires.at_most c.loop-p.p (omega arith))
 
 pub loop-p-preserved : goal.loop-p-preserved
@@ -24,7 +26,7 @@ loop-p-preserved c =
     let w = c.loop-p in (
       omega arith,
       simp length-set w.invariant.1,
-      stored_more (added a.sums a.row a.times) w.next w.p _ w.invariant.2 (omega arith) (rw (c.wide.ensures.0, c.wide-in-loop-p.ensures.0)),
+      stored_more (added a.sums a.row a.times) w.next w.p _ w.invariant.2 (omega arith) (rw (c.from.ensures, c.from-in-loop-p.ensures)),
     )
 
 pub returns : goal.returns

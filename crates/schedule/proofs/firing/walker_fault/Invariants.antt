@@ -1,5 +1,5 @@
 -- `schedule::firing::walker_fault` meets its contract: nothing is found at the counts before the counter.
-use Rattle.scan.proofs.Basics.{◌-◌, ◌≤◌, ◌≡◌, none}
+use Rattle.scan.proofs.Basics.{◌≤◌, ◌≡◌, none}
 use Rattle.scan.specs.Scan.{first}
 use Rattle.sequential.specs.Petri.{petri_net}
 use Rattle.schedule.specs.Walker.{walker}
@@ -8,6 +8,3 @@ use Rattle.schedule.proofs.firing.walker_fault.Given as goal
 
 abbrev pub invariant-loop-p : goal.invariant-loop-p
 invariant-loop-p l = (l.p ≤ 32) × (first (count_fault (petri_net l.net) l.sheet (walker l.n l.counts)) l.p ≡ none)
-
-abbrev pub decreases-loop-p : goal.decreases-loop-p
-decreases-loop-p l = 32 - l.p

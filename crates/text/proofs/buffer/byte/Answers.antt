@@ -1,10 +1,9 @@
 -- `text::buffer::byte` meets its contract.
-use Rattle.scan.proofs.Basics.{arith}
-use Rattle.text.proofs.Put.{byte_put, byte-dropped}
+use Rattle.text.proofs.Put.{byte_put, dropped}
 use Rattle.text.proofs.buffer.byte.Goals as goal
 
 pub returns-then-at-out : goal.returns-then-at-out
 returns-then-at-out c = byte_put _ _ _ c.if-at-out.true
 
-pub returns : goal.returns
-returns c = byte-dropped _ _ _ (omega arith)
+pub returns-else-at-out : goal.returns-else-at-out
+returns-else-at-out c = dropped _ _ _ c.if-at-out.false

@@ -2,33 +2,13 @@
 -- ---- an arc
 -- ---- a count
 use Rattle.scan.proofs.Basics.{arith, rules}
-use Rattle.trim.proofs.Reading.{arcs-few, arc-cell, count-cell}
+use Rattle.trim.proofs.Reading.{arc-cell, count-cell}
 use Rattle.trim.proofs.writer.cell_of.Goals as goal
-
-pub overflow_mul-arcs : goal.overflow_mul-arcs
-overflow_mul-arcs c =
-    let p = c.requires in
-    omega (arith, arcs-few p.new_cells p.i_bound c.transitions-transitions.ensures)
-
-pub overflow_cast-result : goal.overflow_cast-result
-overflow_cast-result c =
-    let p = c.requires in
-    omega (arith, (arc-cell p.new_cells p.i_bound c.transitions-transitions.ensures c.if-key-arcs.true).0)
-
-pub bounds-cells-key : goal.bounds-cells-key
-bounds-cells-key c =
-    let p = c.requires in
-    omega (arith, (arc-cell p.new_cells p.i_bound c.transitions-transitions.ensures c.if-key-arcs.true).0)
 
 pub returns-then-key-arcs : goal.returns-then-key-arcs
 returns-then-key-arcs c =
     let p = c.requires in
     (arc-cell p.new_cells p.i_bound (search rules) c.if-key-arcs.true).1
-
-pub overflow_cast-result-2 : goal.overflow_cast-result-2
-overflow_cast-result-2 c =
-    let p = c.requires in
-    omega (arith, (count-cell p.new_cells p.i_bound c.transitions-transitions.ensures c.places.ensures c.if-key-arcs.false).0)
 
 pub bounds-cells-key-2 : goal.bounds-cells-key-2
 bounds-cells-key-2 c =
