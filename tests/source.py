@@ -53,11 +53,18 @@ def behind(text, opening):
     return len(text)
 
 
+def ends(text):
+    """Whether a signature ends in a text, as one without a body does: at a semicolon that is not of an array."""
+    while (outer := re.sub(r'\[[^\[\]]*\]', '', text)) != text:
+        text = outer
+    return ';' in text
+
+
 def clauses(text, at):
-    """The clauses between a signature and its body, the first block that no clause opens: of each its kind and its text."""
+    """The clauses between a signature and its body, the first block that no clause opens, or its end: of each its kind and its text."""
     found = []
     opening = text.find('{', at)
-    while opening >= 0 and (clause := CLAUSE.search(text[at:opening])):
+    while opening >= 0 and not ends(text[at:opening]) and (clause := CLAUSE.search(text[at:opening])):
         at = behind(text, opening)
         found.append((clause[1] or clause[2], text[opening:at]))
         opening = text.find('{', at)
