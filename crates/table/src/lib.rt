@@ -61,7 +61,7 @@ pub fn key_fails(words: &[u32], offset: usize, limit: u32, i: usize) -> bool
 pub fn keys_rise(words: &[u32], offset: usize, entries: usize) -> bool
     ensures { (result ≡ true) ↔ ((offset + entries ≤ length words.now) × Rising words.now offset entries) }
 {
-    if words.len() < offset || words.len() - offset < entries {
+    if words.len() < offset || entries > words.len() - offset {
         return false;
     }
     let mut rise = true;

@@ -10,4 +10,4 @@ returns-then-whole-most c = let r = short-read c.args.most c.args.bytes.now (ome
 pub returns-else-whole-most : goal.returns-else-whole-most
 returns-else-whole-most c =
     let r = long-read c.args.most c.args.bytes.now (omega arith) in
-    (omega (arith, r.0, c.min.ensures), rw (le-ltb _ c.args.most c.if-whole-most.false) r.1)
+    (omega (arith, r.0, c.min.ensures), rw (le-ltb _ _ c.if-whole-most.false) r.1)

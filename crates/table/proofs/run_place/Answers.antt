@@ -15,4 +15,4 @@ pub returns : goal.returns
 unfolding key_at
 returns c =
     let e = c.in_ok-place.ensures in
-    rw c.then_some.ensures (place-told _ _ _ _ _ _ _ e.0 e.1 c.min.ensures)
+    rw c.then_some.ensures (place-told _ _ _ _ _ _ _ e.0 e.1 (omega (arith, c.min.ensures)))
