@@ -88,19 +88,19 @@ module _ (f : ℕ → Bool) where
   find-chain m n u h r ran q k =
       find-range m n (sym (option-same r) ∙ find_from_yields_List f u h r ran (YieldsList-from_range 0 m m refl (omega arith)) k) q
 
-  -- a table of f's values, which `from_fn` makes
-  made-from : {F : Type 0} {g : Mut F (ℕ × Unit {0}) Bool} (h : F) (ys : List Bool) (a n : ℕ) → IsFromFnResultFrom g h ys a n
-      → ((x : ℕ) (b : Bool) (q : F) → Called g h (x, tt) b q → (q ≡ h) × (b ≡ f x)) → (k : ℕ) → k < n → get_or ys (a + k) false ≡ f (a + k)
-  made-from h ys a zero r p k l = absurd (omega arith)
-  made-from {F} {g} h ys a (suc n) (q, y, e, c, rest) p zero l = let z : a + 0 ≡ a = omega arith in rw z (e.1 false ∙ (p a y q c).1)
-  made-from {F} {g} h ys a (suc n) (q, y, e, c, rest) p (suc k) l =
+  -- a table of f's values below v, which `from_fn` makes
+  made-from : {F : Type 0} {g : Mut F (ℕ × Unit {0}) Bool} (h : F) (ys : List Bool) (v a n : ℕ) → IsFromFnResultFrom g h ys a n
+      → ((x : ℕ) (b : Bool) (q : F) → x < v → Called g h (x, tt) b q → (q ≡ h) × (b ≡ f x)) → (k : ℕ) → k < n → a + k < v → get_or ys (a + k) false ≡ f (a + k)
+  made-from h ys v a zero r p k l m = absurd (omega arith)
+  made-from {F} {g} h ys v a (suc n) (q, y, e, c, rest) p zero l m = let z : a + 0 ≡ a = omega arith in rw z (e.1 false ∙ (p a y q (omega arith) c).1)
+  made-from {F} {g} h ys v a (suc n) (q, y, e, c, rest) p (suc k) l m =
       let z : a + suc k ≡ a + 1 + k = omega arith in
-      rw z (made-from h ys (a + 1) n (subst (λ (s : F). IsFromFnResultFrom g s ys (a + 1) n) (p a y q c).0 rest) p k (omega arith))
+      rw z (made-from h ys v (a + 1) n (subst (λ (s : F). IsFromFnResultFrom g s ys (a + 1) n) (p a y q (omega arith) c).0 rest) p k (omega arith) (omega arith))
 
   pub marks-made : {F : Type 0} {g : Mut F (ℕ × Unit {0}) Bool} (h : F) (ys : List Bool) (v : ℕ) → v ≤ 128 → IsFromFnResult g h ys 128
-      → ((x : ℕ) (b : Bool) (q : F) → Called g h (x, tt) b q → (q ≡ h) × (b ≡ f x)) → Marks v ys f
+      → ((x : ℕ) (b : Bool) (q : F) → x < v → Called g h (x, tt) b q → (q ≡ h) × (b ≡ f x)) → Marks v ys f
   unfolding is_marked
-  marks-made h ys v few r p k l = let z : 0 + k ≡ k = omega arith in rw z at (made-from h ys 0 128 r.each p k (omega arith))
+  marks-made h ys v few r p k l = let z : 0 + k ≡ k = omega arith in rw z at (made-from h ys v 0 128 r.each p k (omega arith) (omega arith))
 
   count-from : (a n : ℕ) → count f a + length (filter f (range_with_len a n)) ≡ count f (a + n)
   unfolding bit
