@@ -8,16 +8,16 @@ use std::io;
 use std::io::Write;
 
 // The labels of what a sheet check tells.
-const COUNTS: [&str; 3] = ["nodes", "arcs", "awaits"];
+const COUNTS: [&[u8]; 3] = [b" nodes ", b" arcs ", b" awaits "];
 
 // Of what mending and trimming tell.
-const LENGTHS: [&str; 2] = ["length", "list"];
+const LENGTHS: [&[u8]; 2] = [b" length ", b" list "];
 
 // Of what a run tells.
-const RAN: [&str; 3] = ["fired", "node", "entry"];
+const RAN: [&[u8]; 3] = [b" fired ", b" node ", b" entry "];
 
 // Of what a replay tells.
-const TOTALS: [&str; 3] = ["taken", "put", "entry"];
+const TOTALS: [&[u8]; 3] = [b" taken ", b" put ", b" entry "];
 
 // The word at an index, 0 past the end.
 fn at(words: &[u32], i: usize) -> u32 {
@@ -51,7 +51,7 @@ fn walker(words: &[u32]) -> Walker {
 }
 
 fn fired(output: &mut Output, fired: Fired) -> io::Result<()> {
-    print::answer(output, fired.answer, &["entry"])?;
+    print::answer(output, fired.answer, &[b" entry "])?;
     print::walker(output, fired.next)
 }
 
@@ -91,7 +91,7 @@ fn call(output: &mut Output, case: &mut Case) -> io::Result<()> {
         Operation::MinimalForm => print::answer(
             output,
             minimize::minimal_form(net, sheet, out, scratch),
-            &["length"],
+            &[b" length "],
         ),
         Operation::Weights => print::weights(output, net, at(words, 0), at(words, 1)),
         Operation::Replay => print::answer(
@@ -116,7 +116,7 @@ fn call(output: &mut Output, case: &mut Case) -> io::Result<()> {
                 out,
                 scratch,
             ),
-            &["length"],
+            &[b" length "],
         ),
         Operation::Trimming => print::answer(
             output,
@@ -126,12 +126,12 @@ fn call(output: &mut Output, case: &mut Case) -> io::Result<()> {
         Operation::ReactionTimes => print::answer(
             output,
             react::reactions(net, sheet, words, out, scratch),
-            &["length"],
+            &[b" length "],
         ),
         Operation::Comparison => print::answer_on_sheets(
             output,
             compare::compare(net, sheet, other, out, second, scratch),
-            &["length", "length", "same"],
+            &[b" length ", b" length ", b" same "],
         ),
         Operation::PlainCheck => {
             print::answer(output, plainly::check(net, sheet, scratch), &COUNTS)
@@ -156,7 +156,7 @@ fn call(output: &mut Output, case: &mut Case) -> io::Result<()> {
         Operation::PanelForm => print::answer(
             output,
             panel::minimal_form(net, sheet, out, scratch),
-            &["length"],
+            &[b" length "],
         ),
         Operation::PanelReplay => print::answer(
             output,
@@ -182,8 +182,8 @@ fn left(output: &mut Output, case: &Case) -> io::Result<()> {
         print::out(output, lent.second.as_slice(), OUT)?;
     }
     if shape.totals {
-        print::out(output, lent.taken.as_slice(), u64::from(OUT))?;
-        print::out(output, lent.put.as_slice(), u64::from(OUT))?;
+        print::totals(output, lent.taken.as_slice(), u64::from(OUT))?;
+        print::totals(output, lent.put.as_slice(), u64::from(OUT))?;
     }
     if shape.scratch() {
         print::scratch(output, lent.scratch.as_slice(), SCRATCH)?;

@@ -2,20 +2,26 @@
 use lending::Fault;
 use refusal::{Numbers, Refusal};
 use schedule::Walker;
-use std::fmt::Display;
 use std::io;
 use std::io::{BufWriter, Stdout, Write};
 
 // Bytes are held back until a block is full: a call of the system for each piece would be slow.
 pub(crate) type Output = BufWriter<Stdout>;
 
-// The three numbers that every answer begins with (§8.1), and the call's own behind their labels. `text` puts the three into a buffer; they take 55 bytes at most.
-fn numbers(output: &mut Output, plain: [u64; 6], labels: &[&str]) -> io::Result<()> {
+// A text, and a number after it: `text` puts them into a buffer. No text here is longer than 44 bytes, and no number has more than 20 digits.
+fn field(output: &mut Output, name: &[u8], n: u64) -> io::Result<()> {
+    let mut line = [0u8; 64];
+    let end = text::field(&mut line, 0, name, n);
+    output.write_all(&line[..end])
+}
+
+// The three numbers that every answer begins with (§8.1), 55 bytes at most, and the call's own behind their labels.
+fn numbers(output: &mut Output, plain: [u64; 6], labels: &[&[u8]]) -> io::Result<()> {
     let mut line = [0u8; 64];
     let end = text::answer(&mut line, 0, plain[0], plain[1], plain[2]);
     output.write_all(&line[..end])?;
     for (label, number) in labels.iter().zip(&plain[3..]) {
-        write!(output, " {label} {number}")?;
+        field(output, label, *number)?;
     }
     Ok(())
 }
@@ -23,7 +29,7 @@ fn numbers(output: &mut Output, plain: [u64; 6], labels: &[&str]) -> io::Result<
 pub(crate) fn answer<A: Numbers>(
     output: &mut Output,
     answer: Result<A, Refusal>,
-    labels: &[&str],
+    labels: &[&[u8]],
 ) -> io::Result<()> {
     numbers(output, refusal::plain(answer), labels)
 }
@@ -32,23 +38,20 @@ pub(crate) fn answer<A: Numbers>(
 pub(crate) fn answer_on_sheets<A: Numbers>(
     output: &mut Output,
     answer: Result<A, Fault>,
-    labels: &[&str],
+    labels: &[&[u8]],
 ) -> io::Result<()> {
     let sheet = lending::sheet_index(&answer);
     numbers(output, lending::plain(answer), labels)?;
-    write!(output, " sheet {sheet}")
+    field(output, b" sheet ", sheet)
 }
 
 // What a transition takes and puts at a place, what the place starts with and its capacity.
 pub(crate) fn weights(output: &mut Output, net: &[u32], t: u32, p: u32) -> io::Result<()> {
-    let taken = net::taken(net, t, p);
-    let put = net::put(net, t, p);
-    let start = net::start(net, p);
+    field(output, b"taken ", u64::from(net::taken(net, t, p)))?;
+    field(output, b" put ", u64::from(net::put(net, t, p)))?;
+    field(output, b" start ", u64::from(net::start(net, p)))?;
     let capacity = refusal::plain_index(net::capacity(net, p));
-    write!(
-        output,
-        "taken {taken} put {put} start {start} capacity {capacity}"
-    )
+    field(output, b" capacity ", capacity)
 }
 
 // The words up to the last that is not `blank`, and those that follow.
@@ -60,24 +63,32 @@ fn parted<T: Copy + PartialEq>(words: &[T], blank: T) -> (&[T], &[T]) {
     words.split_at(end)
 }
 
-// Each word after a blank.
-fn words<T: Display>(output: &mut Output, words: &[T]) -> io::Result<()> {
-    for word in words {
-        write!(output, " {word}")?;
+// Each word after a blank, 372 words at a time: `text` puts so many into a block, a blank and ten digits at most for each.
+fn words(output: &mut Output, words: &[u32]) -> io::Result<()> {
+    let mut block = [0u8; 4096];
+    for part in words.chunks(372) {
+        let end = text::words(&mut block, 0, part);
+        output.write_all(&block[..end])?;
     }
     Ok(())
 }
 
 // The words up to the last that is not `blank`, and how many follow.
-pub(crate) fn out<T: Copy + Display + PartialEq>(
-    output: &mut Output,
-    buffer: &[T],
-    blank: T,
-) -> io::Result<()> {
+pub(crate) fn out(output: &mut Output, buffer: &[u32], blank: u32) -> io::Result<()> {
     let (used, rest) = parted(buffer, blank);
-    write!(output, " out")?;
+    output.write_all(b" out")?;
     words(output, used)?;
-    write!(output, " rest {}", rest.len())
+    field(output, b" rest ", rest.len() as u64)
+}
+
+// The same of numbers of 64 bits. A replay writes one for each place, few enough to print each by itself.
+pub(crate) fn totals(output: &mut Output, buffer: &[u64], blank: u64) -> io::Result<()> {
+    let (used, rest) = parted(buffer, blank);
+    output.write_all(b" out")?;
+    for total in used {
+        field(output, b" ", *total)?;
+    }
+    field(output, b" rest ", rest.len() as u64)
 }
 
 // How many words are 0, how many are still `blank`, and the index of the first `blank`, or the length if there is none.
@@ -88,13 +99,16 @@ pub(crate) fn scratch(output: &mut Output, buffer: &[u32], blank: u32) -> io::Re
         .iter()
         .position(|word| *word == blank)
         .unwrap_or(buffer.len());
-    write!(output, " scratch {cleared} {kept} {first}")
+    field(output, b" scratch ", cleared as u64)?;
+    field(output, b" ", kept as u64)?;
+    field(output, b" ", first as u64)
 }
 
 // The node, and the counts up to the last that is not 0.
 pub(crate) fn walker(output: &mut Output, walker: Walker) -> io::Result<()> {
     let counts = walker.counts;
     let (held, _) = parted(&counts, 0);
-    write!(output, " node {} counts", walker.node)?;
+    field(output, b" node ", u64::from(walker.node))?;
+    output.write_all(b" counts")?;
     words(output, held)
 }
