@@ -65,8 +65,8 @@ fn parted<T: Copy + PartialEq>(words: &[T], blank: T) -> (&[T], &[T]) {
 
 // Each word after a blank, 372 words at a time: `text` puts so many into a block, a blank and ten digits at most for each.
 fn words(output: &mut Output, words: &[u32]) -> io::Result<()> {
-    let mut block = [0u8; 4096];
     for part in words.chunks(372) {
+        let mut block = [0u8; 4096];
         let end = text::words(&mut block, 0, part);
         output.write_all(&block[..end])?;
     }
